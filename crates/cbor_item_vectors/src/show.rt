@@ -1,5 +1,5 @@
-// Writes what the item reader answers for some bytes: their name, the bytes, and an indented line for each item from the first
-// place on, as long as items are read.
+// Writes what the item reader answers for some bytes: an indented line for each item from the first place on, as long as items are
+// read.
 use cbor_item::Item;
 
 fn wide(b: u8) -> u64 {
@@ -88,20 +88,20 @@ fn walk(s: &[u8]) {
     }
 }
 
-fn title(name: &[u8], s: &[u8]) {
-    io::write_all(1, name);
-    io::write_all(1, b"  <");
-    hex(s);
-    io::write_all(1, b">\n");
+// Writes a line as it is.
+pub(crate) fn heading(line: &[u8]) {
+    io::write_all(1, line);
+    io::write_all(1, b"\n");
 }
 
-pub(crate) fn show(name: &[u8], s: &[u8]) {
-    title(name, s);
+// The items of some bytes, below the line that names them.
+pub(crate) fn show(line: &[u8], s: &[u8]) {
+    heading(line);
     walk(s);
 }
 
 // The item at a place of some bytes, alone.
-pub(crate) fn place(name: &[u8], s: &[u8], at: usize) {
-    title(name, s);
+pub(crate) fn place(line: &[u8], s: &[u8], at: usize) {
+    heading(line);
     item_at(s, at);
 }

@@ -1,0 +1,17 @@
+-- `within` meets its contract. Assumes nothing.
+use mathlib.Core.Path.{sym}
+use native.Mathlib.Omega.{arith}
+use lib.Seq.{length-take-le}
+use Rattle.cbor_item_vectors.proofs.line.within.Statement.{statement}
+use Rattle.cbor_item_vectors.proofs.line.within.Tie as tie
+use Rattle.cbor_item_vectors.proofs.line.within.Reads as reads
+use Rattle.cbor_item_vectors.proofs.line.within.Lts as lts
+
+returns : tie.Need-returns
+returns c = (c .if1 .taken, sym (length-take-le _ _ (c .if1 .taken)))
+
+returns-2 : tie.Need-returns-2
+returns-2 c = (omega arith, sym (length-take-le _ _ (omega arith)))
+
+pub within-spec : {M : Type 1} → statement M
+within-spec = tie.close (tie.spec returns returns-2)

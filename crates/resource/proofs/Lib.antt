@@ -1,0 +1,10 @@
+pub mod Flags
+pub mod LevelLaws
+pub mod FormLaws
+pub mod ScanLaws
+pub mod TextLaws
+pub mod StepLaws
+pub mod SpellLaws
+pub mod MatchLaws
+pub mod CoverLaws
+pub mod Promises

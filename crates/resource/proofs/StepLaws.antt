@@ -1,0 +1,365 @@
+-- Laws of matching the first level of a pattern against the first level of a path (specs/Scan.antt), and what it says of all levels (specs/Text.antt).
+-- Assumes nothing.
+use mathlib.Core.Path.{_≡_, refl, sym, ap, subst, _∙_}
+use mathlib.Core.Bool.{Bool, true, false, not, cond, _&&_, _||_, and-assoc, and-true, and-false}
+use mathlib.Core.List.{List, [], _∷_, _++_, append-nil}
+use Prim.Native.Nat.{ℕ, zero, suc, _+_, _-_, _≤_, _<_}
+use native.Mathlib.Nat.{add-zero, zero-add}
+use native.Mathlib.Numerals.{add-one}
+use native.Mathlib.Omega.{arith}
+use lib.ListN.{length, getD, drop, take, length-append, drop-of-length-le}
+use lib.Seq.{drop-cons}
+use lib.Dec.{eqb}
+use borrow.Author.Tests.{eq-eqb, ne-eqb, not-true}
+use Rattle.resource.specs.declared.matcher.Step.{Step}
+use Rattle.resource.specs.declared.matcher.Step.the-variants.{Differ, Finish, Next}
+use Rattle.resource.specs.Level.{same, isStar, isDeep, levels}
+use Rattle.resource.specs.Pattern.{Levels, done, deep, matches}
+use Rattle.resource.specs.Text.{withLevel, levelsOf, levelsMatch}
+use Rattle.resource.specs.Scan.{levelLength, nameStep, starFirst, starStep, stepOf}
+use Rattle.resource.proofs.Flags.{by-cond, and-left, and-right, no-flag, same-eq}
+use Rattle.resource.proofs.LevelLaws.{noSlash, levels-one, levels-more, levels-some}
+use Rattle.resource.proofs.ScanLaws.{Parted, last, more, parted, drop-more, part-to-end}
+
+-- ---- the bytes before the first "/", from an index on
+
+-- "/" at i: no byte from i on
+pub length-here : (s : List ℕ) (i : ℕ) → i < length s → getD s i 0 ≡ 47 → levelLength (drop i s) ≡ 0
+unfolding levelLength
+length-here s i h e = rw (drop-cons s i 0 h, e)
+
+-- another byte at i: one more than from i + 1 on
+pub length-next : (s : List ℕ) (i : ℕ) → i < length s → (getD s i 0 ≡ 47 → ⊥) → levelLength (drop i s) ≡ suc (levelLength (drop (i + 1) s))
+unfolding levelLength
+length-next s i h e = rw (add-one, drop-cons s i 0 h, ne-eqb (getD s i 0) 47 e, levelLength)
+
+-- the end at i: no byte from i on
+pub length-end : (s : List ℕ) (i : ℕ) → length s ≤ i → levelLength (drop i s) ≡ 0
+unfolding levelLength
+length-end s i h = rw (drop-of-length-le s h)
+
+-- ---- a name against a name, by its first bytes
+
+module _ (i x y : ℕ) (xs ys : List ℕ) where
+  -- equal bytes other than "/": the next ones decide
+  name-equal : eqb x y ≡ true → eqb x 47 ≡ false → nameStep i (x ∷ xs) (y ∷ ys) ≡ nameStep (i + 1) xs ys
+  unfolding nameStep
+  name-equal e f = rw (e, f, nameStep)
+
+  -- "/" in both
+  name-both : eqb x y ≡ true → eqb x 47 ≡ true → nameStep i (x ∷ xs) (y ∷ ys) ≡ Next i i
+  unfolding nameStep
+  name-both e f = rw (e, f, nameStep)
+
+  -- different bytes
+  name-other : eqb x y ≡ false → nameStep i (x ∷ xs) (y ∷ ys) ≡ Differ
+  unfolding nameStep
+  name-other e = rw (e, nameStep)
+
+-- ---- a name against a name, from an index on
+
+module _ (p r : List ℕ) (i : ℕ) where
+  -- equal bytes at i other than "/"
+  pub name-next : i < length p → i < length r → getD p i 0 ≡ getD r i 0 → (getD p i 0 ≡ 47 → ⊥)
+      → nameStep i (drop i p) (drop i r) ≡ nameStep (i + 1) (drop (i + 1) p) (drop (i + 1) r)
+  name-next h k e f =
+      rw (drop-cons p i 0 h, drop-cons r i 0 k, add-one i)
+      (name-equal i (getD p i 0) (getD r i 0) (drop (suc i) p) (drop (suc i) r) (eq-eqb (getD p i 0) (getD r i 0) e) (ne-eqb (getD p i 0) 47 f) ∙ rw add-one)
+
+  -- "/" at i in both
+  pub name-slash : i < length p → i < length r → getD p i 0 ≡ getD r i 0 → getD p i 0 ≡ 47 → nameStep i (drop i p) (drop i r) ≡ Next i i
+  name-slash h k e f =
+      rw (drop-cons p i 0 h, drop-cons r i 0 k)
+      (name-both i (getD p i 0) (getD r i 0) (drop (suc i) p) (drop (suc i) r) (eq-eqb (getD p i 0) (getD r i 0) e) (eq-eqb (getD p i 0) 47 f))
+
+  -- different bytes at i
+  pub name-differ : i < length p → i < length r → (getD p i 0 ≡ getD r i 0 → ⊥) → nameStep i (drop i p) (drop i r) ≡ Differ
+  name-differ h k e =
+      rw (drop-cons p i 0 h, drop-cons r i 0 k)
+      (name-other i (getD p i 0) (getD r i 0) (drop (suc i) p) (drop (suc i) r) (ne-eqb (getD p i 0) (getD r i 0) e))
+
+  -- the path ends at i, the pattern does not
+  pub name-short : i < length p → length r ≤ i → nameStep i (drop i p) (drop i r) ≡ Differ
+  unfolding nameStep
+  name-short h k = rw (drop-cons p i 0 h, drop-of-length-le r k)
+
+  -- the pattern ends at i, the path does not
+  pub name-long : length p ≤ i → i < length r → nameStep i (drop i p) (drop i r) ≡ Differ
+  unfolding nameStep
+  name-long h k = rw (drop-of-length-le p h, drop-cons r i 0 k)
+
+  -- both end at i
+  pub name-end : length p ≤ i → length r ≤ i → nameStep i (drop i p) (drop i r) ≡ Finish
+  unfolding nameStep
+  name-end h k = rw (drop-of-length-le p h, drop-of-length-le r k)
+
+-- ---- the code's tests of a wildcard, and one byte more of two terminal ids
+
+-- an empty text
+pub star-none : (p : List ℕ) → length p ≡ 0 → starFirst p ≡ false
+unfolding starFirst
+star-none [] e = refl
+star-none (a ∷ p) e = absurd (omega arith)
+
+-- a text of one byte
+pub star-one : (p : List ℕ) → length p ≡ 1 → starFirst p ≡ eqb (getD p 0 0) 42
+unfolding starFirst
+star-one [] e = refl
+star-one (a ∷ []) e = refl
+star-one (a ∷ b ∷ p) e = absurd (omega arith)
+
+-- a text of another length
+pub star-two : (p : List ℕ) → (length p ≡ 1 → ⊥) → starFirst p ≡ (eqb (getD p 0 0) 42 && eqb (getD p 1 0) 47)
+unfolding starFirst
+star-two [] e = refl
+star-two (a ∷ []) e = absurd (e refl)
+star-two (a ∷ b ∷ p) e = refl
+
+-- a text that has not two bytes is not "**"
+pub deep-other : (p : List ℕ) → (length p ≡ 2 → ⊥) → isDeep p ≡ false
+unfolding same
+deep-other [] e = refl
+deep-other (a ∷ []) e = and-false (eqb a 42)
+deep-other (a ∷ b ∷ []) e = absurd (e refl)
+deep-other (a ∷ b ∷ c ∷ p) e = rw (and-false (eqb b 42)) (and-false (eqb a 42))
+
+-- a text of two bytes
+pub deep-two : (p : List ℕ) → length p ≡ 2 → isDeep p ≡ (eqb (getD p 0 0) 42 && eqb (getD p 1 0) 42)
+unfolding same
+deep-two [] e = refl
+deep-two (a ∷ []) e = absurd (omega arith)
+deep-two (a ∷ b ∷ []) e = rw (and-true (eqb b 42))
+deep-two (a ∷ b ∷ c ∷ p) e = absurd (omega arith)
+
+-- two texts are the same for one byte more
+pub same-more : (a b : List ℕ) (i : ℕ) → i < length a → i < length b
+    → same (take (i + 1) a) (take (i + 1) b) ≡ (same (take i a) (take i b) && eqb (getD a i 0) (getD b i 0))
+unfolding same
+same-more [] b i h k = absurd (omega arith)
+same-more (x ∷ a) [] i h k = absurd (omega arith)
+same-more (x ∷ a) (y ∷ b) zero h k = and-true (eqb x y)
+same-more (x ∷ a) (y ∷ b) (suc i) h k =
+    let sum : suc i + 1 ≡ suc (i + 1) = omega arith in
+    rw (sum, same-more a b i (omega arith) (omega arith))
+    (sym (and-assoc (eqb x y) (same (take i a) (take i b)) (eqb (getD a i 0) (getD b i 0))))
+
+-- ---- a first level and what follows it
+
+-- what follows a level: nothing, or "/" and more
+data Ends : List ℕ → Type 0 where
+  at-end : Ends []
+  at-slash : (t : List ℕ) → Ends (47 ∷ t)
+
+-- a text is its first level and what follows it
+data Front : List ℕ → Type 0 where
+  front : (l a : List ℕ) → noSlash l ≡ true → Ends a → Front (l ++ a)
+
+-- each parted text is so
+front-of : {s : List ℕ} → Parted s → Front s
+front-of (last l h) = subst Front (append-nil l) (front l [] h at-end)
+front-of (more l t h) = front l (47 ∷ t) h (at-slash t)
+
+-- the levels after the first
+tailLevels : List ℕ → List (List ℕ)
+tailLevels [] = []
+tailLevels (b ∷ t) = levels t
+
+-- the step where the first levels match, by what follows them
+tailStep : ℕ → ℕ → List ℕ → List ℕ → Step
+tailStep i j [] [] = Finish
+tailStep i j [] (y ∷ b) = Differ
+tailStep i j (x ∷ a) [] = Differ
+tailStep i j (x ∷ a) (y ∷ b) = Next i j
+
+-- the levels of a text by its first one
+front-levels : (l : List ℕ) {a : List ℕ} → noSlash l ≡ true → Ends a → levels (l ++ a) ≡ l ∷ tailLevels a
+unfolding tailLevels
+front-levels l h at-end = rw (append-nil l) (levels-one l h)
+front-levels l h (at-slash t) = levels-more l t h
+
+-- the first byte of a level is not "/"
+front-byte : (b : ℕ) (l : List ℕ) → noSlash (b ∷ l) ≡ true → eqb b 47 ≡ false
+unfolding noSlash
+front-byte b l h = not-true (eqb b 47) (and-left (not (eqb b 47)) (noSlash l) h)
+
+-- the remaining bytes of a level are not "/"
+front-rest : (b : ℕ) (l : List ℕ) → noSlash (b ∷ l) ≡ true → noSlash l ≡ true
+unfolding noSlash
+front-rest b l h = and-right (not (eqb b 47)) (noSlash l) h
+
+-- ---- the step of two first levels
+
+-- the bytes before the first "/" are those of the first level
+front-length : (k : List ℕ) {b : List ℕ} → noSlash k ≡ true → Ends b → levelLength (k ++ b) ≡ length k
+unfolding levelLength
+front-length [] h at-end = refl
+front-length [] h (at-slash t) = refl
+front-length (x ∷ k) h e = rw (front-byte x k h, levelLength) (ap suc (front-length k (front-rest x k h) e))
+
+-- whether the first level is "*"
+front-star : (l : List ℕ) {a : List ℕ} → noSlash l ≡ true → Ends a → starFirst (l ++ a) ≡ isStar l
+unfolding starFirst same
+front-star [] h at-end = refl
+front-star [] h (at-slash []) = refl
+front-star [] h (at-slash (x ∷ t)) = refl
+front-star (c ∷ []) h at-end = sym (and-true (eqb c 42))
+front-star (c ∷ []) h (at-slash t) = refl
+front-star (c ∷ d ∷ l) h e = rw (front-byte d l (front-rest c (d ∷ l) h))
+
+-- the step where both levels have been read
+name-tail : (i : ℕ) {a b : List ℕ} → Ends a → Ends b → nameStep i a b ≡ tailStep i i a b
+unfolding nameStep tailStep
+name-tail i at-end at-end = refl
+name-tail i at-end (at-slash u) = refl
+name-tail i (at-slash t) at-end = refl
+name-tail i (at-slash t) (at-slash u) = refl
+
+-- the same test with its sides changed
+slash-other : (y : ℕ) → eqb y 47 ≡ false → eqb 47 y ≡ false
+slash-other y e = ne-eqb 47 y (λ q. no-flag (sym e ∙ eq-eqb y 47 (sym q)))
+
+-- the pattern's level ends where the path's does not
+name-from-end : (i y : ℕ) (r : List ℕ) {a : List ℕ} → eqb y 47 ≡ false → Ends a → nameStep i a (y ∷ r) ≡ Differ
+unfolding nameStep
+name-from-end i y r e at-end = refl
+name-from-end i y r e (at-slash t) = name-other i 47 y t r (slash-other y e)
+
+-- the path's level ends where the pattern's does not
+name-to-end : (i x : ℕ) (p : List ℕ) {b : List ℕ} → eqb x 47 ≡ false → Ends b → nameStep i (x ∷ p) b ≡ Differ
+unfolding nameStep
+name-to-end i x p e at-end = refl
+name-to-end i x p e (at-slash u) = name-other i x 47 p u e
+
+-- the step of two names
+front-name : (i : ℕ) (l k : List ℕ) {a b : List ℕ} → noSlash l ≡ true → noSlash k ≡ true → Ends a → Ends b
+    → nameStep i (l ++ a) (k ++ b) ≡ cond (same l k) (tailStep (i + length l) (i + length l) a b) Differ
+unfolding same
+front-name i [] [] h g e f = rw (add-zero i) (name-tail i e f)
+front-name i [] (y ∷ k) {a} {b} h g e f = name-from-end i y (k ++ b) (front-byte y k g) e
+front-name i (x ∷ l) [] {a} {b} h g e f = name-to-end i x (l ++ a) (front-byte x l h) f
+front-name i (x ∷ l) (y ∷ k) {a} {b} h g e f = go (eqb x y) refl (front-name (i + 1) l k (front-rest x l h) (front-rest y k g) e f)
+  where
+    sum : i + suc (length l) ≡ (i + 1) + length l
+    sum = omega arith
+
+    go : (t : Bool) → eqb x y ≡ t → nameStep (i + 1) (l ++ a) (k ++ b) ≡ cond (same l k) (tailStep ((i + 1) + length l) ((i + 1) + length l) a b) Differ
+        → nameStep i (x ∷ (l ++ a)) (y ∷ (k ++ b)) ≡ cond (eqb x y && same l k) (tailStep (i + suc (length l)) (i + suc (length l)) a b) Differ
+    go true q r = name-equal i x y (l ++ a) (k ++ b) q (front-byte x l h) ∙ r ∙ sym (rw (q, sum))
+    go false q r = name-other i x y (l ++ a) (k ++ b) q ∙ sym (rw q)
+
+-- the step of "*" and a level
+star-tail : (k : List ℕ) {a b : List ℕ} → Ends a → Ends b → starStep (42 ∷ a) (k ++ b) (length k) ≡ tailStep 1 (length k) a b
+unfolding starStep tailStep
+star-tail k at-end at-end = rw (append-nil k, eq-eqb (length k) (length k) refl)
+star-tail k at-end (at-slash u) = rw (ne-eqb (length k) (length (k ++ (47 ∷ u))) (λ q. omega (arith, length-append k (47 ∷ u))))
+star-tail k (at-slash t) at-end =
+    rw (append-nil k, eq-eqb (length k) (length k) refl, ne-eqb (suc (suc (length t))) 1 (λ q. omega arith))
+star-tail k (at-slash t) (at-slash u) =
+    rw (ne-eqb (length k) (length (k ++ (47 ∷ u))) (λ q. omega (arith, length-append k (47 ∷ u))), ne-eqb (suc (suc (length t))) 1 (λ q. omega arith))
+
+-- names that are the same have the same length
+same-lengths : (l k a b : List ℕ) (t : Bool) → same l k ≡ t
+    → cond t (tailStep (0 + length l) (0 + length l) a b) Differ ≡ cond t (tailStep (length l) (length k) a b) Differ
+same-lengths l k a b true e = rw (zero-add (length l)) (ap (λ (n : ℕ). tailStep (length l) n a b) (ap length (same-eq l k e)))
+same-lengths l k a b false e = refl
+
+-- the step of two first levels: "*", or a name and itself
+front-step : (l k : List ℕ) {a b : List ℕ} → noSlash l ≡ true → noSlash k ≡ true → Ends a → Ends b
+    → stepOf (l ++ a) (k ++ b) ≡ cond (isStar l || same l k) (tailStep (length l) (length k) a b) Differ
+unfolding stepOf
+front-step l k {a} {b} h g e f = rw (front-star l h e, front-length k g f) (go (isStar l) refl)
+  where
+    go : (t : Bool) → isStar l ≡ t
+        → cond t (starStep (l ++ a) (k ++ b) (length k)) (nameStep 0 (l ++ a) (k ++ b)) ≡ cond (t || same l k) (tailStep (length l) (length k) a b) Differ
+    go true q = rw (same-eq l (42 ∷ []) q) (star-tail k e f)
+    go false q = front-name 0 l k h g e f ∙ same-lengths l k a b (same l k) refl
+
+-- ---- what the step says of all levels
+
+-- a level that is "*", or any other but "**", against a name
+level-match : (l k : List ℕ) (q : Levels) (xs : List (List ℕ)) → matches (withLevel (isStar l) l q) (k ∷ xs) ≡ ((isStar l || same l k) && matches q xs)
+level-match l k q xs = go (isStar l)
+  where
+    go : (t : Bool) → matches (withLevel t l q) (k ∷ xs) ≡ ((t || same l k) && matches q xs)
+    go true = refl
+    go false = refl
+
+-- a pattern that is not "**" matches by its first level, and then by the others
+front-match : (l k : List ℕ) {a b : List ℕ} → noSlash l ≡ true → noSlash k ≡ true → Ends a → Ends b → isDeep (l ++ a) ≡ false
+    → levelsMatch (l ++ a) (k ++ b) ≡ ((isStar l || same l k) && matches (levelsOf (tailLevels a)) (tailLevels b))
+unfolding levelsMatch levelsOf tailLevels
+front-match l k {a} {b} h g at-end f d =
+    rw (front-levels l h at-end, front-levels k g f, rw (append-nil l) at d, levelsOf) (level-match l k done (tailLevels b))
+front-match l k {a} {b} h g (at-slash t) f d =
+    let m = levels-some t in
+    rw (front-levels l h (at-slash t), front-levels k g f, m .2) (level-match l k (levelsOf (m .0 ∷ m .1)) (tailLevels b))
+
+-- a pattern with a level does not match a path with none
+none-left : (l : List ℕ) (ls : List (List ℕ)) → matches (levelsOf (l ∷ ls)) [] ≡ false
+unfolding levelsOf
+none-left l [] = go (isDeep l) (isStar l)
+  where
+    go : (t u : Bool) → matches (elim t [ true ↦ deep | false ↦ withLevel u l done ]) [] ≡ false
+    go true u = refl
+    go false true = refl
+    go false false = refl
+none-left l (k ∷ ls) = go (isStar l) (levelsOf (k ∷ ls))
+  where
+    go : (t : Bool) (q : Levels) → matches (withLevel t l q) [] ≡ false
+    go true q = refl
+    go false q = refl
+
+-- the levels after the first decide, and there are fewer of them
+pub record Goes (p r : List ℕ) (i j : ℕ) : Type 0 where
+  pub in-p : i < length p
+  pub in-r : j < length r
+  pub decides : levelsMatch p r ≡ levelsMatch (drop (i + 1) p) (drop (j + 1) r)
+  pub fewer : length (levels (drop (i + 1) p)) < length (levels p)
+
+-- what is told of a pattern that is not "**" by the step of its first level
+abbrev pub Stepped : List ℕ → List ℕ → Step → Type 0
+Stepped p r Differ = levelsMatch p r ≡ false
+Stepped p r Finish = levelsMatch p r ≡ true
+Stepped p r (Next i j) = Goes p r i j
+
+-- it holds where the first levels match
+tail-told : (l k : List ℕ) {a b : List ℕ} → noSlash l ≡ true → noSlash k ≡ true → Ends a → Ends b → isDeep (l ++ a) ≡ false → (isStar l || same l k) ≡ true
+    → Stepped (l ++ a) (k ++ b) (tailStep (length l) (length k) a b)
+unfolding tailStep tailLevels levelsOf levelsMatch
+tail-told l k h g at-end at-end d m = front-match l k h g at-end at-end d ∙ rw m
+tail-told l k h g at-end (at-slash u) d m = front-match l k h g at-end (at-slash u) d ∙ rw (m, levels-some u .2)
+tail-told l k h g (at-slash t) at-end d m =
+    let s = levels-some t in
+    front-match l k h g (at-slash t) at-end d ∙ rw (m, s .2) (none-left (s .0) (s .1))
+tail-told l k h g (at-slash t) (at-slash u) d m =
+    record {
+      in-p = omega (arith, length-append l (47 ∷ t));
+      in-r = omega (arith, length-append k (47 ∷ u));
+      decides = front-match l k h g (at-slash t) (at-slash u) d ∙ rw (m, drop-more l t, drop-more k u);
+      fewer = rw (drop-more l t, levels-more l t h) (omega arith);
+    }
+
+-- it holds of two texts by their first levels
+front-told : {p r : List ℕ} → Front p → Front r → isDeep p ≡ false → Stepped p r (stepOf p r)
+front-told (front l a h e) (front k b g f) d =
+    rw (front-step l k h g e f)
+    (by-cond (Stepped (l ++ a) (k ++ b)) (isStar l || same l k) (λ m. tail-told l k h g e f d m) (λ m. front-match l k h g e f d ∙ rw m))
+
+-- it holds of each two texts
+pub step-told : (p r : List ℕ) → isDeep p ≡ false → Stepped p r (stepOf p r)
+step-told p r d = front-told (front-of (parted p)) (front-of (parted r)) d
+
+-- the levels after the first, as the code hands them on
+module _ (p r : List ℕ) (i j : ℕ) (g : Goes p r i j) where
+  -- there are fewer of them
+  pub next-fewer : length (levels (take (length p - (i + 1)) (drop (i + 1) p))) < length (levels p)
+  next-fewer = rw (part-to-end p (i + 1)) (g .fewer)
+
+  -- they decide
+  pub next-same : levelsMatch (take (length p - (i + 1)) (drop (i + 1) p)) (take (length r - (j + 1)) (drop (j + 1) r)) ≡ levelsMatch p r
+  next-same = rw (part-to-end p (i + 1), part-to-end r (j + 1)) (sym (g .decides))
+
+-- "**" matches whatever is left
+pub deep-told : (p r : List ℕ) → isDeep p ≡ true → levelsMatch p r ≡ true
+unfolding levelsMatch levels levelsOf same
+deep-told p r e = rw (same-eq p (42 ∷ 42 ∷ []) e, levels-some r .2)

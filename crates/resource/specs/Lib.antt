@@ -1,0 +1,7 @@
+pub mod Identifier
+pub mod Level
+pub mod Pattern
+pub mod Text
+pub mod Scan
+pub mod Cover
+pub mod Promises

@@ -1,0 +1,67 @@
+// Identifiers, resource ids, patterns and matching, as document 01 has them. Nothing here knows of CBOR. What is promised is in
+// specs/Promises.antt.
+mod ids;
+mod levels;
+mod matcher;
+
+ghost use mathlib.Core.Path.{_≡_};
+ghost use mathlib.Core.Bool.{true};
+ghost use Rattle.resource.specs.Identifier.{isFay, isTerminal};
+ghost use Rattle.resource.specs.Level.{levels as levelsIn, levelsOk};
+ghost use Rattle.resource.specs.Text.{resourceOk, patternOk, levelsMatch, matching};
+
+// What matching two texts answers; Malformed is document 01's 15.
+pub enum Matching {
+    Yes,
+    No,
+    Malformed,
+}
+
+// Whether s is a fay id.
+pub fn is_fay(s: &[u8]) -> bool
+    ensures { λ r. ⌜ r ≡ isFay (now (s .entry)) ⌝ }
+{
+    ids::fay(s)
+}
+
+// Whether s is a terminal id.
+pub fn is_terminal(s: &[u8]) -> bool
+    ensures { λ r. ⌜ r ≡ isTerminal (now (s .entry)) ⌝ }
+{
+    ids::terminal(s)
+}
+
+// Whether s is a resource id of at most 256 bytes.
+pub fn is_resource(s: &[u8]) -> bool
+    ensures { λ r. ⌜ r ≡ resourceOk (now (s .entry)) ⌝ }
+{
+    levels::resource(s)
+}
+
+// Whether s is a pattern of at most 256 bytes.
+pub fn is_pattern(s: &[u8]) -> bool
+    ensures { λ r. ⌜ r ≡ patternOk (now (s .entry)) ⌝ }
+{
+    levels::pattern(s)
+}
+
+// Whether s is the levels of a pattern, what follows its terminal id and "/".
+pub fn is_pattern_levels(s: &[u8]) -> bool
+    ensures { λ r. ⌜ r ≡ levelsOk true (levelsIn (now (s .entry))) ⌝ }
+{
+    levels::all(s, true)
+}
+
+// Whether the levels p of a pattern match the levels r of a path, both without terminal id.
+pub fn match_levels(p: &[u8], r: &[u8]) -> bool
+    ensures { λ o. ⌜ o ≡ levelsMatch (now (p .entry)) (now (r .entry)) ⌝ }
+{
+    matcher::levels(p, r)
+}
+
+// Whether the pattern matches the resource id.
+pub fn match_texts(pattern: &[u8], resource: &[u8]) -> Matching
+    ensures { λ r. ⌜ r ≡ matching (now (pattern .entry)) (now (resource .entry)) ⌝ }
+{
+    matcher::texts(pattern, resource)
+}

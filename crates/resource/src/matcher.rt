@@ -1,0 +1,152 @@
+// Matching a pattern against a path, level by level from the left.
+use crate::Matching;
+use crate::levels::pattern;
+use crate::levels::resource;
+ghost use mathlib.Core.Path.{_≡_};
+ghost use Prim.Native.Nat.{_≤_};
+ghost use lib.ListN.{length, take};
+ghost use Rattle.resource.specs.Level.{same, isDeep};
+ghost use Rattle.resource.specs.Text.{levelsMatch, matching};
+ghost use Rattle.resource.specs.Scan.{levelLength, nameStep, starFirst, starStep, stepOf};
+
+// The first levels of a pattern and of a path: they do not match; they match and are the last; or they match, and "/" follows the
+// p bytes of the one and the r bytes of the other.
+pub(crate) enum Step {
+    Differ,
+    Finish,
+    Next { p: usize, r: usize },
+}
+
+// How many bytes stand before the first "/".
+fn level_length(s: &[u8]) -> usize
+    ensures { λ r. ⌜ r ≡ levelLength (now (s .entry)) ⌝ }
+{
+    let mut i = 0;
+    while i < s.len() {
+        if s[i] == b'/' {
+            return i;
+        }
+        i += 1;
+    }
+    i
+}
+
+// A name of p against a name of r.
+fn name_step(p: &[u8], r: &[u8]) -> Step
+    ensures { λ o. ⌜ o ≡ nameStep 0 (now (p .entry)) (now (r .entry)) ⌝ }
+{
+    let mut i = 0;
+    while i < p.len() {
+        if r.len() <= i {
+            return Step::Differ;
+        }
+        if p[i] != r[i] {
+            return Step::Differ;
+        }
+        if p[i] == b'/' {
+            return Step::Next { p: i, r: i };
+        }
+        i += 1;
+    }
+    if i < r.len() {
+        return Step::Differ;
+    }
+    Step::Finish
+}
+
+// Whether the first level of p is "*".
+fn star_first(p: &[u8]) -> bool
+    ensures { λ o. ⌜ o ≡ starFirst (now (p .entry)) ⌝ }
+{
+    if p.len() == 0 {
+        return false;
+    }
+    if p.len() == 1 {
+        return p[0] == b'*';
+    }
+    (p[0] == b'*') & (p[1] == b'/')
+}
+
+// "*" against the first level of r.
+fn star_step(p: &[u8], r: &[u8]) -> Step
+    ensures { λ o. ⌜ o ≡ starStep (now (p .entry)) (now (r .entry)) (levelLength (now (r .entry))) ⌝ }
+{
+    let n = level_length(r);
+    if p.len() == 1 {
+        if n == r.len() {
+            return Step::Finish;
+        }
+        return Step::Differ;
+    }
+    if n == r.len() {
+        return Step::Differ;
+    }
+    Step::Next { p: 1, r: n }
+}
+
+// The first level of p against the first level of r.
+fn first_step(p: &[u8], r: &[u8]) -> Step
+    ensures { λ o. ⌜ o ≡ stepOf (now (p .entry)) (now (r .entry)) ⌝ }
+{
+    if star_first(p) {
+        return star_step(p, r);
+    }
+    name_step(p, r)
+}
+
+// Whether p is "**".
+fn is_deep(p: &[u8]) -> bool
+    ensures { λ o. ⌜ o ≡ isDeep (now (p .entry)) ⌝ }
+{
+    if p.len() != 2 {
+        return false;
+    }
+    (p[0] == b'*') & (p[1] == b'*')
+}
+
+// Whether the levels p of a pattern match the levels r of a path: the first of each, and then the remaining ones.
+pub(crate) fn levels(p: &[u8], r: &[u8]) -> bool
+    ensures { λ o. ⌜ o ≡ levelsMatch (now (p .entry)) (now (r .entry)) ⌝ }
+{
+    if is_deep(p) {
+        return true;
+    }
+    match first_step(p, r) {
+        Step::Differ => false,
+        Step::Finish => true,
+        Step::Next { p: i, r: j } => levels(&p[i + 1..], &r[j + 1..]),
+    }
+}
+
+// Whether the first 45 bytes are equal.
+fn same_terminal(a: &[u8], b: &[u8]) -> bool
+    requires { ⌜ (45 ≤ length (now a)) × (45 ≤ length (now b)) ⌝ }
+    ensures { λ o. ⌜ o ≡ same (take 45 (now (a .entry))) (take 45 (now (b .entry))) ⌝ }
+{
+    let mut ok = true;
+    let mut i = 0;
+    while i < 45 {
+        ok = ok & (a[i] == b[i]);
+        i += 1;
+    }
+    ok
+}
+
+// Whether the pattern p matches the resource id r.
+pub(crate) fn texts(p: &[u8], r: &[u8]) -> Matching
+    ensures { λ o. ⌜ o ≡ matching (now (p .entry)) (now (r .entry)) ⌝ }
+{
+    if !pattern(p) {
+        return Matching::Malformed;
+    }
+    if !resource(r) {
+        return Matching::Malformed;
+    }
+    if !same_terminal(p, r) {
+        return Matching::No;
+    }
+    if levels(&p[46..], &r[46..]) {
+        return Matching::Yes;
+    }
+    Matching::No
+}

@@ -1,0 +1,4 @@
+pub mod OverLaws
+pub mod BlockLaws
+pub mod LineLaws
+pub mod Promises

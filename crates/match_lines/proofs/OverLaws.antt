@@ -1,0 +1,85 @@
+-- Laws of bytes written over a list, and of the loop that moves bytes down. Assumes nothing.
+use mathlib.Core.Path.{_≡_, sym, ap, _∙_}
+use mathlib.Core.List.{List, [], _∷_, _++_, append-assoc}
+use Prim.Native.Nat.{ℕ, suc, _+_, _≤_, _<_}
+use native.Mathlib.Numerals.{add-one}
+use native.Mathlib.Nat.{add-zero}
+use native.Mathlib.Omega.{arith}
+use lib.ListN.{length, take, drop, getD, set, length-append, length-take, length-drop, take-append-drop}
+use lib.Seq.{take-at, drop-at, drop-drop, getD-drop, sets-eq, length-take-le, paste, paste-zero, paste-suc, drop-paste}
+use Rattle.match_lines.specs.Block.{over}
+
+-- nothing written changes nothing
+pub over-nil : (d : List ℕ) (at : ℕ) → over d at [] ≡ d
+unfolding over
+over-nil d at = rw add-zero (take-append-drop at d)
+
+-- one write after another is the write of both
+pub over-append : (d : List ℕ) (at : ℕ) (s t : List ℕ) → at + length s ≤ length d → over d at (s ++ t) ≡ over (over d at s) (at + length s) t
+unfolding over
+over-append d at s t h =
+    let n : ℕ = at + length s in
+    let front : List ℕ = take at d ++ s in
+    let whole : take at d ++ (s ++ drop n d) ≡ front ++ drop n d = sym (append-assoc (take at d) s (drop n d)) in
+    let long : length front ≡ n = simp (length-append, length-take) (omega arith) in
+    let before : take n (take at d ++ (s ++ drop n d)) ≡ front = ap (take n) whole ∙ take-at front (drop n d) n long in
+    let past : drop n (take at d ++ (s ++ drop n d)) ≡ drop n d = ap (drop n) whole ∙ drop-at front (drop n d) n long in
+    let behind : drop (n + length t) (take at d ++ (s ++ drop n d)) ≡ drop (n + length t) d =
+    sym (drop-drop (length t) n (take at d ++ (s ++ drop n d))) ∙ ap (drop (length t)) past ∙ drop-drop (length t) n d in
+    let sum : at + length (s ++ t) ≡ n + length t = omega (arith, length-append s t) in
+    rw (before, behind, sum) (simp append-assoc)
+
+-- three stores one after the other
+pub over-three : (d : List ℕ) (at a b c : ℕ) → at + 3 ≤ length d → set (set (set d at a) (at + 1) b) (at + 2) c ≡ over d at (a ∷ b ∷ c ∷ [])
+unfolding over
+over-three d at a b c h =
+    let two : at + 2 ≡ suc (suc at) = omega arith in
+    rw (add-one at, two) (sets-eq (a ∷ b ∷ c ∷ []) d at h ∙ append-assoc (take at d) (a ∷ b ∷ c ∷ []) (drop (at + 3) d))
+
+-- four stores one after the other
+pub over-four : (d : List ℕ) (at a b c e : ℕ) → at + 4 ≤ length d
+    → set (set (set (set d at a) (at + 1) b) (at + 2) c) (at + 3) e ≡ over d at (a ∷ b ∷ c ∷ e ∷ [])
+unfolding over
+over-four d at a b c e h =
+    let two : at + 2 ≡ suc (suc at) = omega arith in
+    let three : at + 3 ≡ suc (suc (suc at)) = omega arith in
+    rw (add-one at, two, three) (sets-eq (a ∷ b ∷ c ∷ e ∷ []) d at h ∙ append-assoc (take at d) (a ∷ b ∷ c ∷ e ∷ []) (drop (at + 4) d))
+
+-- ---- a loop that moves bytes down, the first first
+
+-- i bytes from `from` on are moved to the start
+unfoldable pub moved : List ℕ → ℕ → ℕ → List ℕ
+moved d from i = paste d 0 (drop from d) i
+
+-- before the first turn
+pub moved-none : (d : List ℕ) (from : ℕ) → d ≡ moved d from 0
+unfolding moved
+moved-none d from = paste-zero d 0 (drop from d)
+
+-- a turn: the byte that it reads is still the old one
+pub moved-more : (d : List ℕ) (from i : ℕ) → from + i < length d → set (moved d from i) i (getD (moved d from i) (from + i) 0) ≡ moved d from (i + 1)
+unfolding moved
+moved-more d from i h =
+    let rest : List ℕ = drop from d in
+    let now : List ℕ = paste d 0 rest i in
+    let long : i < length rest = omega (arith, length-drop from d) in
+    let start : i ≡ 0 + i = omega arith in
+    let sum : from + i ≡ (0 + i) + from = omega arith in
+    let old : getD now (from + i) 0 ≡ getD rest i 0 =
+    ap (λ (k : ℕ). getD now k 0) sum
+    ∙ sym (getD-drop (0 + i) now from 0)
+    ∙ ap (λ (l : List ℕ). getD l from 0) (drop-paste d 0 rest i (omega arith) (omega arith))
+    ∙ getD-drop (0 + i) d from 0
+    ∙ ap (λ (k : ℕ). getD d k 0) (sym sum)
+    ∙ sym (getD-drop from d i 0) in
+    ap (set now i) old
+    ∙ ap (λ (k : ℕ). set now k (getD rest i 0)) start
+    ∙ paste-suc d 0 rest i 0 (omega arith) long
+    ∙ ap (paste d 0 rest) (sym (add-one i))
+
+-- after the last turn
+pub moved-all : (d : List ℕ) (from k : ℕ) → from + k ≤ length d → moved d from k ≡ over d 0 (take k (drop from d))
+unfolding moved over
+moved-all d from k h =
+    let long : length (take k (drop from d)) ≡ k = length-take-le k (drop from d) (omega (arith, length-drop from d)) in
+    rw long

@@ -1,0 +1,91 @@
+-- `step` meets its contract. Assumes nothing.
+use Prim.Native.Nat.{_≤_}
+use mathlib.Core.Path.{sym}
+use native.Mathlib.Omega.{arith}
+use lib.Seq.{length-take-le}
+use Rattle.match_lines.proofs.LineLaws.{step-fits, step-done, step-refused}
+use borrow.Author.Needs.{needs}
+use Rattle.match_lines.proofs.write.step.Statement.{statement}
+use Rattle.match_lines.proofs.write.step.Tie as tie
+
+-- there are no more bytes to be kept than the block has
+fits : (p : tie.After-progress) → p .progress .given .0 .1 .0 ≤ p .before .before .before .before .before .before .before .least .result
+fits p =
+    let w = p .before .before .before .before in
+    let l = w .before .before .before in
+    let a = l .before .before .before .before .args in
+    step-fits (a .long) (a .buffer .now) (a .n) (l .least .result) (a .out .now) (l .least .ensures .0) (l .least .ensures .1) _ _ (w .answers .ensures .0) (w .answers .ensures .1) _ _ _ (p .progress .given .1)
+
+least-requires : tie.Need-least-requires
+least-requires c κs = search needs
+
+slice-reshare-prefix-answers : tie.Need-slice-reshare-prefix-answers
+slice-reshare-prefix-answers c = search needs
+
+slice-aggregate-answers : tie.Need-slice-aggregate-answers
+slice-aggregate-answers c = sym (length-take-le _ _ (c .before .least .ensures .0))
+
+answers-requires : tie.Need-answers-requires
+answers-requires c κs = search needs
+
+enum-known-progress : tie.Need-enum-known-progress
+enum-known-progress c = search needs
+
+sub-move-down : tie.Need-sub-move-down
+sub-move-down c = fits (c .before .before)
+
+move-down-requires : tie.Need-move-down-requires
+move-down-requires c κs =
+    let p = c .before .before in
+    let s = p .before .before .before .before .before .before .before .least .ensures .0 in
+    omega (arith, fits p)
+
+enum-told : tie.Need-enum-told
+enum-told c = search needs
+
+same-length : tie.Need-same-length
+same-length c = search needs
+
+same-length-2 : tie.Need-same-length-2
+same-length-2 c = search needs
+
+returns : tie.Need-returns
+returns c =
+    let m = c .before .before in
+    let p = m .before .before .before in
+    let w = p .before .before .before .before in
+    let l = w .before .before .before in
+    let a = l .before .before .before .before .args in
+    step-done (a .long) (a .buffer .now) (a .n) (l .least .result) (a .out .now) (l .least .ensures .0) (l .least .ensures .1) _ _ (w .answers .ensures .0) (w .answers .ensures .1) _ _ _ _ (p .progress .given .1) (m .move-down .ensures)
+
+same-length-3 : tie.Need-same-length-3
+same-length-3 c = search needs
+
+same-length-4 : tie.Need-same-length-4
+same-length-4 c = search needs
+
+returns-2 : tie.Need-returns-2
+returns-2 c =
+    let w = c .before .before .before .before in
+    let l = w .before .before .before in
+    let a = l .before .before .before .before .args in
+    step-refused (a .long) (a .buffer .now) (a .n) (l .least .result) (a .out .now) (l .least .ensures .0) (l .least .ensures .1) _ _ (w .answers .ensures .0) (w .answers .ensures .1) (c .enum-told .given .1)
+
+pub step-spec : {M : Type 1} → statement M
+step-spec =
+    tie.close
+    (tie.spec
+    least-requires
+    slice-reshare-prefix-answers
+    slice-aggregate-answers
+    answers-requires
+    enum-known-progress
+    sub-move-down
+    move-down-requires
+    enum-told
+    same-length
+    same-length-2
+    returns
+    same-length-3
+    same-length-4
+    returns-2)

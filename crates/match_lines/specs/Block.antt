@@ -1,0 +1,87 @@
+-- The input as it comes, in blocks of any length. Between two blocks the bytes of a line that has begun are kept, or, once it has more than 600, only that it is
+-- too long.
+use mathlib.Core.Bool.{Bool, true, false, cond, _||_}
+use mathlib.Core.List.{List, [], _∷_, _++_}
+use Prim.Native.Nat.{ℕ, suc, _+_, _-_, _/_}
+use lib.ListN.{length, take, drop}
+use lib.Dec.{ltb, eqb}
+use Rattle.match_lines.specs.declared.Verdict.{Verdict}
+use Rattle.match_lines.specs.declared.Verdict.the-variants.{IsBad}
+use Rattle.match_lines.specs.declared.Progress.{Progress}
+use Rattle.match_lines.specs.declared.Progress.the-variants.{Done, NoRoom}
+use Rattle.match_lines.specs.Lines.{longestLine, word, verdict, lastLine}
+
+-- what comes of a block: what is written, the bytes that are kept of a line that has begun, and whether that line is too long
+pub record Fed : Type 0 where
+  pub out : List ℕ
+  pub kept : List ℕ
+  pub long : Bool
+
+-- the verdict on a line that may be the rest of one too long
+abbrev pub verdictIf : Bool → List ℕ → Verdict
+verdictIf true line = IsBad
+verdictIf false line = verdict line
+
+-- the end of a block: a line that has begun is kept, or dropped once it is too long
+unfoldable pub keptOf : Bool → List ℕ → Fed
+keptOf long begun = cond (long || ltb longestLine (length begun)) (record { out = []; kept = []; long = true }) (record { out = []; kept = begun; long = false })
+
+-- more is written before
+abbrev pub after : List ℕ → Fed → Fed
+after w f = record { out = w ++ f .out; kept = f .kept; long = f .long }
+
+-- a block whose first line has begun with the bytes `begun`
+unfoldable pub fedFrom : Bool → List ℕ → List ℕ → Fed
+fedFrom long begun [] = keptOf long begun
+fedFrom long begun (b ∷ bs) = elim (eqb b 10) [ true ↦ after (word (verdictIf long begun)) (fedFrom false [] bs) | false ↦ fedFrom long (begun ++ (b ∷ [])) bs ]
+
+-- a block: the bytes that were kept, and those that came
+abbrev pub fed : Bool → List ℕ → Fed
+fed long s = fedFrom long [] s
+
+-- the end of the input
+abbrev pub ended : Bool → List ℕ → List ℕ
+ended true kept = word IsBad
+ended false kept = lastLine kept
+
+-- what is written for the blocks of an input, one after the other
+abbrev pub writtenFrom : Bool → List ℕ → List (List ℕ) → List ℕ
+writtenFrom long kept [] = ended long kept
+writtenFrom long kept (b ∷ bs) = let f = fed long (kept ++ b) in f .out ++ writtenFrom (f .long) (f .kept) bs
+
+-- ---- what the code answers
+
+-- s written over d from the place `at` on
+unfoldable pub over : List ℕ → ℕ → List ℕ → List ℕ
+over d at s = take at d ++ (s ++ drop (at + length s) d)
+
+-- how many bytes stand before the first newline, or all where there is none
+unfoldable pub lineLength : List ℕ → ℕ
+lineLength [] = 0
+lineLength (b ∷ bs) = elim (eqb b 10) [ true ↦ 0 | false ↦ suc (lineLength bs) ]
+
+-- how many bytes are kept at the end of a block whose last line begins at `from`, and whether that line is too long
+unfoldable pub endOf : Bool → List ℕ → ℕ → ℕ → Progress
+endOf long s from written =
+    cond (long || ltb longestLine (length s - from)) (Done written 0 true) (Done written (length s - from) false)
+
+-- what a block comes to: an output of fewer than four bytes for each of the block is refused
+unfoldable pub progressOf : Bool → List ℕ → ℕ → Progress
+progressOf long s room =
+    cond (ltb (room / 4) (length s)) NoRoom (Done (length (fed long s .out)) (length (fed long s .kept)) (fed long s .long))
+
+-- the output after a block: the answers are at its start, and the rest is as it was
+unfoldable pub outputOf : Bool → List ℕ → List ℕ → List ℕ
+outputOf long s out = cond (ltb (length out / 4) (length s)) out (over out 0 (fed long s .out))
+
+-- the buffer after a block of its first n bytes
+unfoldable pub bufferOf : Bool → List ℕ → ℕ → ℕ → List ℕ
+bufferOf long d n room = cond (ltb (room / 4) (length (take n d))) d (over d 0 (fed long (take n d) .kept))
+
+-- what the end of the input comes to
+unfoldable pub endProgress : Bool → List ℕ → ℕ → Progress
+endProgress long s room = cond (ltb room 4) NoRoom (Done (length (ended long s)) 0 false)
+
+-- the output after the end of the input
+unfoldable pub endOutput : Bool → List ℕ → List ℕ → List ℕ
+endOutput long s out = cond (ltb (length out) 4) out (over out 0 (ended long s))

@@ -1,0 +1,15 @@
+pub mod Truth
+pub mod WordLaws
+pub mod ValueLaws
+pub mod PairLaws
+pub mod ModeLaws
+pub mod OptionLaws
+pub mod GrantLaws
+pub mod GrantsLaws
+pub mod PieceLaws
+pub mod PayloadLaws
+pub mod SignatureLaws
+pub mod DescriptorLaws
+pub mod AnswerLaws
+pub mod SeenLaws
+pub mod Promises

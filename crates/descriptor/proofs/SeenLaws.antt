@@ -1,0 +1,90 @@
+-- Where the payload and the grants of a descriptor stand in its encoding. Assumes nothing.
+use mathlib.Core.Path.{_≡_, sym, ap, _∙_, subst}
+use mathlib.Core.List.{List, [], _∷_, _++_}
+use Prim.Native.Nat.{ℕ, zero, suc, _+_, _≤_, _<_}
+use native.Mathlib.Numerals.{add-one}
+use native.Mathlib.Omega.{arith}
+use lib.ListN.{length, take, getD, length-append}
+use Rattle.cbor_item.specs.Bytes.{Has}
+use Rattle.cbor_item.specs.Reads.{got, encAll}
+use Rattle.cbor_item.specs.Encoding.{head}
+use Rattle.cbor_item.proofs.BytesLaws.{has-left, has-right, has-part, all-has}
+use Rattle.cbor_item.proofs.ReadsLaws.{complete}
+use Rattle.cbor_item.proofs.CountedLaws.{all-at}
+use Rattle.descriptor.specs.Model.{Grant, Payload, Descriptor, encGrant, encGrants, encodePayload, encode}
+use Rattle.descriptor.specs.Allowed.{GrantOk, All, Formed}
+use Rattle.descriptor.specs.Reader.{beforePayload, beforeKeyId}
+use Rattle.descriptor.specs.View.{grantView, grantsView, descriptorView}
+use Rattle.descriptor.specs.Promises.{CoveredPayload, grantPlace, GrantsWalk}
+use Rattle.descriptor.proofs.GrantLaws.{grant-exact}
+use Rattle.descriptor.proofs.GrantsLaws.{pattern-at}
+use Rattle.descriptor.proofs.PieceLaws.{encFront}
+use Rattle.descriptor.proofs.PayloadLaws.{frontOf, pieces-encode, grants-at}
+use Rattle.descriptor.proofs.DescriptorLaws.{halves-encode}
+use Rattle.descriptor.proofs.SignatureLaws.{encFromKey}
+
+-- ---- lists
+
+-- what holds of each element holds of the i-th
+all-get : {X : Type 0} (P : X → Type 0) (xs : List X) (i : ℕ) (d : X) → i < length xs → All P xs → P (getD xs i d)
+all-get P [] i d h a = absurd (omega arith)
+all-get P (x ∷ xs) zero d h a = a .0
+all-get P (x ∷ xs) (suc i) d h a = all-get P xs i d (omega arith) (a .1)
+
+-- the elements up to the i-th, and the i-th
+take-next : {X : Type 0} (enc : X → List ℕ) (xs : List X) (i : ℕ) (d : X) → i < length xs
+    → length (encAll enc (take i xs)) + length (enc (getD xs i d)) ≡ length (encAll enc (take (suc i) xs))
+take-next enc [] i d h = absurd (omega arith)
+take-next enc (x ∷ xs) zero d h = omega (arith, length-append (enc x) [])
+take-next enc (x ∷ xs) (suc i) d h =
+    omega (arith, length-append (enc x) (encAll enc (take i xs)), length-append (enc x) (encAll enc (take (suc i) xs)), take-next enc xs i d (omega arith))
+
+-- ---- places
+
+-- where the payload stands
+payload-at : (s : List ℕ) (at : ℕ) (d : Descriptor) → Has s at (encode d) → Has s (at + length beforePayload) (encodePayload (d .payload))
+payload-at s at d h =
+    has-right s at beforePayload (encodePayload (d .payload))
+    (has-left s at (beforePayload ++ encodePayload (d .payload)) (beforeKeyId ++ encFromKey (d .signature)) (rw (halves-encode d) h))
+
+-- where the first piece of the payload stands
+front-at : (s : List ℕ) (at : ℕ) (p : Payload) → Has s at (encodePayload p) → Has s at (encFront (frontOf p))
+front-at s at p h = has-left s at (encFront (frontOf p)) _ (subst (Has s at) (sym (pieces-encode p)) h)
+
+-- where the first grant stands
+start-at : (s : List ℕ) (at : ℕ) (gs : List Grant) → 1 ≤ length gs → Has s at (encGrants gs) → Has s (grantsView at gs .start) (encAll encGrant gs)
+unfolding encGrants
+start-at s at [] l h = absurd (omega arith)
+start-at s at (g ∷ gs) l h = has-right s at (head 4 (length (g ∷ gs))) (encAll encGrant (g ∷ gs)) h
+
+-- the covered part holds the payload
+pub covered-payload : CoveredPayload
+covered-payload d = has-part (encode d) _ (encodePayload (d .payload)) (payload-at (encode d) 0 d (all-has (encode d)))
+
+-- where all the grants of a descriptor stand
+all-grants : (d : Descriptor) → Formed d → Has (encode d) (descriptorView 0 d .payload .opening .grants .start) (encAll encGrant (d .payload .grants))
+all-grants d q =
+    let s = encode d in
+    start-at s _ (d .payload .grants) (q .payload .least) (grants-at s _ (frontOf (d .payload)) (front-at s _ (d .payload) (payload-at s 0 d (all-has s))))
+
+-- where the i-th stands
+grant-here : (d : Descriptor) → Formed d → (i : ℕ) (g : Grant) → i < length (d .payload .grants) → getD (d .payload .grants) i g ≡ g
+    → Has (encode d) (grantPlace d i) (encGrant g)
+grant-here d q i g l e = subst (λ (x : Grant). Has (encode d) (grantPlace d i) (encGrant x)) e (all-at (encode d) encGrant _ (d .payload .grants) i g l (all-grants d q))
+
+-- the next stands after it
+next-grant : (d : Descriptor) (i : ℕ) (g : Grant) → i < length (d .payload .grants) → getD (d .payload .grants) i g ≡ g
+    → grantPlace d i + length (encGrant g) ≡ grantPlace d (i + 1)
+next-grant d i g l e =
+    let more : length (encAll encGrant (take i (d .payload .grants))) + length (encGrant g) ≡ length (encAll encGrant (take (i + 1) (d .payload .grants)))
+    = rw add-one (rw e at (take-next encGrant (d .payload .grants) i g l)) in
+    omega arith
+
+-- the grants are read one after the other
+pub grants-walk : GrantsWalk
+grants-walk d bs q i g l e =
+    let h = grant-here d q i g l e in
+    let ok : GrantOk g = subst GrantOk e (all-get GrantOk (d .payload .grants) i g l (q .payload .grants)) in (
+      complete (grant-exact (encode d) bs (grantPlace d i)) g ok h ∙ ap (got (grantView (grantPlace d i) g)) (next-grant d i g l e),
+      has-part (encode d) _ (g .pattern) (pattern-at (encode d) (grantPlace d i) g h),
+    )

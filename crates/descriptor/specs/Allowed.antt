@@ -1,0 +1,127 @@
+-- What document 01 allows, "Descriptor bytes": every written limit. Nothing of places or of reading.
+use mathlib.Core.Path.{_≡_}
+use mathlib.Core.Bool.{Bool, true, false, _&&_, _||_}
+use mathlib.Core.List.{List, [], _∷_}
+use mathlib.Core.Logic.{_⊎_}
+use mathlib.Core.Option.{Option, none, some}
+use Prim.Native.Nat.{ℕ, _+_, _-_, _^_, _≤_, _<_}
+use lib.ListN.{length, take}
+use lib.Dec.{ltb, eqb}
+use Rattle.cbor_item.specs.Unicode.{Utf8}
+use Rattle.cbor_item.specs.Reads.{OptOk, AllFrom}
+use Rattle.resource.specs.Identifier.{isFay, isTerminal}
+use Rattle.resource.specs.Text.{patternOk}
+use Rattle.descriptor.specs.Model.{Pair, Grant, Payload, Signature, Descriptor, encText, encode}
+
+-- a text of lo to hi bytes
+pub record TextOk (lo hi : ℕ) (c : List ℕ) : Type 0 where
+  pub least : lo ≤ length c
+  pub most : length c ≤ hi
+  pub valid : Utf8 c
+
+-- a time: unsigned 64-bit seconds
+abbrev pub TimeOk : ℕ → Type 0
+TimeOk t = t < 2 ^ 64
+
+-- x stands before y in bytewise order
+unfoldable pub before : List ℕ → List ℕ → Bool
+before xs [] = false
+before [] (y ∷ ys) = true
+before (x ∷ xs) (y ∷ ys) = ltb x y || (eqb x y && before xs ys)
+
+-- a pair after a key whose encoding is `last`: from text of 1 to 64 bytes to text of 0 to 256, the key's encoding after `last`; before the first key `last` is
+-- empty
+pub record PairOk (last : List ℕ) (p : Pair) : Type 0 where
+  pub key : TextOk 1 64 (p .key)
+  pub value : TextOk 0 256 (p .value)
+  pub ascends : before last (encText (p .key)) ≡ true
+
+-- the encoding of a pair's key
+abbrev pub keyOf : List ℕ → Pair → List ℕ
+keyOf last p = encText (p .key)
+
+-- at most so many pairs, keys in bytewise order of their encodings, none twice
+pub record PairsOk (most : ℕ) (ps : List Pair) : Type 0 where
+  pub few : length ps ≤ most
+  pub each : AllFrom PairOk keyOf [] ps
+
+-- m is one of those
+unfoldable pub isIn : ℕ → List ℕ → Bool
+isIn m [] = false
+isIn m (x ∷ xs) = eqb m x || isIn m xs
+
+-- a mode after those of `seen`: one of the four, and not one of those
+pub record ModeOk (seen : List ℕ) (m : ℕ) : Type 0 where
+  pub known : m < 4
+  pub new : isIn m seen ≡ false
+
+abbrev pub seenWith : List ℕ → ℕ → List ℕ
+seenWith seen m = m ∷ seen
+
+-- 1 to 4 modes, any order, none twice
+pub record ModesOk (ms : List ℕ) : Type 0 where
+  pub least : 1 ≤ length ms
+  pub most : length ms ≤ 4
+  pub each : AllFrom ModeOk seenWith [] ms
+
+-- a grant: at most 8 constraint pairs, a well-formed pattern
+pub record GrantOk (g : Grant) : Type 0 where
+  pub modes : ModesOk (g .modes)
+  pub constraints : OptOk (PairsOk 8) (g .constraints)
+  pub pattern : patternOk (g .pattern) ≡ true
+
+-- each element is allowed
+abbrev pub All : {X : Type 0} → (X → Type 0) → List X → Type 0
+All Ok [] = Unit {0}
+All Ok (x ∷ xs) = Ok x × All Ok xs
+
+-- a payload but for its longest period
+pub record PayloadOk (p : Payload) : Type 0 where
+  pub least : 1 ≤ length (p .grants)
+  pub most : length (p .grants) ≤ 256
+  pub grants : All GrantOk (p .grants)
+  pub metadata : OptOk (PairsOk 16) (p .metadata)
+  pub issuedAt : TimeOk (p .issuedAt)
+  pub issuer : TextOk 1 128 (p .issuer)
+  pub notAfter : TimeOk (p .notAfter)
+  pub grantor : OptOk (TextOk 1 128) (p .grantor)
+  pub notBefore : TimeOk (p .notBefore)
+  pub terminal : isTerminal (p .terminal) ≡ true
+  pub id : length (p .id) ≡ 16
+  pub fay : isFay (p .fay) ≡ true
+  -- each pattern's terminal is the payload's
+  pub own : All (λ (g : Grant). take 45 (g .pattern) ≡ p .terminal) (p .grants)
+  -- issued_at ≤ not_before < not_after
+  pub issued : p .issuedAt ≤ p .notBefore
+  pub lasts : p .notBefore < p .notAfter
+
+-- ed25519 with 64 signature bytes, or ecdsa-p256-sha256 with 1 to 72
+abbrev pub ValueOk : ℕ → ℕ → Type 0
+ValueOk algorithm n = ((algorithm ≡ 0) × (n ≡ 64)) ⊎ ((algorithm ≡ 1) × (1 ≤ n) × (n ≤ 72))
+
+pub record SignatureOk (s : Signature) : Type 0 where
+  pub keyId : TextOk 1 64 (s .keyId)
+  pub value : ValueOk (s .algorithm) (length (s .value))
+
+-- the most bytes of a descriptor
+abbrev pub longest : ℕ
+longest = 32768
+
+-- a descriptor but for its longest period
+pub record Formed (d : Descriptor) : Type 0 where
+  pub payload : PayloadOk (d .payload)
+  pub signature : SignatureOk (d .signature)
+  pub short : length (encode d) ≤ longest
+
+-- 90 days in seconds
+abbrev pub longestPeriod : ℕ
+longestPeriod = 7776000
+
+-- not_after − not_before
+abbrev pub period : Descriptor → ℕ
+period d = d .payload .notAfter - d .payload .notBefore
+
+-- an allowed descriptor
+pub record Allowed (d : Descriptor) : Type 0 where
+  pub formed : Formed d
+  pub period : period d ≤ longestPeriod

@@ -6,7 +6,8 @@
 test:
 	rt ci
 
-# proves and builds the item reader and shows what it answers on RFC 8949's published examples
+# proves and builds the matching tool, and answers the lines of document 01
 example:
-	rt check cbor_item_vectors
-	target/bin/cbor_item_vectors
+	rt check match_tool
+	cat crates/match_tool/stdin
+	target/bin/match_tool < crates/match_tool/stdin

@@ -1,0 +1,369 @@
+#!/usr/bin/env python3
+"""Makes the stored test of descriptor_vectors: standard input (records of a name and the bytes of a descriptor) and the output that is expected.
+
+The bytes are made by an independent encoder, Debian's python3-cbor2 with canonical=True; broken ones are changed afterwards. The expected output is
+from the reader below, which is written from document 01 and knows nothing of the Rattle code.
+Run: /usr/bin/python3 tests/make_descriptors.py crates/descriptor_vectors
+"""
+import re
+import sys
+
+import cbor2
+
+T = "terminal:00000000-0000-7000-8000-000000000001"
+U = "terminal:00000000-0000-7000-8000-000000000002"
+FAY = "fay:01927b34-7e21-7c4d-a89f-1234567890ab"
+HEX = "[0-9a-fA-F]"
+UUID = f"{HEX}{{8}}-{HEX}{{4}}-{HEX}{{4}}-{HEX}{{4}}-{HEX}{{12}}"
+NAME = "[a-zA-Z0-9._-]+"
+PATTERN = re.compile(rf"terminal:{UUID}(/({NAME}|\*))*/({NAME}|\*|\*\*)\Z")
+MODES = ["read", "write", "execute", "configure"]
+
+
+# ---- an ordinary reader, by document 01
+
+
+class Bad(Exception):
+    pass
+
+
+def need(ok):
+    if not ok:
+        raise Bad
+
+
+class Reader:
+    def __init__(self, s):
+        self.s, self.at = s, 0
+
+    def head(self):
+        need(self.at < len(self.s))
+        b = self.s[self.at]
+        major, info = b >> 5, b & 31
+        if info < 24:
+            self.at += 1
+            return major, info
+        need(info < 28)
+        w = 1 << (info - 24)
+        need(self.at + 1 + w <= len(self.s))
+        n = int.from_bytes(self.s[self.at + 1 : self.at + 1 + w], "big")
+        need(n >= [24, 256, 65536, 1 << 32][info - 24])
+        self.at += 1 + w
+        return major, n
+
+    def number(self, major):
+        m, n = self.head()
+        need(m == major)
+        return n
+
+    def string(self, major, lo, hi):
+        n = self.number(major)
+        need(self.at + n <= len(self.s) and lo <= n <= hi)
+        start = self.at
+        self.at += n
+        c = self.s[start : self.at]
+        if major == 3:
+            try:
+                c.decode("utf-8", "strict")
+            except UnicodeDecodeError:
+                raise Bad from None
+        return start, n, c
+
+    def text(self, lo=0, hi=10**9):
+        return self.string(3, lo, hi)
+
+    def table(self, keys):
+        """The keys of a map in their order, '?' marks an optional one: yields each that is there."""
+        count, seen = self.number(5), 0
+        for k in keys:
+            name = k.rstrip("?").encode()
+            before = self.at
+            try:
+                there = self.text()[2] == name
+            except Bad:
+                there = False
+            if not there:
+                self.at = before
+                need(k.endswith("?"))
+                continue
+            seen += 1
+            yield k.rstrip("?")
+        need(count == seen)
+
+    def pairs(self, most):
+        at = self.at
+        n, last = self.number(5), b""
+        need(n <= most)
+        for _ in range(n):
+            start = self.at
+            self.text(1, 64)
+            key = self.s[start : self.at]
+            need(last < key)
+            last = key
+            self.text(0, 256)
+        return at, n
+
+    def grant(self):
+        g = {"constraints": (0, 0)}
+        for k in self.table(["modes", "constraints?", "resource_pattern"]):
+            if k == "modes":
+                g["modes"] = self.at
+                n = self.number(4)
+                need(1 <= n <= 4)
+                got = []
+                for _ in range(n):
+                    m = self.text()[2].decode()
+                    need(m in MODES and m not in got)
+                    got.append(m)
+                g["mask"] = sum(1 << MODES.index(m) for m in got)
+            elif k == "constraints":
+                g["constraints"] = self.pairs(8)
+            else:
+                start, n, c = self.text()
+                need(n <= 256 and PATTERN.match(c.decode("latin-1")))
+                g["pattern"] = (start, n, c)
+        return g
+
+
+def read(s):
+    """0 with the fields, 1 or 2."""
+    try:
+        need(len(s) <= 32768)
+        r, f = Reader(s), {"grantor": (0, 0), "metadata": (0, 0)}
+        for k in r.table(["payload", "version", "signature"]):
+            if k == "payload":
+                start = r.at
+                for k in r.table("grants metadata? issued_at issuer_id not_after grantor_id? not_before terminal_id descriptor_id subject_fay_id".split()):
+                    if k == "grants":
+                        n = r.number(4)
+                        need(1 <= n <= 256)
+                        f["first"] = r.at
+                        f["grants"] = [r.grant() for _ in range(n)]
+                    elif k == "metadata":
+                        f["metadata"] = r.pairs(16)
+                    elif k in ("issued_at", "not_after", "not_before"):
+                        f[k] = r.number(0)
+                    elif k == "issuer_id":
+                        f["issuer"] = r.text(1, 128)[:2]
+                    elif k == "grantor_id":
+                        f["grantor"] = r.text(1, 128)[:2]
+                    elif k == "terminal_id":
+                        f["terminal"], _, terminal = r.text()
+                        need(re.match(rf"terminal:{UUID}\Z", terminal.decode("latin-1")))
+                    elif k == "descriptor_id":
+                        f["id"] = r.string(2, 16, 16)[0]
+                    else:
+                        f["fay"], _, fay = r.text()
+                        need(re.match(rf"fay:{UUID}\Z", fay.decode("latin-1")))
+                f["payload"] = (start, r.at - start)
+                need(all(g["pattern"][2][:45] == terminal for g in f["grants"]))
+                need(f["issued_at"] <= f["not_before"] < f["not_after"])
+            elif k == "version":
+                need(r.number(0) == 1)
+            else:
+                for k in r.table(["key_id", "algorithm", "signature_value"]):
+                    if k == "key_id":
+                        f["key"] = r.text(1, 64)[:2]
+                    elif k == "algorithm":
+                        a = r.text()[2]
+                        need(a in (b"ed25519", b"ecdsa-p256-sha256"))
+                        f["algorithm"] = int(a != b"ed25519")
+                    else:
+                        f["signature"] = r.string(2, 1, 72)[:2]
+                        need(f["algorithm"] == 1 or f["signature"][1] == 64)
+        need(r.at == len(s))
+    except Bad:
+        return 1, None
+    return (2, None) if f["not_after"] - f["not_before"] > 7776000 else (0, f)
+
+
+# ---- descriptors
+
+
+def grant(modes=("read",), pattern=T + "/a/*", **more):
+    return {"modes": list(modes), "resource_pattern": pattern, **more}
+
+
+def payload(**more):
+    p = {
+        "grants": [grant()],
+        "issued_at": 1000,
+        "issuer_id": "uni",
+        "not_after": 3000,
+        "not_before": 2000,
+        "terminal_id": T,
+        "descriptor_id": bytes(range(16)),
+        "subject_fay_id": FAY,
+    }
+    p.update(more)
+    return {k: v for k, v in p.items() if v is not None}
+
+
+def signature(**more):
+    g = {"key_id": "k1", "algorithm": "ed25519", "signature_value": bytes(64)}
+    g.update(more)
+    return {k: v for k, v in g.items() if v is not None}
+
+
+def encode(p=None, g=None, **more):
+    d = {"payload": payload() if p is None else p, "version": 1, "signature": signature() if g is None else g}
+    d.update(more)
+    return cbor2.dumps({k: v for k, v in d.items() if v is not None}, canonical=True)
+
+
+def sized(n):
+    """A descriptor of exactly n bytes: 250 grants, the first with a longer pattern, and an issuer that takes up what is left."""
+    grants = [grant(pattern=T + "/" + "g" * 51) for _ in range(250)]
+    for first in (51, 151):
+        grants[0]["resource_pattern"] = T + "/" + "g" * first
+        for issuer in range(1, 129):
+            s = encode(payload(grants=grants, issuer_id="i" * issuer))
+            if len(s) == n:
+                return s
+    raise SystemExit("no such size")
+
+
+def swap(s, old, new):
+    assert s.count(old) == 1, (s.count(old), old)
+    return s.replace(old, new)
+
+
+def vectors():
+    base = encode()
+    pairs = lambda n, key="k{:02}", value="v": {key.format(i): value for i in range(n)}
+    ok = [
+        ("smallest", base),
+        ("every optional field", encode(payload(metadata={"a": "b", "bb": "ü"}, grantor_id="prof", grants=[grant(["write", "read"], T + "/a/*", constraints={"k": "v", "z": ""}), grant(["configure"], T + "/b/**")]))),
+        ("empty optional maps", encode(payload(metadata={}, grants=[grant(constraints={})]))),
+        ("grantor_id alone", encode(payload(grantor_id="prof"))),
+        ("four modes", encode(payload(grants=[grant(["configure", "execute", "write", "read"])]))),
+        ("256 grants", encode(payload(grants=[grant(["execute"], T + f"/g/{i}") for i in range(256)]))),
+        ("32,768 bytes", sized(32768)),
+        ("texts at their limits", encode(payload(issuer_id="i" * 128, grantor_id="g" * 128, metadata={"k" * 64: "v" * 256}), signature(key_id="x" * 64))),
+        ("texts of one character", encode(payload(issuer_id="i", grantor_id="g", metadata={"k": ""}), signature(key_id="x"))),
+        ("16 pairs of metadata", encode(payload(metadata=pairs(16)))),
+        ("8 pairs of constraints", encode(payload(grants=[grant(constraints=pairs(8))]))),
+        ("keys of different lengths", encode(payload(metadata={"b": "1", "aa": "2", "ccc": "3"}))),
+        ("pattern of 256 bytes", encode(payload(grants=[grant(pattern=T + "/" + "a" * 210)]))),
+        ("upper-case hexadecimal digits", encode(payload(subject_fay_id=FAY.upper().replace("FAY", "fay"), terminal_id=T.replace("7000", "7ABC"), grants=[grant(pattern=T.replace("7000", "7ABC") + "/a")]))),
+        ("signature of ecdsa, 1 byte", encode(g=signature(algorithm="ecdsa-p256-sha256", signature_value=b"s"))),
+        ("signature of ecdsa, 72 bytes", encode(g=signature(algorithm="ecdsa-p256-sha256", signature_value=bytes(72)))),
+        ("issued_at = not_before", encode(payload(issued_at=2000))),
+        ("all at 0 but not_after", encode(payload(issued_at=0, not_before=0, not_after=1))),
+        ("period 7,776,000", encode(payload(not_after=2000 + 7776000))),
+        ("not_after the largest number", encode(payload(not_before=2**64 - 1 - 7776000, not_after=2**64 - 1))),
+    ]
+    late = [
+        ("period 7,776,001", encode(payload(not_after=2000 + 7776001))),
+        ("the longest period", encode(payload(issued_at=0, not_before=0, not_after=2**64 - 1))),
+    ]
+    g64 = b"\x58\x40" + bytes(64)
+    bad = [
+        ("32,769 bytes", sized(32769)),
+        ("no byte", b""),
+        ("cut by a byte", base[:-1]),
+        ("a byte after the item", base + b"\x00"),
+        ("version 2", encode(version=2)),
+        ("no version", encode(version=None)),
+        ("no signature", encode(signature=None)),
+        ("no payload", b"\xa2" + base[1 + 8 + len(cbor2.dumps(payload(), canonical=True)) :]),
+        ("a key more", encode(zusatz=1)),
+        ("keys in alphabetical order", b"\xa3" + cbor2.dumps("payload") + cbor2.dumps(payload(), canonical=True) + cbor2.dumps("signature") + cbor2.dumps(signature(), canonical=True) + cbor2.dumps("version") + b"\x01"),
+        ("a key twice", swap(base, b"\xa3\x67payload", b"\xa4\x67version\x01\x67payload")),
+        ("payload with a key more", encode(payload(zusatz_schluessel="x"))),
+        ("payload in another order", swap(base, b"\x69issued_at\x19\x03\xe8\x69issuer_id\x63uni", b"\x69issuer_id\x63uni\x69issued_at\x19\x03\xe8")),
+    ]
+    bad += [(f"no {k}", encode(payload(**{k: None}))) for k in payload()]
+    bad += [(f"no {k}", encode(g=signature(**{k: None}))) for k in signature()]
+    bad += [
+        ("grant without modes", encode(payload(grants=[{"resource_pattern": T + "/a"}]))),
+        ("grant without pattern", encode(payload(grants=[{"modes": ["read"]}]))),
+        ("grant with a key more", encode(payload(grants=[grant(zzz="1")]))),
+        ("a longer head of a number", swap(base, b"\x69not_after\x19\x0b\xb8", b"\x69not_after\x1a\x00\x00\x0b\xb8")),
+        ("a longer head of a text", swap(base, b"\x69issuer_id\x63uni", b"\x69issuer_id\x78\x03uni")),
+        ("a longer head of a map", swap(base, b"\xa3\x67payload", b"\xb8\x03\x67payload")),
+        ("a longer head of an array", swap(base, b"\x66grants\x81", b"\x66grants\x98\x01")),
+        ("an array of no definite length", swap(base, b"\x65modes\x81\x64read", b"\x65modes\x9f\x64read\xff")),
+        ("a text of no definite length", swap(base, b"\x69issuer_id\x63uni", b"\x69issuer_id\x7f\x63uni\xff")),
+        ("a tag", swap(base, b"\x69not_after\x19\x0b\xb8", b"\x69not_after\xc1\x19\x0b\xb8")),
+        ("a negative number", encode(payload(issued_at=-1))),
+        ("a floating-point number", encode(payload(issued_at=1.5))),
+        ("null for grantor_id", swap(encode(payload(grantor_id="p")), b"\x61p", b"\xf6")),
+        ("true for version", encode(version=True)),
+        ("text for descriptor_id", encode(payload(descriptor_id="a" * 16))),
+        ("bytes for issuer_id", encode(payload(issuer_id=b"uni"))),
+        ("descriptor_id of 15 bytes", encode(payload(descriptor_id=bytes(15)))),
+        ("descriptor_id of 17 bytes", encode(payload(descriptor_id=bytes(17)))),
+        ("issuer_id empty", encode(payload(issuer_id=""))),
+        ("issuer_id of 129 bytes", encode(payload(issuer_id="i" * 129))),
+        ("issuer_id no UTF-8", swap(base, b"\x63uni", b"\x63u\xffi")),
+        ("grantor_id empty", encode(payload(grantor_id=""))),
+        ("grantor_id of 129 bytes", encode(payload(grantor_id="g" * 129))),
+        ("key_id empty", encode(g=signature(key_id=""))),
+        ("key_id of 65 bytes", encode(g=signature(key_id="k" * 65))),
+        ("signature of ed25519, 63 bytes", encode(g=signature(signature_value=bytes(63)))),
+        ("signature of ed25519, 65 bytes", encode(g=signature(signature_value=bytes(65)))),
+        ("signature of ecdsa, no byte", encode(g=signature(algorithm="ecdsa-p256-sha256", signature_value=b""))),
+        ("signature of ecdsa, 73 bytes", encode(g=signature(algorithm="ecdsa-p256-sha256", signature_value=bytes(73)))),
+        ("another algorithm", encode(g=signature(algorithm="ed448"))),
+        ("no grant", encode(payload(grants=[]))),
+        ("257 grants", encode(payload(grants=[grant(["read"], T + f"/{i}") for i in range(257)]))),
+        ("no mode", encode(payload(grants=[grant([])]))),
+        ("a mode twice", encode(payload(grants=[grant(["read", "write", "read"])]))),
+        ("another mode", encode(payload(grants=[grant(["watch"])]))),
+        ("17 pairs of metadata", encode(payload(metadata=pairs(17)))),
+        ("9 pairs of constraints", encode(payload(grants=[grant(constraints=pairs(9))]))),
+        ("a pair's key empty", encode(payload(metadata={"": "v"}))),
+        ("a pair's key of 65 bytes", encode(payload(metadata={"k" * 65: "v"}))),
+        ("a pair's value of 257 bytes", encode(payload(metadata={"k": "v" * 257}))),
+        ("a pair's value no UTF-8", swap(encode(payload(metadata={"k": "ü"})), b"\x62\xc3\xbc", b"\x62\xc3\x28")),
+        ("pairs in another order", swap(encode(payload(metadata={"a": "1", "b": "2"})), b"\x61a\x611\x61b\x612", b"\x61b\x612\x61a\x611")),
+        ("a pair's key twice", swap(encode(payload(metadata={"a": "1", "b": "2"})), b"\x61a\x611\x61b\x612", b"\x61a\x611\x61a\x612")),
+        ("pattern T/cam*", encode(payload(grants=[grant(pattern=T + "/cam*")]))),
+        ("pattern T/**/a", encode(payload(grants=[grant(pattern=T + "/**/a")]))),
+        ("pattern T//a", encode(payload(grants=[grant(pattern=T + "//a")]))),
+        ("pattern T", encode(payload(grants=[grant(pattern=T)]))),
+        ("pattern T/", encode(payload(grants=[grant(pattern=T + "/")]))),
+        ("pattern of 257 bytes", encode(payload(grants=[grant(pattern=T + "/" + "a" * 211)]))),
+        ("pattern of another terminal, first", encode(payload(grants=[grant(pattern=U + "/a"), grant()]))),
+        ("pattern of another terminal, later", encode(payload(grants=[grant(), grant(pattern=U + "/a")]))),
+        ("patterns of another terminal, all", encode(payload(grants=[grant(pattern=U + "/a"), grant(pattern=U + "/b")]))),
+        ("fay id malformed", encode(payload(subject_fay_id=FAY[:-1] + "g"))),
+        ("fay id too short", encode(payload(subject_fay_id=FAY[:-1]))),
+        ("terminal id malformed", encode(payload(terminal_id="Terminal" + T[8:]))),
+        ("issued_at after not_before", encode(payload(issued_at=2001))),
+        ("not_before = not_after", encode(payload(not_before=3000))),
+        ("not_before after not_after", encode(payload(not_before=3001))),
+        ("too long valid and a mode twice", encode(payload(not_after=2**63, grants=[grant(["read", "read"])]))),
+    ]
+    assert all(read(s)[0] == 0 for _, s in ok), [n for n, s in ok if read(s)[0] != 0]
+    assert all(read(s)[0] == 2 for _, s in late), [n for n, s in late if read(s)[0] != 2]
+    assert all(read(s)[0] == 1 for _, s in bad), [n for n, s in bad if read(s)[0] != 1]
+    return ok + late + bad
+
+
+def described(name, s):
+    answer, f = read(s)
+    out = f"{name}, {len(s)} bytes: {answer}\n"
+    if answer == 0:
+        mask = 0
+        for g in f["grants"]:
+            mask |= g["mask"]
+        out += f"    payload {f['payload'][1]} at {f['payload'][0]}, issued_at {f['issued_at']}, not_before {f['not_before']}, not_after {f['not_after']}\n"
+        out += f"    descriptor_id at {f['id']}, issuer_id {f['issuer'][1]} at {f['issuer'][0]}, grantor_id {f['grantor'][1]} at {f['grantor'][0]}, subject_fay_id at {f['fay']}, terminal_id at {f['terminal']}\n"
+        out += f"    metadata {f['metadata'][1]} at {f['metadata'][0]}, key_id {f['key'][1]} at {f['key'][0]}, algorithm {f['algorithm']}, signature {f['signature'][1]} at {f['signature'][0]}\n"
+        out += f"    grants {len(f['grants'])} at {f['first']}, mask {mask}, constraint pairs {sum(g['constraints'][1] for g in f['grants'])}\n"
+        for g in f["grants"][:3]:
+            out += f"    grant: mask {g['mask']}, modes at {g['modes']}, constraints {g['constraints'][1]} at {g['constraints'][0]}, pattern {g['pattern'][1]} at {g['pattern'][0]}\n"
+    return out
+
+
+if __name__ == "__main__":
+    folder = sys.argv[1]
+    rows = vectors()
+    with open(folder + "/stdin", "wb") as o:
+        for name, s in rows:
+            o.write(bytes([len(name)]) + name.encode() + len(s).to_bytes(4, "big") + s)
+    with open(folder + "/stdout", "w") as o:
+        o.write("".join(described(name, s) for name, s in rows))
+    print(len(rows), "descriptors")

@@ -70,17 +70,17 @@ add-bit mask m k a b c =
     (all-below 4 (λ m. allBelow 4 (λ k. addBit mask m k)) (all-below 16 (λ mask. allBelow 4 (λ m. allBelow 4 (λ k. addBit mask m k))) add-bits mask a) m b) k c
 
 -- the mask has exactly the modes seen
-record Marks (mask : ℕ) (seen : List ℕ) : Type 0 where
-  small : mask < 16
-  bits : (k : ℕ) → k < 4 → hasMode mask k ≡ isIn k seen
+pub record Marks (mask : ℕ) (seen : List ℕ) : Type 0 where
+  pub small : mask < 16
+  pub bits : (k : ℕ) → k < 4 → hasMode mask k ≡ isIn k seen
 
 -- the mask 0 has no mode
-no-marks : Marks 0 []
+pub no-marks : Marks 0 []
 unfolding isIn hasMode allBelow
 no-marks = record { small = lit< tt; bits = λ k h. beq-eq (hasMode 0 k) false (all-below 4 (λ k. Bool·beq (hasMode 0 k) false) tt k h) }
 
 -- adding a new mode's bit to the mask gives the mask of the modes seen with it
-add-mark : (mask : ℕ) (seen : List ℕ) (m : ℕ) → Marks mask seen → ModeOk seen m → Marks (mask + 2 ^ m) (m ∷ seen)
+pub add-mark : (mask : ℕ) (seen : List ℕ) (m : ℕ) → Marks mask seen → ModeOk seen m → Marks (mask + 2 ^ m) (m ∷ seen)
 unfolding isIn addBit
 add-mark mask seen m i o =
     let both : (k : ℕ) → k < 4 → T (ltb (mask + 2 ^ m) 16) × T (Bool·beq (hasMode (mask + 2 ^ m) k) (eqb k m || hasMode mask k)) = λ k h.

@@ -26,7 +26,7 @@ use Rattle.descriptor.proofs.SignatureLaws.{encFromKey}
 -- ---- lists
 
 -- what holds of each element holds of the i-th
-all-get : {X : Type 0} (P : X → Type 0) (xs : List X) (i : ℕ) (d : X) → i < length xs → All P xs → P (getD xs i d)
+pub all-get : {X : Type 0} (P : X → Type 0) (xs : List X) (i : ℕ) (d : X) → i < length xs → All P xs → P (getD xs i d)
 all-get P [] i d h a = absurd (omega arith)
 all-get P (x ∷ xs) zero d h a = a .0
 all-get P (x ∷ xs) (suc i) d h a = all-get P xs i d (omega arith) (a .1)

@@ -1,0 +1,5 @@
+pub mod Meaning
+pub mod Escape
+pub mod Narrow
+pub mod Promises
+pub mod Cases

@@ -13,3 +13,8 @@ pub mod DescriptorLaws
 pub mod AnswerLaws
 pub mod SeenLaws
 pub mod Promises
+pub mod GrantBounds
+pub mod PayloadBounds
+pub mod ReadSteps
+pub mod BoundLaws
+pub mod LoopLaws

@@ -28,7 +28,7 @@ use Rattle.descriptor.proofs.Truth.{T-true}
 -- ---- tests
 
 -- the test of limits holds exactly of a number between them
-within-test : (lo hi n : ℕ) → T (within lo hi n) ↔ ((lo ≤ n) × (n ≤ hi))
+pub within-test : (lo hi n : ℕ) → T (within lo hi n) ↔ ((lo ≤ n) × (n ≤ hi))
 unfolding within
 within-test lo hi n = (
   λ t. let p = and-yes (leb lo n) (leb n hi) t in (leb→le lo n (p .0), leb→le n hi (p .1)),
@@ -36,7 +36,7 @@ within-test lo hi n = (
 )
 
 -- the test of a head holds exactly where its major type is the given one and its number is between the limits
-count-test : (m major lo hi n : ℕ) → T (eqb m major && within lo hi n) ↔ ((m ≡ major) × (lo ≤ n) × (n ≤ hi))
+pub count-test : (m major lo hi n : ℕ) → T (eqb m major && within lo hi n) ↔ ((m ≡ major) × (lo ≤ n) × (n ≤ hi))
 count-test m major lo hi n = (
   λ t.
       let p = and-yes (eqb m major) (within lo hi n) t in

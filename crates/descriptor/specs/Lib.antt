@@ -4,4 +4,5 @@ pub mod Allowed
 pub mod Value
 pub mod Reader
 pub mod View
+pub mod Answer
 pub mod Promises

@@ -1,2 +1,104 @@
 // Descriptors: the data model of source 002 in the deterministic encoding of RFC 8949, as document 01 limits it. What is promised is in
 // specs/Promises.antt.
+use cbor_item::Item;
+
+mod bytes;
+mod grants;
+mod keys;
+mod modes;
+mod pairs;
+mod payload;
+mod signature;
+mod value;
+
+ghost use mathlib.Core.Path.{_≡_};
+ghost use Rattle.cbor_item.specs.Bytes.{PartOf};
+ghost use Rattle.descriptor.specs.Reader.{readOf, grantAt};
+ghost use Rattle.descriptor.specs.Answer.{readingOf, payloadSpan, grantRead};
+
+// A part of the bytes: its place and its length; both 0 for what is absent.
+pub struct Part {
+    pub at: usize,
+    pub len: usize,
+}
+
+// What is seen of a descriptor: parts and places in its bytes, and numbers. The payload is what the signature covers. `grants` counts the
+// grants, of which the first stands at `first`; `metadata` is the place of the map's head, 0 where it is absent, and `pairs` the number of
+// its pairs; `constraints` counts the constraint pairs of all grants, `mask` is the union of their modes' masks.
+pub struct Fields {
+    pub payload: Part,
+    pub issued: u64,
+    pub before: u64,
+    pub after: u64,
+    pub id: usize,
+    pub issuer: Part,
+    pub grantor: Part,
+    pub fay: usize,
+    pub terminal: usize,
+    pub grants: u64,
+    pub first: usize,
+    pub metadata: usize,
+    pub pairs: u64,
+    pub constraints: u64,
+    pub mask: u64,
+    pub key: Part,
+    pub algorithm: u64,
+    pub signature: Part,
+}
+
+// What reading answers: the fields, document 01's 1 or its 2.
+pub enum Reading {
+    Read(Fields),
+    Structure,
+    Validity,
+}
+
+// What is seen of a grant: the mask of its modes, the place of their array, the place of the constraints' map (0 where there is none) and
+// the number of its pairs, and the pattern's place and length.
+pub struct GrantFields {
+    pub mask: u64,
+    pub modes: usize,
+    pub constraints: usize,
+    pub pairs: u64,
+    pub pattern: usize,
+    pub len: usize,
+}
+
+// A grant, and the place after it.
+pub enum GrantRead {
+    IsGrant { fields: GrantFields, next: usize },
+    NoGrant,
+}
+
+// Reads s as a descriptor.
+pub fn read_descriptor(s: &[u8]) -> Reading
+    ensures { λ r. ⌜ r ≡ readingOf (readOf (now (s .entry))) ⌝ }
+{
+    signature::whole(s)
+}
+
+// The payload of what was read from s, which the signature covers, as the part of s itself; the empty part at the start on a refusal.
+pub fn payload_part(s: &[u8], reading: Reading) -> &[u8]
+    ensures { λ r. ⌜ PartOf (s .entry) r (payloadSpan (now (s .entry)) reading .start) (payloadSpan (now (s .entry)) reading .len) ⌝ }
+{
+    match reading {
+        Reading::Read(fields) => {
+            let payload = fields.payload;
+            let item = Item::Bytes {
+                start: payload.at,
+                len: payload.len,
+                next: 0,
+            };
+            cbor_item::content(s, item)
+        }
+        Reading::Structure => &s[..0],
+        Reading::Validity => &s[..0],
+    }
+}
+
+// The grant at a place, of any bytes.
+pub fn read_grant(s: &[u8], at: usize) -> GrantRead
+    ensures { λ r. ⌜ grantRead r ≡ grantAt (now (s .entry)) at ⌝ }
+{
+    grants::grant_at(s, at)
+}

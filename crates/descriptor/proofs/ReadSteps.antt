@@ -1,0 +1,66 @@
+-- The ways out of reading an algorithm and a whole descriptor, one by one (specs/Reader.antt). Assumes nothing.
+use mathlib.Core.Path.{_≡_, refl, sym, ap, _∙_}
+use mathlib.Core.Bool.{Bool, true, false}
+use mathlib.Core.List.{List, [], _∷_}
+use Prim.Native.Nat.{ℕ, suc, _+_, _-_, _≤_, _<_}
+use lib.ListN.{length}
+use borrow.Author.Tests.{eq-eqb, ne-eqb, le-leb, lt-leb}
+use Rattle.cbor_item.specs.Bytes.{hasAt}
+use Rattle.cbor_item.specs.Reads.{Got, got, refused}
+use Rattle.descriptor.specs.declared.Reading.the-variants.{Read, Structure, Validity}
+use Rattle.descriptor.specs.Allowed.{longest, longestPeriod}
+use Rattle.descriptor.specs.Value.{oneOf}
+use Rattle.descriptor.specs.Reader.{Seen, descriptorAt, whole, readOf}
+use Rattle.descriptor.specs.Answer.{fieldsOf, readingOf}
+
+-- ---- one of a table
+
+-- the first entry stands at the place
+pub one-first : (s : List ℕ) (at i : ℕ) (k : List ℕ) (ks : List (List ℕ)) (b : Bool) → b ≡ hasAt s at k → b ≡ true → got i (at + length k) ≡ oneOf s at i (k ∷ ks)
+unfolding oneOf
+one-first s at i k ks b e t = rw (sym e ∙ t) refl
+
+-- it does not, and the others decide
+pub one-next : (s : List ℕ) (at i : ℕ) (k : List ℕ) (ks : List (List ℕ)) (b : Bool) → b ≡ hasAt s at k → b ≡ false → oneOf s at (suc i) ks ≡ oneOf s at i (k ∷ ks)
+unfolding oneOf
+one-next s at i k ks b e t = rw (sym e ∙ t) refl
+
+-- none is left
+pub one-none : (s : List ℕ) (at i : ℕ) → refused ≡ oneOf s at i []
+unfolding oneOf
+one-none s at i = refl
+
+-- ---- the whole
+
+module _ (s : List ℕ) where
+  -- too many bytes
+  pub read-long : longest < length s → Structure ≡ readingOf (readOf s)
+  unfolding readOf
+  read-long h = rw (lt-leb _ _ h) refl
+
+  module _ (short : length s ≤ longest) where
+    -- the length is allowed
+    answer : readOf s ≡ whole (length s) (descriptorAt s 0)
+    unfolding readOf
+    answer = rw (le-leb _ _ short) refl
+
+    -- no descriptor at the start
+    pub read-refused : refused ≡ descriptorAt s 0 → Structure ≡ readingOf (readOf s)
+    read-refused e = ap (λ (o : Got Seen). readingOf (whole (length s) o)) e ∙ ap readingOf (sym answer)
+
+    module _ {v : Seen} {n : ℕ} (e : got v n ≡ descriptorAt s 0) where
+      -- a descriptor at the start
+      after : readingOf (whole (length s) (got v n)) ≡ readingOf (readOf s)
+      after = ap (λ (o : Got Seen). readingOf (whole (length s) o)) e ∙ ap readingOf (sym answer)
+
+      -- bytes after it
+      pub read-more : (n ≡ length s → ⊥) → Structure ≡ readingOf (readOf s)
+      read-more h = (rw (ne-eqb _ _ h) refl) ∙ after
+
+      -- a period that is too long
+      pub read-period : n ≡ length s → longestPeriod < v .payload .middle .notAfter - v .payload .middle .notBefore → Validity ≡ readingOf (readOf s)
+      read-period h l = (rw (eq-eqb _ _ h, lt-leb _ _ l) refl) ∙ after
+
+      -- an allowed descriptor
+      pub read-all : n ≡ length s → v .payload .middle .notAfter - v .payload .middle .notBefore ≤ longestPeriod → Read (fieldsOf v) ≡ readingOf (readOf s)
+      read-all h l = (rw (eq-eqb _ _ h, le-leb _ _ l) refl) ∙ after

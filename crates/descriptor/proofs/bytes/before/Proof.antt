@@ -1,0 +1,90 @@
+-- `before` meets its contract. The invariant: what is left from i on decides. The measure: what is left. Assumes nothing.
+use mathlib.Core.Path.{_≡_, refl, sym, _∙_}
+use Prim.Native.Nat.{_-_, _≤_}
+use native.Mathlib.Omega.{arith}
+use lib.ListN.{length, drop}
+use borrow.Author.Needs.{needs}
+use Rattle.descriptor.specs.Allowed.{before}
+use Rattle.descriptor.proofs.LoopLaws.{before-short, before-end, before-less, before-more, before-same}
+use Rattle.descriptor.proofs.bytes.before.Statement.{statement}
+use Rattle.descriptor.proofs.bytes.before.Tie as tie
+
+abbrev Inv-loop : tie.InvT-loop
+Inv-loop x y i₀ i = (i ≤ length x) × (i ≤ length y) × (before x y ≡ before (drop i x) (drop i y))
+
+abbrev μ-loop : tie.MeasureT-loop
+μ-loop x y i₀ i = length y - i
+
+loop-holds : tie.Need-loop-holds Inv-loop μ-loop
+loop-holds c = (omega arith, omega arith, refl)
+
+returns : tie.Need-returns Inv-loop μ-loop
+returns c =
+    let l = c .before .before in
+    let a = l .before .args in
+    sym (l .loop .inv .2 ∙ before-short (a .x .now) (a .y .now) (l .loop .i) (c .if1 .taken) (c .before .loop-test .taken))
+
+shared-slice-read-if2 : tie.Need-shared-slice-read-if2 Inv-loop μ-loop
+shared-slice-read-if2 c = search needs
+
+shared-slice-read-if2-2 : tie.Need-shared-slice-read-if2-2 Inv-loop μ-loop
+shared-slice-read-if2-2 c = search needs
+
+returns-2 : tie.Need-returns-2 Inv-loop μ-loop
+returns-2 c =
+    let e = c .before .before .before in
+    let l = e .before .before in
+    let a = l .before .args in
+    sym (l .loop .inv .2 ∙ before-less (a .x .now) (a .y .now) (l .loop .i) (e .if1 .left) (e .before .loop-test .taken) (c .if2 .taken))
+
+shared-slice-read-if3 : tie.Need-shared-slice-read-if3 Inv-loop μ-loop
+shared-slice-read-if3 c = search needs
+
+shared-slice-read-if3-2 : tie.Need-shared-slice-read-if3-2 Inv-loop μ-loop
+shared-slice-read-if3-2 c = search needs
+
+returns-3 : tie.Need-returns-3 Inv-loop μ-loop
+returns-3 c =
+    let e = c .before .before .before .before .before .before in
+    let l = e .before .before in
+    let a = l .before .args in
+    sym (l .loop .inv .2 ∙ before-more (a .x .now) (a .y .now) (l .loop .i) (e .if1 .left) (e .before .loop-test .taken) (c .if3 .taken))
+
+add-i : tie.Need-add-i Inv-loop μ-loop
+add-i c = search needs
+
+loop-less : tie.Need-loop-less Inv-loop μ-loop
+loop-less c = omega arith
+
+loop-again : tie.Need-loop-again Inv-loop μ-loop
+loop-again c =
+    let f = c .before .before .before in
+    let e = f .before .before .before in
+    let l = e .before .before in
+    let a = l .before .args in
+    (omega arith, omega arith, l .loop .inv .2 ∙ before-same (a .x .now) (a .y .now) (l .loop .i) (e .if1 .left) (e .before .loop-test .taken) (f .if2 .left) (c .if3 .left))
+
+returns-4 : tie.Need-returns-4 Inv-loop μ-loop
+returns-4 c =
+    let l = c .before in
+    let a = l .before .args in
+    sym (l .loop .inv .2 ∙ before-end (a .x .now) (a .y .now) (l .loop .i) (c .loop-test .left))
+
+pub before-spec : {M : Type 1} → statement M
+before-spec =
+    tie.close
+    (tie.spec
+    Inv-loop
+    μ-loop
+    loop-holds
+    returns
+    shared-slice-read-if2
+    shared-slice-read-if2-2
+    returns-2
+    shared-slice-read-if3
+    shared-slice-read-if3-2
+    returns-3
+    add-i
+    loop-less
+    loop-again
+    returns-4)

@@ -1,0 +1,122 @@
+-- `grants_at` meets its contract. Assumes nothing.
+use mathlib.Core.Path.{_≡_, sym, ap, _∙_}
+use Prim.Native.Nat.{_+_, _*_, _≤_}
+use native.Mathlib.Omega.{arith}
+use lib.ListN.{length}
+use Rattle.cbor_item.specs.Reads.{got}
+use Rattle.cbor_item.proofs.ReadsLaws.{took, stopped}
+use Rattle.descriptor.specs.Answer.{countRead, grantRead, sumOf, sumRead}
+use Rattle.descriptor.specs.Value.{countAt}
+use Rattle.descriptor.specs.Reader.{grantsAt}
+use Rattle.descriptor.proofs.GrantBounds.{count-room, grant-room, more-room, grantsFrom, grants-begin, grants-next, grants-stop, grants-done}
+use borrow.Author.Needs.{needs}
+use Rattle.descriptor.proofs.grants.grants_at.Statement.{statement}
+use Rattle.descriptor.proofs.grants.grants_at.Tie as tie
+
+abbrev Inv-loop : tie.InvT-loop
+Inv-loop s at count start next first sum₀ left₀ here₀ sum left here = (first + 45 ≤ length s) × (sum .pairs + left * 8 ≤ 2048) × (grantsFrom s count start first left (sumOf sum) here ≡ grantsAt s at)
+
+abbrev μ-loop : tie.MeasureT-loop
+μ-loop s at count start next first sum₀ left₀ here₀ sum left here = left
+
+-- how many grants there are to be
+counted : (k : tie.After-count Inv-loop μ-loop) → got (k .count .given .0 .0) (k .count .given .0 .1 .0) ≡ countAt (k .before .before .before .before .args .s .now) (k .before .before .before .before .args .at) 4 1 256
+counted k = sym (ap countRead (k .count .given .1)) ∙ k .before .before .count-at .ensures
+
+-- they are 1 to 256
+limits : (k : tie.After-count Inv-loop μ-loop) → (1 ≤ k .count .given .0 .0) × (k .count .given .0 .0 ≤ 256)
+limits k = count-room _ _ 4 1 256 (counted k)
+
+-- the first grant is within the bytes
+seen : (k : tie.After-fields Inv-loop μ-loop) → (k .fields .given .0 .0 .pattern + 46 ≤ length (k .before .before .before .before .before .before .before .before .args .s .now)) × (k .fields .given .0 .0 .pairs ≤ 8)
+seen k = grant-room _ _ (sym (ap grantRead (k .fields .given .1)) ∙ k .before .before .grant-at .ensures)
+
+count-at-requires : tie.Need-count-at-requires Inv-loop μ-loop
+count-at-requires c κs = search needs
+
+enum-known-count : tie.Need-enum-known-count Inv-loop μ-loop
+enum-known-count c = search needs
+
+enum-told : tie.Need-enum-told Inv-loop μ-loop
+enum-told c = search needs
+
+returns : tie.Need-returns Inv-loop μ-loop
+unfolding grantsAt
+returns c = stopped _ (sym (ap countRead (c .enum-told .given .1)) ∙ c .before .before .count-at .ensures)
+
+grant-at-requires : tie.Need-grant-at-requires Inv-loop μ-loop
+grant-at-requires c κs = search needs
+
+enum-known-fields : tie.Need-enum-known-fields Inv-loop μ-loop
+enum-known-fields c = search needs
+
+enum-told-2 : tie.Need-enum-told-2 Inv-loop μ-loop
+enum-told-2 c = search needs
+
+returns-2 : tie.Need-returns-2 Inv-loop μ-loop
+unfolding grantsAt
+returns-2 c = took _ (counted (c .before .before .before .before)) (stopped _ (sym (ap grantRead (c .enum-told2 .given .1)) ∙ c .before .before .grant-at .ensures))
+
+sub-left : tie.Need-sub-left Inv-loop μ-loop
+sub-left c = omega (arith, limits (c .before .before .before .before .before) .0)
+
+loop-holds : tie.Need-loop-holds Inv-loop μ-loop
+loop-holds c =
+    let g = c .before in
+    let k = g .before .before .before .before in
+    (omega (arith, seen g .0), omega (arith, seen g .1, limits k .1), grants-begin _ _ (counted k) (sym (ap grantRead (g .fields .given .1)) ∙ g .before .before .grant-at .ensures))
+
+more-at-requires : tie.Need-more-at-requires Inv-loop μ-loop
+more-at-requires c κs = (c .before .loop .inv .0, omega (arith, c .before .loop .inv .1))
+
+enum-known-more : tie.Need-enum-known-more Inv-loop μ-loop
+enum-known-more c = search needs
+
+enum-told-3 : tie.Need-enum-told-3 Inv-loop μ-loop
+enum-told-3 c = search needs
+
+returns-3 : tie.Need-returns-3 Inv-loop μ-loop
+returns-3 c =
+    let l = c .before .before .before .before in
+    grants-stop _ _ _ _ _ _ _ (c .before .before .before .loop-test .taken) (sym (ap sumRead (c .enum-told3 .given .1)) ∙ c .before .before .more-at .ensures) ∙ l .loop .inv .2
+
+sub-left-2 : tie.Need-sub-left-2 Inv-loop μ-loop
+sub-left-2 c = search needs
+
+loop-less : tie.Need-loop-less Inv-loop μ-loop
+loop-less c = search needs
+
+loop-again : tie.Need-loop-again Inv-loop μ-loop
+loop-again c =
+    let m = c .before in
+    let l = m .before .before .before .before in
+    let e = sym (ap sumRead (m .more .given .1)) ∙ m .before .before .more-at .ensures in
+    (l .loop .inv .0, omega (arith, l .loop .inv .1, more-room _ _ _ _ e), grants-next _ _ _ _ _ _ _ (m .before .before .before .loop-test .taken) e ∙ l .loop .inv .2)
+
+returns-4 : tie.Need-returns-4 Inv-loop μ-loop
+returns-4 c = grants-done _ _ _ _ _ _ _ (omega arith) ∙ c .before .loop .inv .2
+
+pub grants-at-spec : {M : Type 1} → statement M
+grants-at-spec =
+    tie.close
+    (tie.spec
+    Inv-loop
+    μ-loop
+    count-at-requires
+    enum-known-count
+    enum-told
+    returns
+    grant-at-requires
+    enum-known-fields
+    enum-told-2
+    returns-2
+    sub-left
+    loop-holds
+    more-at-requires
+    enum-known-more
+    enum-told-3
+    returns-3
+    sub-left-2
+    loop-less
+    loop-again
+    returns-4)

@@ -1,0 +1,96 @@
+-- `more_at` meets its contract. Assumes nothing.
+use mathlib.Core.Path.{refl, sym, ap, _∙_}
+use Prim.Native.Nat.{_+_, _≤_}
+use native.Mathlib.Omega.{arith}
+use lib.ListN.{length}
+use Rattle.cbor_item.proofs.BytesLaws.{T-of}
+use Rattle.cbor_item.proofs.ReadsLaws.{took, stopped, passed, failed}
+use Rattle.descriptor.specs.Answer.{grantRead}
+use Rattle.descriptor.specs.Reader.{moreAt}
+use Rattle.descriptor.proofs.Truth.{T-false}
+use Rattle.descriptor.proofs.GrantBounds.{grant-room, tail-long, same-tails}
+use borrow.Author.Needs.{needs}
+use Rattle.descriptor.proofs.grants.more_at.Statement.{statement}
+use Rattle.descriptor.proofs.grants.more_at.Tie as tie
+
+-- the grant that was read is within the bytes
+seen : (k : tie.After-fields) → (k .fields .given .0 .0 .pattern + 46 ≤ length (k .before .before .before .before .args .s .now)) × (k .fields .given .0 .0 .pairs ≤ 8)
+seen k = grant-room _ _ (sym (ap grantRead (k .fields .given .1)) ∙ k .before .before .grant-at .ensures)
+
+grant-at-requires : tie.Need-grant-at-requires
+grant-at-requires c κs = search needs
+
+enum-known-fields : tie.Need-enum-known-fields
+enum-known-fields c = search needs
+
+enum-told : tie.Need-enum-told
+enum-told c = search needs
+
+returns : tie.Need-returns
+unfolding moreAt
+returns c = stopped _ (sym (ap grantRead (c .enum-told .given .1)) ∙ c .before .before .grant-at .ensures)
+
+sub-same-terminal : tie.Need-sub-same-terminal
+sub-same-terminal c = omega (arith, seen (c .before) .0)
+
+part-same-terminal-start : tie.Need-part-same-terminal-start
+part-same-terminal-start c = omega (arith, seen (c .before) .0)
+
+part-same-terminal-end : tie.Need-part-same-terminal-end
+part-same-terminal-end c = search needs
+
+sub-same-terminal-2 : tie.Need-sub-same-terminal-2
+sub-same-terminal-2 c = search needs
+
+part-same-terminal-start-2 : tie.Need-part-same-terminal-start-2
+part-same-terminal-start-2 c = search needs
+
+part-same-terminal-end-2 : tie.Need-part-same-terminal-end-2
+part-same-terminal-end-2 c = search needs
+
+same-terminal-requires : tie.Need-same-terminal-requires
+same-terminal-requires c κs =
+    let k = c .before .before .before in
+    let a = k .before .before .before .before in
+    (tail-long (a .args .s .now) (k .fields .given .0 .0 .pattern) (omega (arith, seen k .0)), tail-long (a .args .s .now) (a .args .first) (a .pre .0))
+
+add-pairs : tie.Need-add-pairs
+add-pairs c =
+    let k = c .before .before .before .before .before .before .before .before .before in
+    omega (arith, seen k .1)
+
+returns-2 : tie.Need-returns-2
+unfolding moreAt
+returns-2 c =
+    let t = c .before .before .before .before in
+    let k = t .before .before .before .before .before in
+    let a = k .before .before .before .before in
+    took _ (sym (ap grantRead (k .fields .given .1)) ∙ k .before .before .grant-at .ensures)
+    (passed _ (T-of (same-tails _ (a .args .s .now) (k .fields .given .0 .0 .pattern) (a .args .first) (omega (arith, seen k .0)) (a .pre .0) (t .before .same-terminal .ensures)) (t .if1 .taken)) refl)
+
+returns-3 : tie.Need-returns-3
+unfolding moreAt
+returns-3 c =
+    let k = c .before .before .before .before .before in
+    let a = k .before .before .before .before in
+    took _ (sym (ap grantRead (k .fields .given .1)) ∙ k .before .before .grant-at .ensures)
+    (failed _ _ (T-false _ .1 (sym (same-tails _ (a .args .s .now) (k .fields .given .0 .0 .pattern) (a .args .first) (omega (arith, seen k .0)) (a .pre .0) (c .before .same-terminal .ensures)) ∙ c .if1 .left)))
+
+pub more-at-spec : {M : Type 1} → statement M
+more-at-spec =
+    tie.close
+    (tie.spec
+    grant-at-requires
+    enum-known-fields
+    enum-told
+    returns
+    sub-same-terminal
+    part-same-terminal-start
+    part-same-terminal-end
+    sub-same-terminal-2
+    part-same-terminal-start-2
+    part-same-terminal-end-2
+    same-terminal-requires
+    add-pairs
+    returns-2
+    returns-3)

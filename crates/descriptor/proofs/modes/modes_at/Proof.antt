@@ -1,0 +1,103 @@
+-- `modes_at` meets its contract. The invariant: the mask is small, and the modes that are left decide. The measure: how many are left. Assumes nothing.
+use mathlib.Core.Path.{_≡_, refl, sym, ap, _∙_}
+use Prim.Native.Nat.{_<_}
+use native.Mathlib.Omega.{arith}
+use borrow.Author.Needs.{needs}
+use Rattle.cbor_item.specs.Reads.{got, many}
+use Rattle.cbor_item.proofs.ReadsLaws.{stopped}
+use Rattle.cbor_item.proofs.CountedLaws.{many-got}
+use Rattle.descriptor.specs.Value.{countAt}
+use Rattle.descriptor.specs.Reader.{modeAt, modesAt}
+use Rattle.descriptor.specs.Answer.{countRead}
+use Rattle.descriptor.proofs.BoundLaws.{mode-small, modes-no, modes-yes}
+use Rattle.descriptor.proofs.modes.modes_at.Statement.{statement}
+use Rattle.descriptor.proofs.modes.modes_at.Tie as tie
+
+abbrev Inv-loop : tie.InvT-loop
+Inv-loop s at value next left₀ mask₀ here₀ left mask here = (mask < 16) × (many (modeAt s) left mask here ≡ many (modeAt s) value 0 next)
+
+abbrev μ-loop : tie.MeasureT-loop
+μ-loop s at value next left₀ mask₀ here₀ left mask here = left
+
+-- what was answered for the head
+counted : (k : tie.After-value Inv-loop μ-loop) → got (k .value .given .0 .0) (k .value .given .0 .1 .0) ≡ countAt (k .before .before .before .before .args .s .now) (k .before .before .before .before .args .at) 4 1 4
+counted k = sym (ap countRead (k .value .given .1)) ∙ k .before .before .count-at .ensures
+
+-- what was answered for one mode
+one : (w : tie.After-with Inv-loop μ-loop) → got (w .with .given .0 .0) (w .with .given .0 .1 .0) ≡ modeAt (w .before .before .before .before .before .before .before .before .before .before .args .s .now) (w .before .before .before .before .loop .mask) (w .before .before .before .before .loop .here)
+one w = sym (ap countRead (w .with .given .1)) ∙ w .before .before .mode-at .ensures
+
+count-at-requires : tie.Need-count-at-requires Inv-loop μ-loop
+count-at-requires c κs = search needs
+
+enum-known-value : tie.Need-enum-known-value Inv-loop μ-loop
+enum-known-value c = search needs
+
+enum-told : tie.Need-enum-told Inv-loop μ-loop
+enum-told c = search needs
+
+returns : tie.Need-returns Inv-loop μ-loop
+unfolding modesAt
+returns c = stopped _ (sym (ap countRead (c .enum-told .given .1)) ∙ c .before .before .count-at .ensures)
+
+loop-holds : tie.Need-loop-holds Inv-loop μ-loop
+loop-holds c = (omega arith, refl)
+
+mode-at-requires : tie.Need-mode-at-requires Inv-loop μ-loop
+mode-at-requires c κs = search needs
+
+enum-known-with : tie.Need-enum-known-with Inv-loop μ-loop
+enum-known-with c = search needs
+
+enum-told-2 : tie.Need-enum-told-2 Inv-loop μ-loop
+enum-told-2 c = search needs
+
+returns-2 : tie.Need-returns-2 Inv-loop μ-loop
+returns-2 c =
+    let l = c .before .before .before .before in
+    let k = l .before .before in
+    let a = k .before .before .before .before .args in
+    modes-no (a .s .now) (a .at) (k .value .given .0 .0) (k .value .given .0 .1 .0) (l .loop .left) (l .loop .mask) (l .loop .here) (counted k) (l .loop .inv .1) (omega arith)
+    (sym (ap countRead (c .enum-told2 .given .1)) ∙ c .before .before .mode-at .ensures)
+
+sub-left : tie.Need-sub-left Inv-loop μ-loop
+sub-left c = search needs
+
+loop-less : tie.Need-loop-less Inv-loop μ-loop
+loop-less c = search needs
+
+loop-again : tie.Need-loop-again Inv-loop μ-loop
+loop-again c =
+    let w = c .before in
+    let l = w .before .before .before .before in
+    let a = l .before .before .before .before .before .before .args in (
+      mode-small (a .s .now) (l .loop .mask) (l .loop .here) (w .with .given .0 .0) (w .with .given .0 .1 .0) (l .loop .inv .0) (one w),
+      sym (many-got (modeAt (a .s .now)) (l .loop .left) (l .loop .mask) (l .loop .here) (w .with .given .0 .0) (w .with .given .0 .1 .0) (omega arith) (one w)) ∙ l .loop .inv .1,
+    )
+
+returns-3 : tie.Need-returns-3 Inv-loop μ-loop
+returns-3 c =
+    let l = c .before in
+    let k = l .before .before in
+    let a = k .before .before .before .before .args in
+    modes-yes (a .s .now) (a .at) (k .value .given .0 .0) (k .value .given .0 .1 .0) (l .loop .left) (l .loop .mask) (l .loop .here) (counted k) (l .loop .inv .1) (omega arith)
+
+pub modes-at-spec : {M : Type 1} → statement M
+modes-at-spec =
+    tie.close
+    (tie.spec
+    Inv-loop
+    μ-loop
+    count-at-requires
+    enum-known-value
+    enum-told
+    returns
+    loop-holds
+    mode-at-requires
+    enum-known-with
+    enum-told-2
+    returns-2
+    sub-left
+    loop-less
+    loop-again
+    returns-3)

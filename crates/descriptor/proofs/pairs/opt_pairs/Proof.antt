@@ -1,0 +1,55 @@
+-- `opt_pairs` meets its contract. Assumes nothing.
+use mathlib.Core.Path.{sym, ap, _∙_}
+use Prim.Native.Nat.{_^_}
+use native.Mathlib.Omega.{arith}
+use Rattle.cbor_item.proofs.BytesLaws.{T-of-not, not-T-of}
+use Rattle.cbor_item.proofs.OptionalLaws.{opt-absent, opt-present, opt-broken}
+use Rattle.descriptor.specs.Answer.{countRead}
+use Rattle.descriptor.proofs.BoundLaws.{key-end}
+use borrow.Author.Needs.{needs}
+use Rattle.descriptor.proofs.pairs.opt_pairs.Statement.{statement}
+use Rattle.descriptor.proofs.pairs.opt_pairs.Tie as tie
+
+has-at-requires : tie.Need-has-at-requires
+has-at-requires c κs = search needs
+
+returns : tie.Need-returns
+returns c = opt-absent _ _ _ (not-T-of _ (c .before .has-at .ensures) (c .if1 .taken))
+
+add-pairs-at : tie.Need-add-pairs-at
+add-pairs-at c =
+    let a = c .before .before .before .before .args in
+    omega (arith, key-end (a .s .now) (a .at) (a .key .now) (2 ^ 64) (T-of-not _ (c .before .has-at .ensures) (c .if1 .left)) (omega arith) (omega arith))
+
+pairs-at-requires : tie.Need-pairs-at-requires
+pairs-at-requires c κs = search needs
+
+enum-known-value : tie.Need-enum-known-value
+enum-known-value c = search needs
+
+enum-told : tie.Need-enum-told
+enum-told c = search needs
+
+returns-2 : tie.Need-returns-2
+returns-2 c =
+    let k = c .before in
+    let e = k .before .before .before in
+    opt-present _ _ _ (T-of-not _ (e .before .has-at .ensures) (e .if1 .left)) (sym (ap countRead (k .value .given .1)) ∙ k .before .before .pairs-at .ensures)
+
+returns-3 : tie.Need-returns-3
+returns-3 c =
+    let e = c .before .before .before in
+    opt-broken _ _ _ (T-of-not _ (e .before .has-at .ensures) (e .if1 .left)) (sym (ap countRead (c .enum-told .given .1)) ∙ c .before .before .pairs-at .ensures)
+
+pub opt-pairs-spec : {M : Type 1} → statement M
+opt-pairs-spec =
+    tie.close
+    (tie.spec
+    has-at-requires
+    returns
+    add-pairs-at
+    pairs-at-requires
+    enum-known-value
+    enum-told
+    returns-2
+    returns-3)

@@ -1,0 +1,105 @@
+-- `pairs_at` meets its contract. The invariant: the last key lies in the bytes, and the pairs that are left decide. The measure: how many are left. Assumes nothing.
+use mathlib.Core.Path.{_≡_, refl, sym, ap, _∙_}
+use Prim.Native.Nat.{_+_, _≤_}
+use native.Mathlib.Omega.{arith}
+use lib.ListN.{length}
+use borrow.Author.Needs.{needs}
+use Rattle.cbor_item.specs.Reads.{got, many}
+use Rattle.cbor_item.specs.Head.{spanOf}
+use Rattle.cbor_item.proofs.ReadsLaws.{stopped}
+use Rattle.cbor_item.proofs.CountedLaws.{many-got}
+use Rattle.descriptor.specs.Value.{countAt}
+use Rattle.descriptor.specs.Reader.{pairAt, pairsAt}
+use Rattle.descriptor.specs.Answer.{countRead, pairRead}
+use Rattle.descriptor.proofs.BoundLaws.{pair-bound, pairs-no, pairs-yes}
+use Rattle.descriptor.proofs.pairs.pairs_at.Statement.{statement}
+use Rattle.descriptor.proofs.pairs.pairs_at.Tie as tie
+
+abbrev Inv-loop : tie.InvT-loop
+Inv-loop s most at value next left₀ last₀ len₀ here₀ left last len here = (last + len ≤ length s) × (many (pairAt s) left (spanOf last len) here ≡ many (pairAt s) value (spanOf 0 0) next)
+
+abbrev μ-loop : tie.MeasureT-loop
+μ-loop s most at value next left₀ last₀ len₀ here₀ left last len here = left
+
+-- what was answered for the head
+counted : (k : tie.After-value Inv-loop μ-loop) → got (k .value .given .0 .0) (k .value .given .0 .1 .0) ≡ countAt (k .before .before .before .before .args .s .now) (k .before .before .before .before .args .at) 5 0 (k .before .before .before .before .args .most)
+counted k = sym (ap countRead (k .value .given .1)) ∙ k .before .before .count-at .ensures
+
+-- what was answered for one pair
+one : (w : tie.After-n Inv-loop μ-loop) → got (spanOf (w .before .before .before .before .loop .here) (w .n .given .0 .0)) (w .n .given .0 .1 .0) ≡ pairAt (w .before .before .before .before .before .before .before .before .before .before .args .s .now) (spanOf (w .before .before .before .before .loop .last) (w .before .before .before .before .loop .len)) (w .before .before .before .before .loop .here)
+one w = sym (ap (pairRead (w .before .before .before .before .loop .here)) (w .n .given .1)) ∙ w .before .before .pair-at .ensures
+
+count-at-requires : tie.Need-count-at-requires Inv-loop μ-loop
+count-at-requires c κs = search needs
+
+enum-known-value : tie.Need-enum-known-value Inv-loop μ-loop
+enum-known-value c = search needs
+
+enum-told : tie.Need-enum-told Inv-loop μ-loop
+enum-told c = search needs
+
+returns : tie.Need-returns Inv-loop μ-loop
+unfolding pairsAt
+returns c = stopped _ (sym (ap countRead (c .enum-told .given .1)) ∙ c .before .before .count-at .ensures)
+
+loop-holds : tie.Need-loop-holds Inv-loop μ-loop
+loop-holds c = (omega arith, refl)
+
+pair-at-requires : tie.Need-pair-at-requires Inv-loop μ-loop
+pair-at-requires c κs = search needs
+
+enum-known-n : tie.Need-enum-known-n Inv-loop μ-loop
+enum-known-n c = search needs
+
+enum-told-2 : tie.Need-enum-told-2 Inv-loop μ-loop
+enum-told-2 c = search needs
+
+returns-2 : tie.Need-returns-2 Inv-loop μ-loop
+returns-2 c =
+    let l = c .before .before .before .before in
+    let k = l .before .before in
+    let a = k .before .before .before .before .args in
+    pairs-no (a .s .now) (a .most) (a .at) (k .value .given .0 .0) (k .value .given .0 .1 .0) (l .loop .left) (l .loop .last) (l .loop .len) (l .loop .here) (counted k) (l .loop .inv .1) (omega arith)
+    (sym (ap (pairRead (l .loop .here)) (c .enum-told2 .given .1)) ∙ c .before .before .pair-at .ensures)
+
+sub-left : tie.Need-sub-left Inv-loop μ-loop
+sub-left c = search needs
+
+loop-less : tie.Need-loop-less Inv-loop μ-loop
+loop-less c = search needs
+
+loop-again : tie.Need-loop-again Inv-loop μ-loop
+loop-again c =
+    let w = c .before in
+    let l = w .before .before .before .before in
+    let a = l .before .before .before .before .before .before .args in (
+      pair-bound (a .s .now) (spanOf (l .loop .last) (l .loop .len)) (l .loop .here) (w .n .given .0 .0) (w .n .given .0 .1 .0) (one w),
+      sym (many-got (pairAt (a .s .now)) (l .loop .left) (spanOf (l .loop .last) (l .loop .len)) (l .loop .here) (spanOf (l .loop .here) (w .n .given .0 .0)) (w .n .given .0 .1 .0) (omega arith) (one w)) ∙ l .loop .inv .1,
+    )
+
+returns-3 : tie.Need-returns-3 Inv-loop μ-loop
+returns-3 c =
+    let l = c .before in
+    let k = l .before .before in
+    let a = k .before .before .before .before .args in
+    pairs-yes (a .s .now) (a .most) (a .at) (k .value .given .0 .0) (k .value .given .0 .1 .0) (l .loop .left) (l .loop .last) (l .loop .len) (l .loop .here) (counted k) (l .loop .inv .1) (omega arith)
+
+pub pairs-at-spec : {M : Type 1} → statement M
+pairs-at-spec =
+    tie.close
+    (tie.spec
+    Inv-loop
+    μ-loop
+    count-at-requires
+    enum-known-value
+    enum-told
+    returns
+    loop-holds
+    pair-at-requires
+    enum-known-n
+    enum-told-2
+    returns-2
+    sub-left
+    loop-less
+    loop-again
+    returns-3)

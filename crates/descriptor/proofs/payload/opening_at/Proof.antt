@@ -1,0 +1,147 @@
+-- `opening_at` meets its contract. Assumes nothing.
+use mathlib.Core.Path.{sym, ap, _∙_}
+use native.Mathlib.Omega.{arith}
+use lib.Dec.{lit<}
+use Rattle.cbor_item.proofs.BytesLaws.{T-of-not, not-T-of}
+use Rattle.cbor_item.proofs.ReadsLaws.{took, stopped, passed, failed}
+use Rattle.descriptor.specs.Keys.{kGrants, kMetadata, kIssuedAt}
+use Rattle.descriptor.specs.Answer.{countRead, optRead, grantsRead, openingEnd}
+use Rattle.descriptor.specs.Reader.{openingAt}
+use Rattle.descriptor.proofs.GrantBounds.{key-room, opt-room}
+use borrow.Author.Needs.{needs}
+use Rattle.descriptor.proofs.payload.opening_at.Statement.{statement}
+use Rattle.descriptor.proofs.payload.opening_at.Tie as tie
+
+count-at-requires : tie.Need-count-at-requires
+count-at-requires c κs = search needs
+
+enum-known-count : tie.Need-enum-known-count
+enum-known-count c = search needs
+
+enum-told : tie.Need-enum-told
+enum-told c = search needs
+
+returns : tie.Need-returns
+unfolding openingAt kGrants
+returns c = stopped _ (sym (ap countRead (c .enum-told .given .1)) ∙ c .before .before .count-at .ensures)
+
+slice-aggregate-has-at : tie.Need-slice-aggregate-has-at
+slice-aggregate-has-at c = search needs
+
+has-at-requires : tie.Need-has-at-requires
+has-at-requires c κs = search needs
+
+returns-2 : tie.Need-returns-2
+unfolding openingAt kGrants
+returns-2 c =
+    let k = c .before .before .before .before in
+    took _ (sym (ap countRead (k .count .given .1)) ∙ k .before .before .count-at .ensures)
+    (stopped _ (failed _ _ (not-T-of _ (c .before .has-at .ensures) (c .if1 .taken))))
+
+add-grants-at : tie.Need-add-grants-at
+add-grants-at c = omega (arith, key-room _ _ _ _ (lit< tt) (c .before .has-at .ensures) (c .if1 .left))
+
+grants-at-requires : tie.Need-grants-at-requires
+grants-at-requires c κs = search needs
+
+enum-known-grants : tie.Need-enum-known-grants
+enum-known-grants c = search needs
+
+enum-told-2 : tie.Need-enum-told-2
+enum-told-2 c = search needs
+
+returns-3 : tie.Need-returns-3
+unfolding openingAt kGrants
+returns-3 c =
+    let e = c .before .before .before in
+    let k = e .before .before .before .before in
+    took _ (sym (ap countRead (k .count .given .1)) ∙ k .before .before .count-at .ensures)
+    (stopped _ (passed _ (T-of-not _ (e .before .has-at .ensures) (e .if1 .left))
+    (sym (ap grantsRead (c .enum-told2 .given .1)) ∙ c .before .before .grants-at .ensures)))
+
+slice-aggregate-opt-pairs : tie.Need-slice-aggregate-opt-pairs
+slice-aggregate-opt-pairs c = search needs
+
+opt-pairs-requires : tie.Need-opt-pairs-requires
+opt-pairs-requires c κs = search needs
+
+enum-told-3 : tie.Need-enum-told-3
+enum-told-3 c = search needs
+
+opening-end-requires : tie.Need-opening-end-requires
+opening-end-requires c κs = search needs
+
+enum-known-pairs : tie.Need-enum-known-pairs
+enum-known-pairs c = search needs
+
+add-opening-end : tie.Need-add-opening-end
+add-opening-end c =
+    let k = c .before in
+    let h = k .before .before .before .before .before .before .before .before .before .before .before .before .before .before .before .before in
+    omega (arith, h .good .0, opt-room (h .args .s .now) _ _ _ (lit< tt) (sym (ap (optRead _) (k .pairs .given .1)) ∙ k .before .before .opt-pairs .ensures))
+
+opening-end-requires-2 : tie.Need-opening-end-requires-2
+opening-end-requires-2 c κs = search needs
+
+enum-told-4 : tie.Need-enum-told-4
+enum-told-4 c = search needs
+
+returns-4 : tie.Need-returns-4
+unfolding openingAt openingEnd kGrants kMetadata kIssuedAt
+returns-4 c =
+    let o = c .before in
+    let m = o .before .before .before .before .before in
+    let e = m .before .before .before in
+    let k = e .before .before .before .before in
+    took _ (sym (ap countRead (k .count .given .1)) ∙ k .before .before .count-at .ensures)
+    (took _ (passed _ (T-of-not _ (e .before .has-at .ensures) (e .if1 .left)) (sym (ap grantsRead (m .grants .given .1)) ∙ m .before .before .grants-at .ensures))
+    (took _ (sym (ap (optRead _) (o .enum-told3 .given .1)) ∙ o .before .before .opt-pairs .ensures) (c .opening-end .ensures)))
+
+returns-5 : tie.Need-returns-5
+unfolding openingAt openingEnd kGrants kMetadata kIssuedAt
+returns-5 c =
+    let o = c .before .before in
+    let m = o .before .before .before .before .before in
+    let e = m .before .before .before in
+    let k = e .before .before .before .before in
+    took _ (sym (ap countRead (k .count .given .1)) ∙ k .before .before .count-at .ensures)
+    (took _ (passed _ (T-of-not _ (e .before .has-at .ensures) (e .if1 .left)) (sym (ap grantsRead (m .grants .given .1)) ∙ m .before .before .grants-at .ensures))
+    (took _ (sym (ap (optRead _) (o .pairs .given .1)) ∙ o .before .before .opt-pairs .ensures) (c .opening-end2 .ensures)))
+
+returns-6 : tie.Need-returns-6
+unfolding openingAt kGrants kMetadata
+returns-6 c =
+    let m = c .before .before .before .before .before in
+    let e = m .before .before .before in
+    let k = e .before .before .before .before in
+    took _ (sym (ap countRead (k .count .given .1)) ∙ k .before .before .count-at .ensures)
+    (took _ (passed _ (T-of-not _ (e .before .has-at .ensures) (e .if1 .left)) (sym (ap grantsRead (m .grants .given .1)) ∙ m .before .before .grants-at .ensures))
+    (stopped _ (sym (ap (optRead _) (c .enum-told4 .given .1)) ∙ c .before .before .opt-pairs .ensures)))
+
+pub opening-at-spec : {M : Type 1} → statement M
+opening-at-spec =
+    tie.close
+    (tie.spec
+    count-at-requires
+    enum-known-count
+    enum-told
+    returns
+    slice-aggregate-has-at
+    has-at-requires
+    returns-2
+    add-grants-at
+    grants-at-requires
+    enum-known-grants
+    enum-told-2
+    returns-3
+    slice-aggregate-opt-pairs
+    opt-pairs-requires
+    enum-told-3
+    opening-end-requires
+    enum-known-pairs
+    add-opening-end
+    opening-end-requires-2
+    enum-told-4
+    returns-4
+    returns-5
+    returns-6)

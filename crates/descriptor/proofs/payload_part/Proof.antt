@@ -1,0 +1,50 @@
+-- `payload_part` meets its contract. Assumes nothing.
+use mathlib.Core.Path.{refl}
+use native.Mathlib.Omega.{arith}
+use Rattle.cbor_item.specs.Bytes.{part}
+use borrow.Author.Needs.{needs}
+use Rattle.descriptor.proofs.payload_part.Statement.{statement}
+use Rattle.descriptor.proofs.payload_part.Tie as tie
+
+enum-known-reading : tie.Need-enum-known-reading
+enum-known-reading c = search needs
+
+content-requires : tie.Need-content-requires
+content-requires c κs = search needs
+
+enum-told : tie.Need-enum-told
+enum-told c = search needs
+
+slice-aggregate-result : tie.Need-slice-aggregate-result
+slice-aggregate-result c = search needs
+
+enum-told-2 : tie.Need-enum-told-2
+enum-told-2 c = search needs
+
+slice-aggregate-result-2 : tie.Need-slice-aggregate-result-2
+slice-aggregate-result-2 c = search needs
+
+returns : tie.Need-returns
+returns c = rw (c .before .before .before .reading .given .1) (c .content .ensures)
+
+returns-2 : tie.Need-returns-2
+unfolding part
+returns-2 c = rw (c .before .enum-told .given .1) (record { inside = omega arith; holds = refl; block = refl; offset = omega arith })
+
+returns-3 : tie.Need-returns-3
+unfolding part
+returns-3 c = rw (c .before .enum-told2 .given .1) (record { inside = omega arith; holds = refl; block = refl; offset = omega arith })
+
+pub payload-part-spec : {M : Type 1} → statement M
+payload-part-spec =
+    tie.close
+    (tie.spec
+    enum-known-reading
+    content-requires
+    enum-told
+    slice-aggregate-result
+    enum-told-2
+    slice-aggregate-result-2
+    returns
+    returns-2
+    returns-3)

@@ -1,0 +1,55 @@
+-- `opt_text` meets its contract. Assumes nothing.
+use mathlib.Core.Path.{sym, ap, _∙_}
+use Prim.Native.Nat.{_^_}
+use native.Mathlib.Omega.{arith}
+use Rattle.cbor_item.specs.Head.{spanRead}
+use Rattle.cbor_item.proofs.BytesLaws.{T-of-not, not-T-of}
+use Rattle.cbor_item.proofs.OptionalLaws.{opt-absent, opt-present, opt-broken}
+use Rattle.descriptor.proofs.BoundLaws.{key-end}
+use borrow.Author.Needs.{needs}
+use Rattle.descriptor.proofs.value.opt_text.Statement.{statement}
+use Rattle.descriptor.proofs.value.opt_text.Tie as tie
+
+has-at-requires : tie.Need-has-at-requires
+has-at-requires c κs = search needs
+
+returns : tie.Need-returns
+returns c = opt-absent _ _ _ (not-T-of _ (c .before .has-at .ensures) (c .if1 .taken))
+
+add-text-at : tie.Need-add-text-at
+add-text-at c =
+    let a = c .before .before .before .before .args in
+    omega (arith, key-end (a .s .now) (a .at) (a .key .now) (2 ^ 64) (T-of-not _ (c .before .has-at .ensures) (c .if1 .left)) (omega arith) (omega arith))
+
+text-at-requires : tie.Need-text-at-requires
+text-at-requires c κs = search needs
+
+enum-known-start : tie.Need-enum-known-start
+enum-known-start c = search needs
+
+enum-told : tie.Need-enum-told
+enum-told c = search needs
+
+returns-2 : tie.Need-returns-2
+returns-2 c =
+    let k = c .before in
+    let e = k .before .before .before in
+    opt-present _ _ _ (T-of-not _ (e .before .has-at .ensures) (e .if1 .left)) (sym (ap spanRead (k .start .given .1)) ∙ k .before .before .text-at .ensures)
+
+returns-3 : tie.Need-returns-3
+returns-3 c =
+    let e = c .before .before .before in
+    opt-broken _ _ _ (T-of-not _ (e .before .has-at .ensures) (e .if1 .left)) (sym (ap spanRead (c .enum-told .given .1)) ∙ c .before .before .text-at .ensures)
+
+pub opt-text-spec : {M : Type 1} → statement M
+opt-text-spec =
+    tie.close
+    (tie.spec
+    has-at-requires
+    returns
+    add-text-at
+    text-at-requires
+    enum-known-start
+    enum-told
+    returns-2
+    returns-3)

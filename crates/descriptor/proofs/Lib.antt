@@ -16,5 +16,7 @@ pub mod Promises
 pub mod GrantBounds
 pub mod PayloadBounds
 pub mod ReadSteps
-pub mod BoundLaws
+pub mod ValueSteps
+pub mod ModeSteps
+pub mod PairSteps
 pub mod LoopLaws

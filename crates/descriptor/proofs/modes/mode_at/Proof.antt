@@ -4,7 +4,8 @@ use Prim.Native.Nat.{_+_, _^_, _<_}
 use native.Mathlib.Omega.{arith}
 use Rattle.cbor_item.proofs.BytesLaws.{T-of}
 use Rattle.descriptor.specs.Keys.{mRead, mWrite, mExecute, mConfigure}
-use Rattle.descriptor.proofs.BoundLaws.{key-end, mode-read, mode-write, mode-execute, mode-configure, mode-none}
+use Rattle.descriptor.proofs.ValueSteps.{key-end}
+use Rattle.descriptor.proofs.ModeSteps.{mode-read, mode-write, mode-execute, mode-configure, mode-none}
 use borrow.Author.Needs.{needs}
 use Rattle.descriptor.proofs.modes.mode_at.Statement.{statement}
 use Rattle.descriptor.proofs.modes.mode_at.Tie as tie

@@ -9,7 +9,7 @@ use Rattle.cbor_item.proofs.CountedLaws.{many-got}
 use Rattle.descriptor.specs.Value.{countAt}
 use Rattle.descriptor.specs.Reader.{modeAt, modesAt}
 use Rattle.descriptor.specs.Answer.{countRead}
-use Rattle.descriptor.proofs.BoundLaws.{mode-small, modes-no, modes-yes}
+use Rattle.descriptor.proofs.ModeSteps.{mode-small, modes-no, modes-yes}
 use Rattle.descriptor.proofs.modes.modes_at.Statement.{statement}
 use Rattle.descriptor.proofs.modes.modes_at.Tie as tie
 

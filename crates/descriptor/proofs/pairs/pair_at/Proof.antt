@@ -6,7 +6,8 @@ use lib.ListN.{length}
 use Rattle.cbor_item.specs.Reads.{got}
 use Rattle.cbor_item.specs.Head.{spanOf, spanRead}
 use Rattle.descriptor.specs.Value.{textAt}
-use Rattle.descriptor.proofs.BoundLaws.{text-bound, pair-none, pair-early, pair-no, pair-yes}
+use Rattle.descriptor.proofs.ValueSteps.{text-bound}
+use Rattle.descriptor.proofs.PairSteps.{pair-none, pair-early, pair-no, pair-yes}
 use borrow.Author.Needs.{needs}
 use Rattle.descriptor.proofs.pairs.pair_at.Statement.{statement}
 use Rattle.descriptor.proofs.pairs.pair_at.Tie as tie

@@ -11,7 +11,7 @@ use Rattle.cbor_item.proofs.CountedLaws.{many-got}
 use Rattle.descriptor.specs.Value.{countAt}
 use Rattle.descriptor.specs.Reader.{pairAt, pairsAt}
 use Rattle.descriptor.specs.Answer.{countRead, pairRead}
-use Rattle.descriptor.proofs.BoundLaws.{pair-bound, pairs-no, pairs-yes}
+use Rattle.descriptor.proofs.PairSteps.{pair-bound, pairs-no, pairs-yes}
 use Rattle.descriptor.proofs.pairs.pairs_at.Statement.{statement}
 use Rattle.descriptor.proofs.pairs.pairs_at.Tie as tie
 

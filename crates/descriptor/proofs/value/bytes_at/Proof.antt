@@ -6,7 +6,7 @@ use Rattle.cbor_item.specs.Reads.{got}
 use Rattle.cbor_item.specs.Head.{spanOf, spanRead, spanAt}
 use Rattle.cbor_item.proofs.ReadsLaws.{stopped}
 use Rattle.descriptor.specs.Value.{bytesAt}
-use Rattle.descriptor.proofs.BoundLaws.{bytes-yes, bytes-no}
+use Rattle.descriptor.proofs.ValueSteps.{bytes-yes, bytes-no}
 use borrow.Author.Needs.{needs}
 use Rattle.descriptor.proofs.value.bytes_at.Statement.{statement}
 use Rattle.descriptor.proofs.value.bytes_at.Tie as tie

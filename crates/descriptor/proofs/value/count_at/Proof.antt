@@ -5,7 +5,7 @@ use Rattle.cbor_item.specs.Reads.{got}
 use Rattle.cbor_item.specs.Head.{headOf, headRead, headAt}
 use Rattle.cbor_item.proofs.ReadsLaws.{stopped}
 use Rattle.descriptor.specs.Value.{countAt}
-use Rattle.descriptor.proofs.BoundLaws.{count-yes, count-no}
+use Rattle.descriptor.proofs.ValueSteps.{count-yes, count-no}
 use borrow.Author.Needs.{needs}
 use Rattle.descriptor.proofs.value.count_at.Statement.{statement}
 use Rattle.descriptor.proofs.value.count_at.Tie as tie

@@ -1,6 +1,6 @@
 -- `is_word` meets its contract. Assumes nothing.
 use mathlib.Core.Path.{_∙_}
-use Rattle.descriptor.proofs.BoundLaws.{word-other}
+use Rattle.descriptor.proofs.ValueSteps.{word-other}
 use borrow.Author.Needs.{needs}
 use Rattle.descriptor.proofs.value.is_word.Statement.{statement}
 use Rattle.descriptor.proofs.value.is_word.Tie as tie

@@ -2,7 +2,7 @@
 use Prim.Native.Nat.{_^_}
 use native.Mathlib.Omega.{arith}
 use Rattle.cbor_item.proofs.BytesLaws.{T-of}
-use Rattle.descriptor.proofs.BoundLaws.{flag-yes, flag-no, key-end}
+use Rattle.descriptor.proofs.ValueSteps.{flag-yes, flag-no, key-end}
 use borrow.Author.Needs.{needs}
 use Rattle.descriptor.proofs.value.keyed_bytes.Statement.{statement}
 use Rattle.descriptor.proofs.value.keyed_bytes.Tie as tie

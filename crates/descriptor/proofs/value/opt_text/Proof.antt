@@ -5,7 +5,7 @@ use native.Mathlib.Omega.{arith}
 use Rattle.cbor_item.specs.Head.{spanRead}
 use Rattle.cbor_item.proofs.BytesLaws.{T-of-not, not-T-of}
 use Rattle.cbor_item.proofs.OptionalLaws.{opt-absent, opt-present, opt-broken}
-use Rattle.descriptor.proofs.BoundLaws.{key-end}
+use Rattle.descriptor.proofs.ValueSteps.{key-end}
 use borrow.Author.Needs.{needs}
 use Rattle.descriptor.proofs.value.opt_text.Statement.{statement}
 use Rattle.descriptor.proofs.value.opt_text.Tie as tie

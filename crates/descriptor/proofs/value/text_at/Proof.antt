@@ -7,7 +7,7 @@ use Rattle.cbor_item.specs.Reads.{got}
 use Rattle.cbor_item.specs.Head.{spanOf, spanRead, spanAt}
 use Rattle.cbor_item.proofs.ReadsLaws.{stopped}
 use Rattle.descriptor.specs.Value.{textAt}
-use Rattle.descriptor.proofs.BoundLaws.{text-yes, text-long, text-no, span-bound}
+use Rattle.descriptor.proofs.ValueSteps.{text-yes, text-long, text-no, span-bound}
 use borrow.Author.Needs.{needs}
 use Rattle.descriptor.proofs.value.text_at.Statement.{statement}
 use Rattle.descriptor.proofs.value.text_at.Tie as tie

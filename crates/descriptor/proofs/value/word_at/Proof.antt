@@ -8,7 +8,7 @@ use Rattle.cbor_item.specs.Head.{spanOf, spanRead, spanAt}
 use Rattle.cbor_item.proofs.ReadsLaws.{stopped}
 use Rattle.descriptor.specs.Value.{wordAt}
 use Rattle.descriptor.specs.Answer.{wordOk}
-use Rattle.descriptor.proofs.BoundLaws.{word-yes, word-no, span-bound}
+use Rattle.descriptor.proofs.ValueSteps.{word-yes, word-no, span-bound}
 use borrow.Author.Needs.{needs}
 use Rattle.descriptor.proofs.value.word_at.Statement.{statement}
 use Rattle.descriptor.proofs.value.word_at.Tie as tie

@@ -6,3 +6,12 @@ pub mod ReadLaws
 pub mod NarrowLaws
 pub mod Promises
 pub mod Cases
+pub mod RangeLaws
+pub mod NotedLaws
+pub mod StandLaws
+pub mod AgreeLaws
+pub mod MarkLaws
+pub mod CoverSteps
+pub mod SearchSteps
+pub mod DeepSteps
+pub mod NarrowSteps

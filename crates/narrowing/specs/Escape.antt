@@ -55,6 +55,11 @@ abbrev pub orZero : Option ℕ → ℕ
 orZero none = 0
 orZero (some k) = k
 
+-- a number, or another where there is none
+abbrev pub orElse : Option ℕ → ℕ → ℕ
+orElse none n = n
+orElse (some k) n = k
+
 -- the fewest names of "**" in a path that escapes by the rule in the mode; past one more than the deepest pattern nothing changes
 unfoldable pub fewestNames : List Rule → Rule → ℕ → Option ℕ
 fewestNames qs g m = least (escapesWith qs g m) 0 (2 + deepest qs)

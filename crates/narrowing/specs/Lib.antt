@@ -1,5 +1,7 @@
 pub mod Meaning
 pub mod Escape
+pub mod Range
+pub mod Scan
 pub mod Narrow
 pub mod Promises
 pub mod Cases

@@ -1,5 +1,17 @@
 // Narrowing a child under a parent, as document 01 has it. What is promised is in specs/Promises.antt.
 
+mod range;
+mod search;
+
+use descriptor::Fields;
+use descriptor::Reading;
+ghost use mathlib.Core.Path.{_≡_};
+ghost use Prim.Native.Nat.{_+_, _≤_};
+ghost use lib.ListN.{length};
+ghost use Rattle.cbor_item.specs.Bytes.{part, same};
+ghost use Rattle.narrowing.specs.Narrow.{narrow as narrowed};
+ghost use Rattle.narrowing.specs.Scan.{comparedIn};
+
 // What narrowing answers: 0; 21, the parent doesn't read; 1 or 2, the child; 19, a constraint pair in either; 18, the child's period is not
 // within the parent's; 20, some path escapes, with the grant's place, the mode and the levels.
 pub enum Narrowing {
@@ -10,4 +22,54 @@ pub enum Narrowing {
     Constrained,
     Period,
     NotCovered { grant: u64, mode: u64, levels: u64 },
+}
+
+// Whether the terminal ids at a of s and at b of t are equal.
+fn same_terminal(s: &[u8], a: usize, t: &[u8], b: usize) -> bool
+    requires { ⌜ (a + 45 ≤ length (now s)) × (b + 45 ≤ length (now t)) ⌝ }
+    ensures { λ o. ⌜ o ≡ same (part (now (s .entry)) a 45) (part (now (t .entry)) b 45) ⌝ }
+{
+    let mut ok = true;
+    let mut i = 0;
+    while i < 45 {
+        ok = ok & (s[a + i] == t[b + i]);
+        i += 1;
+    }
+    ok
+}
+
+// Both read: 19, then 18, then 20, else 0.
+fn compared(s: &[u8], v: Fields, t: &[u8], w: Fields) -> Narrowing
+    requires { ⌜ (v .terminal + 45 ≤ length (now s)) × (w .terminal + 45 ≤ length (now t)) ⌝ }
+    ensures { λ r. ⌜ r ≡ comparedIn (now (s .entry)) v (now (t .entry)) w ⌝ }
+{
+    if v.constraints != 0 {
+        return Narrowing::Constrained;
+    }
+    if w.constraints != 0 {
+        return Narrowing::Constrained;
+    }
+    if w.before < v.before {
+        return Narrowing::Period;
+    }
+    if v.after < w.after {
+        return Narrowing::Period;
+    }
+    let own = same_terminal(s, v.terminal, t, w.terminal);
+    search::first(s, v.first, v.grants, own, t, w.first, w.grants)
+}
+
+// Narrows the child under the parent.
+pub fn narrow(parent: &[u8], child: &[u8]) -> Narrowing
+    ensures { λ r. ⌜ r ≡ narrowed (now (parent .entry)) (now (child .entry)) ⌝ }
+{
+    match descriptor::read_descriptor(parent) {
+        Reading::Read(v) => match descriptor::read_descriptor(child) {
+            Reading::Read(w) => compared(parent, v, child, w),
+            Reading::Structure => Narrowing::Structure,
+            Reading::Validity => Narrowing::Validity,
+        },
+        Reading::Structure => Narrowing::NoParent,
+        Reading::Validity => Narrowing::NoParent,
+    }
 }

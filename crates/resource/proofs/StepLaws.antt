@@ -11,8 +11,8 @@ use lib.ListN.{length, getD, drop, take, length-append, drop-of-length-le}
 use lib.Seq.{drop-cons}
 use lib.Dec.{eqb}
 use borrow.Author.Tests.{eq-eqb, ne-eqb, not-true}
-use Rattle.resource.specs.declared.matcher.Step.{Step}
-use Rattle.resource.specs.declared.matcher.Step.the-variants.{Differ, Finish, Next}
+use Rattle.resource.specs.declared.Step.{Step}
+use Rattle.resource.specs.declared.Step.the-variants.{Differ, Finish, Next}
 use Rattle.resource.specs.Level.{same, isStar, isDeep, levels}
 use Rattle.resource.specs.Pattern.{Levels, done, deep, matches}
 use Rattle.resource.specs.Text.{withLevel, levelsOf, levelsMatch}
@@ -146,33 +146,33 @@ same-more (x ∷ a) (y ∷ b) (suc i) h k =
 -- ---- a first level and what follows it
 
 -- what follows a level: nothing, or "/" and more
-data Ends : List ℕ → Type 0 where
+pub data Ends : List ℕ → Type 0 where
   at-end : Ends []
   at-slash : (t : List ℕ) → Ends (47 ∷ t)
 
 -- a text is its first level and what follows it
-data Front : List ℕ → Type 0 where
+pub data Front : List ℕ → Type 0 where
   front : (l a : List ℕ) → noSlash l ≡ true → Ends a → Front (l ++ a)
 
 -- each parted text is so
-front-of : {s : List ℕ} → Parted s → Front s
+pub front-of : {s : List ℕ} → Parted s → Front s
 front-of (last l h) = subst Front (append-nil l) (front l [] h at-end)
 front-of (more l t h) = front l (47 ∷ t) h (at-slash t)
 
 -- the levels after the first
-tailLevels : List ℕ → List (List ℕ)
+unfoldable pub tailLevels : List ℕ → List (List ℕ)
 tailLevels [] = []
 tailLevels (b ∷ t) = levels t
 
 -- the step where the first levels match, by what follows them
-tailStep : ℕ → ℕ → List ℕ → List ℕ → Step
+unfoldable pub tailStep : ℕ → ℕ → List ℕ → List ℕ → Step
 tailStep i j [] [] = Finish
 tailStep i j [] (y ∷ b) = Differ
 tailStep i j (x ∷ a) [] = Differ
 tailStep i j (x ∷ a) (y ∷ b) = Next i j
 
 -- the levels of a text by its first one
-front-levels : (l : List ℕ) {a : List ℕ} → noSlash l ≡ true → Ends a → levels (l ++ a) ≡ l ∷ tailLevels a
+pub front-levels : (l : List ℕ) {a : List ℕ} → noSlash l ≡ true → Ends a → levels (l ++ a) ≡ l ∷ tailLevels a
 unfolding tailLevels
 front-levels l h at-end = rw (append-nil l) (levels-one l h)
 front-levels l h (at-slash t) = levels-more l t h
@@ -197,7 +197,7 @@ front-length [] h (at-slash t) = refl
 front-length (x ∷ k) h e = rw (front-byte x k h, levelLength) (ap suc (front-length k (front-rest x k h) e))
 
 -- whether the first level is "*"
-front-star : (l : List ℕ) {a : List ℕ} → noSlash l ≡ true → Ends a → starFirst (l ++ a) ≡ isStar l
+pub front-star : (l : List ℕ) {a : List ℕ} → noSlash l ≡ true → Ends a → starFirst (l ++ a) ≡ isStar l
 unfolding starFirst same
 front-star [] h at-end = refl
 front-star [] h (at-slash []) = refl
@@ -264,7 +264,7 @@ same-lengths l k a b true e = rw (zero-add (length l)) (ap (λ (n : ℕ). tailSt
 same-lengths l k a b false e = refl
 
 -- the step of two first levels: "*", or a name and itself
-front-step : (l k : List ℕ) {a b : List ℕ} → noSlash l ≡ true → noSlash k ≡ true → Ends a → Ends b
+pub front-step : (l k : List ℕ) {a b : List ℕ} → noSlash l ≡ true → noSlash k ≡ true → Ends a → Ends b
     → stepOf (l ++ a) (k ++ b) ≡ cond (isStar l || same l k) (tailStep (length l) (length k) a b) Differ
 unfolding stepOf
 front-step l k {a} {b} h g e f = rw (front-star l h e, front-length k g f) (go (isStar l) refl)

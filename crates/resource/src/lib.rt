@@ -9,12 +9,21 @@ ghost use mathlib.Core.Bool.{true};
 ghost use Rattle.resource.specs.Identifier.{isFay, isTerminal};
 ghost use Rattle.resource.specs.Level.{levels as levelsIn, levelsOk};
 ghost use Rattle.resource.specs.Text.{resourceOk, patternOk, levelsMatch, matching};
+ghost use Rattle.resource.specs.Scan.{stepOf};
 
 // What matching two texts answers; Malformed is document 01's 15.
 pub enum Matching {
     Yes,
     No,
     Malformed,
+}
+
+// The first levels of a pattern and of a path: they do not match; they match and are the last; or they match, and "/" follows the
+// p bytes of the one and the r bytes of the other.
+pub enum Step {
+    Differ,
+    Finish,
+    Next { p: usize, r: usize },
 }
 
 // Whether s is a fay id.
@@ -57,6 +66,14 @@ pub fn match_levels(p: &[u8], r: &[u8]) -> bool
     ensures { λ o. ⌜ o ≡ levelsMatch (now (p .entry)) (now (r .entry)) ⌝ }
 {
     matcher::levels(p, r)
+}
+
+// The first level of a pattern's levels p against the first level of r: a name against the same bytes, "*" against any. Where r is a pattern's
+// levels too, its wildcards stand for names that p does not have.
+pub fn step_levels(p: &[u8], r: &[u8]) -> Step
+    ensures { λ o. ⌜ o ≡ stepOf (now (p .entry)) (now (r .entry)) ⌝ }
+{
+    matcher::first_step(p, r)
 }
 
 // Whether the pattern matches the resource id.

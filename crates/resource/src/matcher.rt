@@ -1,5 +1,6 @@
 // Matching a pattern against a path, level by level from the left.
 use crate::Matching;
+use crate::Step;
 use crate::levels::pattern;
 use crate::levels::resource;
 ghost use mathlib.Core.Path.{_≡_};
@@ -8,14 +9,6 @@ ghost use lib.ListN.{length, take};
 ghost use Rattle.resource.specs.Level.{same, isDeep};
 ghost use Rattle.resource.specs.Text.{levelsMatch, matching};
 ghost use Rattle.resource.specs.Scan.{levelLength, nameStep, starFirst, starStep, stepOf};
-
-// The first levels of a pattern and of a path: they do not match; they match and are the last; or they match, and "/" follows the
-// p bytes of the one and the r bytes of the other.
-pub(crate) enum Step {
-    Differ,
-    Finish,
-    Next { p: usize, r: usize },
-}
 
 // How many bytes stand before the first "/".
 fn level_length(s: &[u8]) -> usize
@@ -85,7 +78,7 @@ fn star_step(p: &[u8], r: &[u8]) -> Step
 }
 
 // The first level of p against the first level of r.
-fn first_step(p: &[u8], r: &[u8]) -> Step
+pub(crate) fn first_step(p: &[u8], r: &[u8]) -> Step
     ensures { λ o. ⌜ o ≡ stepOf (now (p .entry)) (now (r .entry)) ⌝ }
 {
     if star_first(p) {

@@ -1,0 +1,252 @@
+-- The search through the bytes of two descriptors (specs/Scan.antt) agrees with the search through their rules (specs/Escape.antt). Assumes nothing.
+use mathlib.Core.Path.{_≡_, refl, sym, ap, ap₂, _∙_}
+use mathlib.Core.Bool.{Bool, true, false, not, cond, _&&_}
+use mathlib.Core.List.{List, [], _∷_}
+use mathlib.Core.Option.{Option, none, some}
+use mathlib.Core.Logic.{⊎-elim}
+use Prim.Native.Nat.{ℕ, zero, suc, _+_, _-_, _≤_, _<_}
+use native.Mathlib.Numerals.{add-one}
+use native.Mathlib.Nat.{add-zero, zero-add, not-suc-le-zero, eq-or-lt-of-le, le-of-suc-le-suc}
+use native.Mathlib.Omega.{arith}
+use lib.ListN.{getD}
+use lib.Dec.{eqb}
+use Rattle.cbor_item.specs.Bytes as cbor
+use Rattle.cbor_item.specs.Bytes.{AreBytes, part}
+use Rattle.cbor_item.specs.Reads.{got}
+use Rattle.resource.specs.Level.{same, levels}
+use Rattle.resource.specs.Pattern.{Pattern, endsDeep}
+use Rattle.resource.specs.Text.{levelsOf}
+use Rattle.resource.proofs.Flags.{same-eq}
+use Rattle.descriptor.specs.Reader.{hasMode, GrantSeen, grantAt, Seen, read, readOf}
+use Rattle.narrowing.specs.declared.Narrowing.the-variants.{NotCovered}
+use Rattle.narrowing.specs.declared.search.Found.{Found}
+use Rattle.narrowing.specs.declared.search.Found.the-variants.{At, Nothing}
+use Rattle.narrowing.specs.Escape.{Rule, covered, canTake, escapesWith, deepest, choose, least, isSome, orZero, fewestNames, lowestMode, ruleAt, firstRule}
+use Rattle.narrowing.specs.Range.{most}
+use Rattle.narrowing.specs.Scan.{below, notedAt, lacksAt, foundAt, lowestFrom, zeros, escapeIn, orNext, firstIn}
+use Rattle.narrowing.specs.Narrow.{ruleOf, rulesIn, answerAt}
+use Rattle.narrowing.proofs.CoveredLaws.{covered-stays}
+use Rattle.narrowing.proofs.NotedLaws.{patternWith, Fits, Stand, no-more, one-more, stand-count, stand-few, zeros-lack, noted-covered, other-covered}
+use Rattle.narrowing.proofs.StandLaws.{read-stands}
+
+-- ---- searches
+
+-- where every number fails, none is found
+least-fails : (f : ℕ → Bool) (a n : ℕ) → ((j : ℕ) → a ≤ j → f j ≡ false) → least f a n ≡ none
+least-fails f a zero h = refl
+least-fails f a (suc n) h = rw (h a (omega arith), least-fails f (suc a) n (λ j l. h j (omega arith)))
+
+-- tests that agree find the same
+least-same : (f g : ℕ → Bool) (a n : ℕ) → ((j : ℕ) → a ≤ j → j < a + n → f j ≡ g j) → least f a n ≡ least g a n
+least-same f g a zero h = refl
+least-same f g a (suc n) h =
+    ap₂ (λ (b : Bool) (o : Option ℕ). choose b (some a) o) (h a (omega arith) (omega arith)) (least-same f g (suc a) n (λ j i l. h j (omega arith) (omega arith)))
+
+-- where nothing changes from c on, a search that has c finds the same as a longer one
+least-longer : (f : ℕ → Bool) (c : ℕ) → ((j : ℕ) → c ≤ j → f j ≡ f c) → (a n e : ℕ) → c ≤ a + n → least f a (suc n) ≡ least f a (suc (n + e))
+least-longer f c s a zero e h = go (f a) refl
+  where
+    go : (b : Bool) → f a ≡ b → choose b (some a) none ≡ choose b (some a) (least f (suc a) (0 + e))
+    go true q = refl
+    go false q = sym (least-fails f (suc a) (0 + e) (λ j l. s j (omega arith) ∙ sym (s a (omega arith)) ∙ q))
+least-longer f c s a (suc n) e h =
+    let i : suc (n + e) ≡ suc n + e = omega arith in
+    ap (choose (f a) (some a)) (least-longer f c s (suc a) n e (omega arith) ∙ ap (least f (suc a)) i)
+
+-- a search from 0 on, where 0 fails and nothing changes after n + 1, finds what one from 1 on does
+deep-search : (f g : ℕ → Bool) (n t : ℕ) → f 0 ≡ false → ((j : ℕ) → n < j → f j ≡ f (suc n)) → n < t
+    → ((j : ℕ) → j < t → f (suc j) ≡ g (suc j)) → least f 0 (2 + n) ≡ least g 1 t
+deep-search f g n t z s l h =
+    let two : 2 + n ≡ suc (suc n) = omega arith in
+    let size : suc (n + (t - suc n)) ≡ t = omega arith in
+    ap (least f 0) two ∙ ap (λ (b : Bool). choose b (some 0) (least f 1 (suc n))) z
+    ∙ least-longer f (suc n) (λ j i. s j i) 1 n (t - suc n) (omega arith) ∙ ap (least f 1) size ∙ least-same f g 1 t later
+  where
+    later : (j : ℕ) → 1 ≤ j → j < 1 + t → f j ≡ g j
+    later zero i k = absurd (omega arith)
+    later (suc j) i k = h j (omega arith)
+
+-- a search from 0 on, where all but 0 fail, finds what one of 0 does
+flat-search : (f g : ℕ → Bool) (n : ℕ) → f 0 ≡ g 0 → ((j : ℕ) → f (suc j) ≡ false) → least f 0 (2 + n) ≡ least g 0 1
+flat-search f g n z s =
+    let two : 2 + n ≡ suc (suc n) = omega arith in
+    ap (least f 0) two ∙ ap₂ (λ (b : Bool) (o : Option ℕ). choose b (some 0) o) z (least-fails f 1 (suc n) later)
+  where
+    later : (j : ℕ) → 1 ≤ j → f j ≡ false
+    later zero i = absurd (omega arith)
+    later (suc j) i = s j
+
+-- ---- one rule and one mode
+
+-- past the deepest pattern no number of names more changes anything
+with-last : (qs : List Rule) (g : Rule) (m k : ℕ) → deepest qs < k → escapesWith qs g m k ≡ escapesWith qs g m (suc (deepest qs))
+with-last qs g m zero h = absurd (not-suc-le-zero h)
+with-last qs g m (suc zero) h =
+    let e : 0 ≡ deepest qs = omega arith in
+    ap (λ (n : ℕ). escapesWith qs g m (suc n)) e
+with-last qs g m (suc (suc k)) h =
+    ⊎-elim (λ (e : deepest qs ≡ suc k). rw e)
+    (λ l. ap (λ (b : Bool). hasMode (g .mask) m && (endsDeep (g .pattern .below) && not b)) (covered-stays qs m (g .pattern) (suc k) l) ∙ with-last qs g m (suc k) l)
+    (eq-or-lt-of-le (le-of-suc-le-suc h))
+
+-- the masks tell for each number of names in which modes the rules cover the pattern
+abbrev Told : List Rule → Pattern → List ℕ → Type 0
+Told qs p d = (m k : ℕ) → canTake (p .below) k ≡ true → k < most → hasMode (getD d k 0) m ≡ covered qs m p k
+
+-- the fewest names of a pattern with "**" are found from 1 on
+fewest-deep : (qs : List Rule) (g : Rule) (d : List ℕ) (m : ℕ) → Told qs (g .pattern) d → deepest qs ≤ 105 → endsDeep (g .pattern .below) ≡ true
+    → hasMode (g .mask) m ≡ true → fewestNames qs g m ≡ least (lacksAt d m) 1 (most - 1)
+unfolding fewestNames
+fewest-deep qs g d m t few e o =
+    deep-search (escapesWith qs g m) (lacksAt d m) (deepest qs) 127 (rw (e, o)) (with-last qs g m) (omega arith)
+    (λ j l. rw (e, o) (ap not (sym (t m (suc j) e (omega arith)))))
+
+-- of a pattern without "**" there is only 0
+fewest-flat : (qs : List Rule) (g : Rule) (d : List ℕ) (m : ℕ) → Told qs (g .pattern) d → endsDeep (g .pattern .below) ≡ false
+    → hasMode (g .mask) m ≡ true → fewestNames qs g m ≡ least (lacksAt d m) 0 1
+unfolding fewestNames
+fewest-flat qs g d m t e o =
+    flat-search (escapesWith qs g m) (lacksAt d m) (deepest qs) (rw (e, o) (ap not (sym (t m 0 (ap not e) (omega arith)))))
+    (λ j. rw (e, o))
+
+-- in a mode that the rule does not have no path escapes by it
+fewest-off : (qs : List Rule) (g : Rule) (m : ℕ) → hasMode (g .mask) m ≡ false → fewestNames qs g m ≡ none
+unfolding fewestNames
+fewest-off qs g m o = least-fails (escapesWith qs g m) 0 (2 + deepest qs) (λ j l. rw o)
+
+-- ---- the modes of a rule
+
+-- what is found of a rule: the lowest mode with its fewest names
+abbrev foundOf : List Rule → Rule → Option ℕ → Found
+foundOf qs g none = Nothing
+foundOf qs g (some m) = At m (orZero (fewestNames qs g m))
+
+-- the search of numbers of names answers the fewest in each mode
+abbrev Fewest : List Rule → Rule → List ℕ → ℕ → ℕ → Type 0
+Fewest qs g d from to = (m : ℕ) → hasMode (g .mask) m ≡ true → fewestNames qs g m ≡ least (lacksAt d m) from (to - from)
+
+-- a mode that the mask has not is passed over
+lowest-step : (qs : List Rule) (g : Rule) (d : List ℕ) (from to m n : ℕ) → Fewest qs g d from to
+    → lowestFrom d (g .mask) from to m (suc n) ≡ foundAt m (fewestNames qs g m) (lowestFrom d (g .mask) from to (suc m) n)
+unfolding lowestFrom
+lowest-step qs g d from to m n h = go (hasMode (g .mask) m) refl
+  where
+    go : (b : Bool) → hasMode (g .mask) m ≡ b
+        → lowestFrom d (g .mask) from to m (suc n) ≡ foundAt m (fewestNames qs g m) (lowestFrom d (g .mask) from to (suc m) n)
+    go true e = rw (lowestFrom, e, h m e, add-one)
+    go false e = rw (lowestFrom, e, fewest-off qs g m e, add-one)
+
+-- a mode in which a path escapes comes before the next modes
+found-step : (qs : List Rule) (g : Rule) (m : ℕ) (rest : Option ℕ)
+    → foundAt m (fewestNames qs g m) (foundOf qs g rest) ≡ foundOf qs g (choose (isSome (fewestNames qs g m)) (some m) rest)
+found-step qs g m rest = go (fewestNames qs g m) refl
+  where
+    go : (o : Option ℕ) → fewestNames qs g m ≡ o → foundAt m o (foundOf qs g rest) ≡ foundOf qs g (choose (isSome o) (some m) rest)
+    go none e = refl
+    go (some k) e = ap (λ (o : Option ℕ). At m (orZero o)) (sym e)
+
+-- the search of modes answers the lowest with its fewest names
+lowest-found : (qs : List Rule) (g : Rule) (d : List ℕ) (from to m n : ℕ) → Fewest qs g d from to
+    → lowestFrom d (g .mask) from to m n ≡ foundOf qs g (least (λ i. isSome (fewestNames qs g i)) m n)
+unfolding lowestFrom
+lowest-found qs g d from to m zero h = refl
+lowest-found qs g d from to m (suc n) h =
+    lowest-step qs g d from to m n h ∙ ap (foundAt m (fewestNames qs g m)) (lowest-found qs g d from to (suc m) n h)
+    ∙ found-step qs g m (least (λ i. isSome (fewestNames qs g i)) (suc m) n)
+
+-- ---- one rule of the child
+
+-- the rule of a mask, a terminal id and a text of levels
+abbrev ruleWith : ℕ → List ℕ → List ℕ → Rule
+ruleWith mask u p = record { mask = mask; pattern = patternWith u p }
+
+-- where the terminal ids are the same, the masks noted tell; where they are not, the zeros do
+told : (s t u p : List ℕ) {n at : ℕ} {qs : List Rule} → Stand s t n at qs → (own : Bool) → same t u ≡ own
+    → Told qs (patternWith u p) (cond own (notedAt s p zeros n at) zeros)
+told s t u p {qs = qs} st true e m k c h =
+    noted-covered s t p st m k c h ∙ ap (λ (x : List ℕ). covered qs m (patternWith x p) k) (same-eq t u e)
+told s t u p st false e m k c h = zeros-lack m k ∙ sym (other-covered s t u p st e m k)
+
+-- masks that tell give the lowest mode with its fewest names
+masks-found : (qs : List Rule) (g : Rule) (d : List ℕ) → Told qs (g .pattern) d → deepest qs ≤ 105 → (b : Bool) → endsDeep (g .pattern .below) ≡ b
+    → cond b (lowestFrom d (g .mask) 1 most 0 4) (lowestFrom d (g .mask) 0 1 0 4) ≡ foundOf qs g (lowestMode qs g)
+unfolding lowestMode
+masks-found qs g d t few true e = lowest-found qs g d 1 most 0 4 (λ m o. fewest-deep qs g d m t few e o)
+masks-found qs g d t few false e = lowest-found qs g d 0 1 0 4 (λ m o. fewest-flat qs g d m t e o)
+
+-- the escape found in the bytes is that of the rule
+escape-found : (s t u p : List ℕ) (mask : ℕ) {n at : ℕ} {qs : List Rule} → Stand s t n at qs
+    → escapeIn s at n (same t u) p mask ≡ foundOf qs (ruleWith mask u p) (lowestMode qs (ruleWith mask u p))
+unfolding escapeIn
+escape-found s t u p mask {n = n} {at = at} {qs = qs} st =
+    masks-found qs (ruleWith mask u p) (cond (same t u) (notedAt s p zeros n at) zeros) (told s t u p st (same t u) refl) (stand-few s t st)
+    (endsDeep (levelsOf (levels p))) refl
+
+-- ---- the rules of the child
+
+-- one grant of the child that is read
+first-step : (s : List ℕ) (at count : ℕ) (own : Bool) (t : List ℕ) (i n from next : ℕ) (g : GrantSeen) → grantAt t from ≡ got g next
+    → firstIn s at count own t i (suc n) from
+    ≡ orNext i (escapeIn s at count own (below t (g .pattern)) (g .mask)) (firstIn s at count own t (suc i) n next)
+unfolding firstIn
+first-step s at count own t i n from next g e = rw (firstIn, e, add-one)
+
+-- an escape by a rule comes before those by the next rules
+answer-step : (qs cs : List Rule) (i : ℕ) (rest : Option ℕ)
+    → orNext i (foundOf qs (ruleAt cs i) (lowestMode qs (ruleAt cs i))) (answerAt qs cs rest)
+    ≡ answerAt qs cs (choose (isSome (lowestMode qs (ruleAt cs i))) (some i) rest)
+answer-step qs cs i rest = go (lowestMode qs (ruleAt cs i)) refl
+  where
+    go : (o : Option ℕ) → lowestMode qs (ruleAt cs i) ≡ o
+        → orNext i (foundOf qs (ruleAt cs i) o) (answerAt qs cs rest) ≡ answerAt qs cs (choose (isSome o) (some i) rest)
+    go none e = refl
+    go (some m) e = ap (λ (o : Option ℕ). NotCovered i (orZero o) (orZero (fewestNames qs (ruleAt cs i) (orZero o)))) (sym e)
+
+-- a grant of the child that fits is the rule of its mask, the child's terminal id and its text of levels
+fits-rule : (s u : List ℕ) (g : GrantSeen) → Fits s u g → ruleWith (g .mask) u (below s (g .pattern)) ≡ ruleOf s g
+fits-rule s u g f = ap (λ (p : Pattern). record { mask = g .mask; pattern = p }) (sym (f .shown))
+
+-- the search through the child's bytes from the i-th grant on answers what the search through its rules from the i-th on does
+first-from : (s t : List ℕ) {count at : ℕ} {qs : List Rule} → Stand s t count at qs → (c u : List ℕ) (cs : List Rule) {n from : ℕ} {rs : List Rule} → Stand c u n from rs
+    → (i : ℕ) → ((j : ℕ) → ruleAt cs (i + j) ≡ ruleAt rs j)
+    → firstIn s at count (same t u) c i n from ≡ answerAt qs cs (least (λ j. isSome (lowestMode qs (ruleAt cs j))) i n)
+unfolding firstIn
+first-from s t st c u cs (no-more from) i h = refl
+first-from s t {count = count} {at = at} {qs = qs} st c u cs (one-more n from next g rs e f r) i h =
+    let here : ruleWith (g .mask) u (below c (g .pattern)) ≡ ruleAt cs i = fits-rule c u g f ∙ sym (h 0) ∙ ap (ruleAt cs) (add-zero i) in
+    let later : (j : ℕ) → ruleAt cs (suc i + j) ≡ ruleAt rs j = λ j. let k : suc i + j ≡ i + suc j = omega arith in ap (ruleAt cs) k ∙ h (suc j) in
+    first-step s at count (same t u) c i n from next g e
+    ∙ ap₂ (orNext i)
+    (escape-found s t u (below c (g .pattern)) (g .mask) st ∙ ap (λ (x : Rule). foundOf qs x (lowestMode qs x)) here)
+    (first-from s t st c u cs r (suc i) later)
+    ∙ answer-step qs cs i (least (λ j. isSome (lowestMode qs (ruleAt cs j))) (suc i) n)
+
+-- the search through the bytes of the child's grants answers the first rule by which a path escapes, its lowest mode and its fewest names
+pub first-found : (s t : List ℕ) {count at : ℕ} {qs : List Rule} → Stand s t count at qs → (c u : List ℕ) {n from : ℕ} {cs : List Rule} → Stand c u n from cs
+    → firstIn s at count (same t u) c 0 n from ≡ answerAt qs cs (firstRule qs cs)
+unfolding firstRule
+first-found s t {qs = qs} st c u {cs = cs} r =
+    first-from s t st c u cs r 0 (λ j. ap (ruleAt cs) (zero-add j))
+    ∙ ap (λ (n : ℕ). answerAt qs cs (least (λ j. isSome (lowestMode qs (ruleAt cs j))) 0 n)) (sym (stand-count c u r))
+
+-- ---- two descriptors
+
+-- the two tests of equality agree
+same-both : (x y : List ℕ) → cbor.same x y ≡ same x y
+unfolding cbor.same same
+same-both [] [] = refl
+same-both [] (b ∷ y) = refl
+same-both (a ∷ x) [] = refl
+same-both (a ∷ x) (b ∷ y) = ap (λ (c : Bool). eqb a b && c) (same-both x y)
+
+-- the search through the bytes of two descriptors that were read answers what the search through their rules does
+pub scan-agrees : (s t : List ℕ) (v w : Seen) → AreBytes s → AreBytes t → readOf s ≡ read v → readOf t ≡ read w
+    → firstIn s (v .payload .opening .grants .start) (v .payload .opening .grants .count)
+    (cbor.same (part s (v .payload .closing .terminal) 45) (part t (w .payload .closing .terminal) 45)) t 0 (w .payload .opening .grants .count)
+    (w .payload .opening .grants .start)
+    ≡ answerAt (rulesIn s v) (rulesIn t w) (firstRule (rulesIn s v) (rulesIn t w))
+scan-agrees s t v w bs bt e f =
+    let a = read-stands s v bs e in
+    let b = read-stands t w bt f in
+    ap (λ (own : Bool). firstIn s (v .payload .opening .grants .start) (v .payload .opening .grants .count) own t 0 (w .payload .opening .grants .count) (w .payload .opening .grants .start)) (same-both _ _)
+    ∙ first-found s _ a t _ b

@@ -1,0 +1,255 @@
+-- What the code's proofs of narrowing use: the bytes of what was read, the tests of `compared`, and the steps of the search through the child's grants. Assumes
+-- nothing.
+use mathlib.Core.Path.{_≡_, refl, sym, ap, ap₂, _∙_, subst}
+use mathlib.Core.Bool.{Bool, true, false, not, cond, _&&_}
+use mathlib.Core.List.{List}
+use Prim.Native.Nat.{ℕ, suc, _+_, _-_, _≤_, _<_}
+use native.Mathlib.Omega.{arith}
+use lib.ListN.{length, getD, take, drop, length-take, length-drop}
+use lib.Dec.{eqb, ltb, leb}
+use mir.Syntax.{w8}
+use mir.Val.{Fits}
+use borrow.Author.Tests.{leb-true, leb-false, lt-ltb, le-ltb, eq-eqb, ne-eqb}
+use Rattle.cbor_item.specs.Bytes as cbor
+use Rattle.cbor_item.specs.Bytes.{AreBytes, part}
+use Rattle.cbor_item.specs.Reads.{Got, got, refused, bind}
+use Rattle.resource.specs.Text.{patternOk}
+use Rattle.descriptor.specs.declared.Fields.{Fields}
+use Rattle.descriptor.specs.declared.Reading.{Reading}
+use Rattle.descriptor.specs.declared.Reading.the-variants as reading
+use Rattle.descriptor.specs.Reader.{GrantSeen, grantAt, Seen, Answer, read, structure, validity, readOf}
+use Rattle.descriptor.specs.Keys.{kResourcePattern}
+use Rattle.descriptor.specs.View.{descriptorView}
+use Rattle.descriptor.specs.Answer.{fieldsOf, readingOf, numberOf}
+use Rattle.descriptor.proofs.Promises.{reads-exactly}
+use Rattle.descriptor.proofs.WordLaws.{terminal-length, pattern-short}
+use Rattle.descriptor.proofs.GrantBounds.{Holds, held, holds-bind, holds-guard, WordTo, word-bounds}
+use Rattle.narrowing.specs.declared.Narrowing.{Narrowing}
+use Rattle.narrowing.specs.declared.Narrowing.the-variants.{Accepted, NoParent, Structure, Validity, Constrained, Period, NotCovered}
+use Rattle.narrowing.specs.declared.search.Found.{Found}
+use Rattle.narrowing.specs.declared.search.Found.the-variants.{At, Nothing}
+use Rattle.narrowing.specs.Scan.{below, escapeIn, orNext, comparedIn, firstIn}
+use Rattle.narrowing.specs.Narrow.{compared, withParent, underParent, narrow}
+use Rattle.narrowing.proofs.StandLaws.{terminal-part}
+use Rattle.narrowing.proofs.AgreeLaws.{scan-agrees}
+
+-- what is known of a lent slice: its elements are bytes
+pub are-bytes : (s : List ℕ) → ((i : ℕ) → Fits w8 (getD s i 0)) → AreBytes s
+are-bytes s h i = omega (arith, h i)
+
+-- ---- both descriptors
+
+-- the opposite tests of two numbers
+later-not : (a b : ℕ) → ltb b a ≡ not (leb a b)
+later-not a b = go (leb a b) refl
+  where
+    go : (t : Bool) → leb a b ≡ t → ltb b a ≡ not t
+    go true e = le-ltb b a (leb-true a b e)
+    go false e = lt-ltb b a (leb-false a b e)
+
+-- the tests one by one are the tests together
+tests-agree : (a b c d : Bool) (x y : Narrowing) → x ≡ y
+    → cond (not a) Constrained (cond (not b) Constrained (cond (not c) Period (cond (not d) Period x))) ≡ cond (a && b) (cond (c && d) y Period) Constrained
+tests-agree false b c d x y e = refl
+tests-agree true false c d x y e = refl
+tests-agree true true false d x y e = refl
+tests-agree true true true false x y e = refl
+tests-agree true true true true x y e = e
+
+-- comparing two descriptors that were read in their bytes answers what comparing them does
+compared-agrees : (s t : List ℕ) (v w : Seen) → AreBytes s → AreBytes t → readOf s ≡ read v → readOf t ≡ read w
+    → comparedIn s (fieldsOf v) t (fieldsOf w) ≡ compared s v t w
+unfolding comparedIn compared
+compared-agrees s t v w bs bt e f =
+    let g : Narrowing = firstIn s (v .payload .opening .grants .start) (v .payload .opening .grants .count)
+    (cbor.same (part s (v .payload .closing .terminal) 45) (part t (w .payload .closing .terminal) 45)) t 0 (w .payload .opening .grants .count)
+    (w .payload .opening .grants .start) in
+    ap₂ (λ (x y : Bool). cond (not (eqb (v .payload .opening .grants .sum .pairs) 0)) Constrained
+    (cond (not (eqb (w .payload .opening .grants .sum .pairs) 0)) Constrained (cond x Period (cond y Period g))))
+    (later-not (v .payload .middle .notBefore) (w .payload .middle .notBefore))
+    (later-not (w .payload .middle .notAfter) (v .payload .middle .notAfter))
+    ∙ tests-agree (eqb (v .payload .opening .grants .sum .pairs) 0) (eqb (w .payload .opening .grants .sum .pairs) 0)
+    (leb (v .payload .middle .notBefore) (w .payload .middle .notBefore)) (leb (w .payload .middle .notAfter) (v .payload .middle .notAfter)) g _
+    (scan-agrees s t v w bs bt e f)
+
+-- ---- what was read
+
+-- the fields of an answer; v on a refusal
+abbrev fieldsIn : Fields → Reading → Fields
+fieldsIn v (reading.Read f) = f
+fieldsIn v reading.Structure = v
+fieldsIn v reading.Validity = v
+
+-- what is seen where the fields v were read
+abbrev SeenAs : List ℕ → Fields → Type 0
+SeenAs s v = (x : Seen) × (readOf s ≡ read x) × (v ≡ fieldsOf x)
+
+-- fields that were read are those of what is seen
+seen-as : (s : List ℕ) (v : Fields) → reading.Read v ≡ readingOf (readOf s) → SeenAs s v
+seen-as s v e = go (readOf s) refl e
+  where
+    go : (a : Answer) → readOf s ≡ a → reading.Read v ≡ readingOf a → SeenAs s v
+    go (read x) f r = (x, f, ap (fieldsIn v) r)
+    go structure f r = absurd (omega (arith, ap numberOf r))
+    go validity f r = absurd (omega (arith, ap numberOf r))
+
+-- a part that is as long as it should be lies within s
+part-in : (s : List ℕ) (at n : ℕ) → 0 < n → length (part s at n) ≡ n → at + n ≤ length s
+unfolding part
+part-in s at n h e = let i = sym (length-take n (drop at s)) ∙ e in let j = length-drop at s in omega (arith, i, j)
+
+-- the terminal id of a descriptor that was read lies within s
+seen-terminal : (s : List ℕ) (x : Seen) → AreBytes s → readOf s ≡ read x → x .payload .closing .terminal + 45 ≤ length s
+seen-terminal s x b e =
+    let r = reads-exactly s b x .0 e in
+    let d = r .0 in
+    let q = r .1 .formed in
+    subst (λ (y : Seen). y .payload .closing .terminal + 45 ≤ length s) (sym (r .3))
+    (subst (λ (u : List ℕ). descriptorView 0 d .payload .closing .terminal + 45 ≤ length u) (sym (r .2))
+    (part-in _ _ 45 (omega arith) (ap length (terminal-part d q) ∙ terminal-length (d .payload .terminal) (q .payload .terminal))))
+
+-- so does that of the fields
+pub terminal-room : (s : List ℕ) (v : Fields) → AreBytes s → reading.Read v ≡ readingOf (readOf s) → v .terminal + 45 ≤ length s
+terminal-room s v b e = let x = seen-as s v e in subst (λ (f : Fields). f .terminal + 45 ≤ length s) (sym (x .2)) (seen-terminal s (x .0) b (x .1))
+
+-- ---- narrowing
+
+-- both read
+pub narrow-both : (s t : List ℕ) (v w : Fields) → AreBytes s → AreBytes t → reading.Read v ≡ readingOf (readOf s) → reading.Read w ≡ readingOf (readOf t)
+    → comparedIn s v t w ≡ narrow s t
+unfolding narrow
+narrow-both s t v w bs bt e f =
+    let x = seen-as s v e in
+    let y = seen-as t w f in
+    ap₂ (λ (a b : Fields). comparedIn s a t b) (x .2) (y .2) ∙ compared-agrees s t (x .0) (y .0) bs bt (x .1) (y .1)
+    ∙ sym (ap (λ (a : Answer). withParent s a t) (x .1) ∙ ap (underParent s (x .0) t) (y .1))
+
+-- the child's structure is refused
+pub narrow-structure : (s t : List ℕ) (v : Fields) → reading.Read v ≡ readingOf (readOf s) → reading.Structure ≡ readingOf (readOf t) → Structure ≡ narrow s t
+unfolding narrow
+narrow-structure s t v e f = let x = seen-as s v e in sym (ap (λ (a : Answer). withParent s a t) (x .1) ∙ go (readOf t) f)
+  where
+    go : (a : Answer) → reading.Structure ≡ readingOf a → underParent s (seen-as s v e .0) t a ≡ Structure
+    go (read y) r = absurd (omega (arith, ap numberOf r))
+    go structure r = refl
+    go validity r = absurd (omega (arith, ap numberOf r))
+
+-- or its period is too long
+pub narrow-validity : (s t : List ℕ) (v : Fields) → reading.Read v ≡ readingOf (readOf s) → reading.Validity ≡ readingOf (readOf t) → Validity ≡ narrow s t
+unfolding narrow
+narrow-validity s t v e f = let x = seen-as s v e in sym (ap (λ (a : Answer). withParent s a t) (x .1) ∙ go (readOf t) f)
+  where
+    go : (a : Answer) → reading.Validity ≡ readingOf a → underParent s (seen-as s v e .0) t a ≡ Validity
+    go (read y) r = absurd (omega (arith, ap numberOf r))
+    go structure r = absurd (omega (arith, ap numberOf r))
+    go validity r = refl
+
+-- the parent is refused
+pub narrow-no-parent : (s t : List ℕ) (r : Reading) → 0 < numberOf r → r ≡ readingOf (readOf s) → NoParent ≡ narrow s t
+unfolding narrow
+narrow-no-parent s t r h e = go (readOf s) e
+  where
+    go : (a : Answer) → r ≡ readingOf a → NoParent ≡ withParent s a t
+    go (read y) f = absurd (omega (arith, h, ap numberOf f))
+    go structure f = refl
+    go validity f = refl
+
+-- ---- the tests of `compared`, one after the other
+
+module _ (s : List ℕ) (v : Fields) (t : List ℕ) (w : Fields) where
+  pub parent-constrained : (v .constraints ≡ 0 → ⊥) → Constrained ≡ comparedIn s v t w
+  unfolding comparedIn
+  parent-constrained a = rw (ne-eqb _ _ a)
+
+  pub child-constrained : v .constraints ≡ 0 → (w .constraints ≡ 0 → ⊥) → Constrained ≡ comparedIn s v t w
+  unfolding comparedIn
+  child-constrained a b = rw (eq-eqb _ _ a, ne-eqb _ _ b)
+
+  pub begins-early : v .constraints ≡ 0 → w .constraints ≡ 0 → w .before < v .before → Period ≡ comparedIn s v t w
+  unfolding comparedIn
+  begins-early a b c = rw (eq-eqb _ _ a, eq-eqb _ _ b, lt-ltb _ _ c)
+
+  pub ends-late : v .constraints ≡ 0 → w .constraints ≡ 0 → v .before ≤ w .before → v .after < w .after → Period ≡ comparedIn s v t w
+  unfolding comparedIn
+  ends-late a b c d = rw (eq-eqb _ _ a, eq-eqb _ _ b, le-ltb _ _ c, lt-ltb _ _ d)
+
+  pub compared-first : {own : Bool} → v .constraints ≡ 0 → w .constraints ≡ 0 → v .before ≤ w .before → w .after ≤ v .after
+      → own ≡ cbor.same (part s (v .terminal) 45) (part t (w .terminal) 45)
+      → firstIn s (v .first) (v .grants) own t 0 (w .grants) (w .first) ≡ comparedIn s v t w
+  unfolding comparedIn
+  compared-first a b c d e = rw (eq-eqb _ _ a, eq-eqb _ _ b, le-ltb _ _ c, le-ltb _ _ d, e)
+
+-- ---- the search through the child's grants
+
+-- a grant's pattern has at least 46 bytes and lies within s
+abbrev GrantFits : List ℕ → GrantSeen → ℕ → Type 0
+GrantFits s g n = (46 ≤ g .pattern .len) × (g .pattern .start + g .pattern .len ≤ length s)
+
+-- whatever was read before
+after-any : {R Q : Type 0} (P : Q → ℕ → Type 0) (o : Got R) (k : R → ℕ → Got Q) → ((r : R) (n : ℕ) → Holds P (k r n)) → Holds P (bind o k)
+unfolding bind
+after-any P (got r n) k f = f r n
+after-any P refused k f = tt
+
+-- so it is of a grant that was read
+grant-fits : (s : List ℕ) (at : ℕ) → Holds (GrantFits s) (grantAt s at)
+unfolding grantAt
+grant-fits s at =
+    after-any (GrantFits s) _ _ (λ c n.
+    after-any (GrantFits s) _ _ (λ mask m.
+    after-any (GrantFits s) _ _ (λ pairs k.
+    holds-bind (WordTo s (k + length kResourcePattern) 46) (GrantFits s) _ _
+    (holds-guard (WordTo s (k + length kResourcePattern) 46) _ _ (λ t. word-bounds patternOk 46 (λ c e. pattern-short c e .0) s (k + length kResourcePattern)))
+    (λ pattern p q. holds-guard (GrantFits s) _ _ (λ t. (q .1, omega (arith, q .0 .ends, q .0 .fits)))))))
+
+pub grant-inside : {g : GrantSeen} {n : ℕ} (s : List ℕ) (at : ℕ) → got g n ≡ grantAt s at → (46 ≤ g .pattern .len) × (g .pattern .start + g .pattern .len ≤ length s)
+grant-inside s at e = held (GrantFits s) (grant-fits s at) e
+
+-- the levels of a pattern, as the code lends them
+abbrev pub lent : List ℕ → GrantSeen → List ℕ
+lent s g = take (g .pattern .start + g .pattern .len - (g .pattern .start + 46)) (drop (g .pattern .start + 46) s)
+
+-- they are those below the terminal id
+lent-below : (s : List ℕ) (g : GrantSeen) → lent s g ≡ below s (g .pattern)
+unfolding part
+lent-below s g =
+    let e : g .pattern .start + g .pattern .len - (g .pattern .start + 46) ≡ g .pattern .len - 46 = omega arith in
+    ap (λ (n : ℕ). take n (drop (g .pattern .start + 46) s)) e
+
+-- the search from the first grant on
+pub first-begin : (s : List ℕ) (at count : ℕ) (own : Bool) (t : List ℕ) (n from : ℕ) → firstIn s at count own t 0 (n - 0) from ≡ firstIn s at count own t 0 n from
+first-begin s at count own t n from = let e : n - 0 ≡ n = omega arith in ap (λ (k : ℕ). firstIn s at count own t 0 k from) e
+
+module _ (s : List ℕ) (at count : ℕ) (own : Bool) (t : List ℕ) (i n here : ℕ) where
+  -- one grant that was read
+  first-one : {g : GrantSeen} {next : ℕ} → i < n → got g next ≡ grantAt t here
+      → orNext i (escapeIn s at count own (lent t g) (g .mask)) (firstIn s at count own t (i + 1) (n - (i + 1)) next) ≡ firstIn s at count own t i (n - i) here
+  unfolding firstIn
+  first-one {g} {next} h e =
+      let l : n - i ≡ suc (n - (i + 1)) = omega arith in
+      ap (λ (p : List ℕ). orNext i (escapeIn s at count own p (g .mask)) (firstIn s at count own t (i + 1) (n - (i + 1)) next)) (lent-below t g)
+      ∙ rw (l, firstIn, ← e)
+
+  -- a grant by which a path escapes
+  pub first-hit : {g : GrantSeen} {next m k : ℕ} → i < n → got g next ≡ grantAt t here → At m k ≡ escapeIn s at count own (lent t g) (g .mask)
+      → NotCovered i m k ≡ firstIn s at count own t i (n - i) here
+  first-hit {next = next} h e f = ap (λ (r : Found). orNext i r (firstIn s at count own t (i + 1) (n - (i + 1)) next)) f ∙ first-one h e
+
+  -- a grant by which none does
+  pub first-next : {g : GrantSeen} {next : ℕ} → i < n → got g next ≡ grantAt t here → Nothing ≡ escapeIn s at count own (lent t g) (g .mask)
+      → firstIn s at count own t (i + 1) (n - (i + 1)) next ≡ firstIn s at count own t i (n - i) here
+  first-next {next = next} h e f = ap (λ (r : Found). orNext i r (firstIn s at count own t (i + 1) (n - (i + 1)) next)) f ∙ first-one h e
+
+  -- no grant
+  pub first-none : i < n → refused ≡ grantAt t here → Accepted ≡ firstIn s at count own t i (n - i) here
+  unfolding firstIn
+  first-none h e =
+      let l : n - i ≡ suc (n - (i + 1)) = omega arith in
+      rw (l, firstIn, ← e)
+
+  -- the last was read
+  pub first-done : n ≤ i → Accepted ≡ firstIn s at count own t i (n - i) here
+  unfolding firstIn
+  first-done h =
+      let l : n - i ≡ 0 = omega arith in
+      rw l

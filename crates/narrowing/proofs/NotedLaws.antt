@@ -1,0 +1,210 @@
+-- Laws of the masks that are noted of the grants of a parent (specs/Scan.antt): they tell which rules cover a pattern. Assumes nothing.
+use mathlib.Core.Path.{_≡_, refl, sym, ap, ap₂, _∙_}
+use mathlib.Core.Bool.{Bool, true, false, cond, _&&_, _||_, and-false}
+use mathlib.Core.List.{List, [], _∷_, _++_}
+use Prim.Native.Nat.{ℕ, zero, suc, _+_, _*_, _-_, _^_, _≤_, _<_}
+use native.Mathlib.Nat.{sub-zero, zero-sub, suc-sub-suc, zero-div}
+use native.Mathlib.Omega.{arith}
+use lib.ListN.{length, getD, take, drop, replicate, length-append, length-replicate}
+use lib.Seq.{take-nil, drop-drop, take-at}
+use lib.Dec.{leb}
+use lib.Bits.{bitOr}
+use Rattle.cbor_item.specs.Bytes.{part}
+use Rattle.cbor_item.specs.Reads.{got}
+use Rattle.resource.specs.Identifier.{isTerminal}
+use Rattle.resource.specs.Level.{same, isName, levels, levelsOk, joined}
+use Rattle.resource.specs.Pattern.{Levels, done, deep, name, star, Pattern, IsPattern, NamesIn, spelled, patternText, before}
+use Rattle.resource.specs.Text.{wellFormed, isPattern, longest, patternOk, levelsOf, patternIn, patternOf}
+use Rattle.resource.specs.Cover.{covers}
+use Rattle.resource.proofs.Flags.{and-left, and-right, no-flag, same-refl}
+use Rattle.resource.proofs.LevelLaws.{levels-one, levels-more}
+use Rattle.resource.proofs.ScanLaws.{Parted, last, more, parted, drop-more}
+use Rattle.resource.proofs.Promises.{patterns-exact, patterns-once}
+use Rattle.descriptor.specs.Reader.{hasMode, GrantSeen, grantAt}
+use Rattle.descriptor.proofs.WordLaws.{terminal-length, pattern-short}
+use Rattle.narrowing.specs.declared.range.Range.{Range}
+use Rattle.narrowing.specs.Escape.{Rule, patternCovers, covered, canTake, deepest}
+use Rattle.narrowing.specs.Range.{inRange, most, textRange, marked}
+use Rattle.narrowing.specs.Scan.{below, notedAt, zeros}
+use Rattle.narrowing.specs.Narrow.{ruleOf, rulesAt}
+use Rattle.narrowing.proofs.RangeLaws.{range-covers, marked-length, marked-at, or-mode}
+
+-- ---- the text of a pattern
+
+-- the pattern of a terminal id and a text of levels
+abbrev pub patternWith : List ℕ → List ℕ → Pattern
+patternWith t p = record { terminal = t; below = levelsOf (levels p) }
+
+-- a well-formed text that is parted is a terminal id of 45 bytes, "/" and its levels
+parted-pattern : {x : List ℕ} → Parted x → wellFormed true (levels x) ≡ true → patternIn (levels x) ≡ patternWith (take 45 x) (drop 46 x)
+unfolding levelsOk
+parted-pattern (last l h) e = no-flag (and-right (isTerminal l) false (rw (levels-one l h) at e))
+parted-pattern (more l t h) e =
+    let id : isTerminal l ≡ true = and-left (isTerminal l) (levelsOk true (levels t)) (rw (levels-more l t h) at e) in
+    let size : length l ≡ 45 = terminal-length l id in
+    let next : 46 ≡ length l + 1 = omega arith in
+    ap patternIn (levels-more l t h)
+    ∙ sym (ap₂ patternWith (take-at l (47 ∷ t) 45 size) (ap (λ (n : ℕ). drop n (l ++ (47 ∷ t))) next ∙ drop-more l t))
+
+-- the pattern that a text spells has its first 45 bytes as the terminal id, and the levels of what follows the 46th
+pub pattern-parts : (x : List ℕ) → patternOk x ≡ true → patternOf x ≡ patternWith (take 45 x) (drop 46 x)
+unfolding patternOk isPattern patternOf
+pattern-parts x e = parted-pattern (parted x) (and-right (leb (length x) longest) (isPattern x) e)
+
+-- a name has a character
+name-some : (n : List ℕ) → isName n ≡ true → 1 ≤ length n
+name-some [] e = no-flag e
+name-some (b ∷ n) e = omega arith
+
+-- each level before "**" is spelled with two characters or more
+spelled-long : (l : List ℕ) (p : Levels) → NamesIn p → length l + 2 * before p ≤ length (joined (l ∷ spelled p))
+spelled-long l done i = omega arith
+spelled-long l deep i = omega (arith, length-append l (47 ∷ 42 ∷ 42 ∷ []))
+spelled-long l (name n p) i = omega (arith, length-append l (47 ∷ joined (n ∷ spelled p)), spelled-long n p (i .1), name-some n (i .0))
+spelled-long l (star p) i = omega (arith, length-append l (47 ∷ joined ((42 ∷ []) ∷ spelled p)), spelled-long (42 ∷ []) p i)
+
+-- a pattern of 256 bytes has at most 105 levels before "**"
+pub pattern-few : (x : List ℕ) → patternOk x ≡ true → before (patternOf x .below) ≤ 105
+unfolding patternOk
+pattern-few x e =
+    let r : (p : Pattern) × IsPattern p × (x ≡ patternText p) = patterns-exact x .0 (and-right (leb (length x) longest) (isPattern x) e) in
+    let p : Pattern = r .0 in
+    let same-pattern : patternOf x ≡ p = ap patternOf (r .2) ∙ patterns-once p (r .1) in
+    let size : length x ≡ length (patternText p) = ap length (r .2) in
+    rw same-pattern
+    (omega (arith, size, pattern-short x e .1, terminal-length (p .terminal) (r .1 .terminal), spelled-long (p .terminal) (p .below) (r .1 .names)))
+
+-- what is dropped of the first n is what the first n - m of the rest are
+drop-take : (m n : ℕ) (l : List ℕ) → drop m (take n l) ≡ take (n - m) (drop m l)
+drop-take zero n l = rw (sub-zero n)
+drop-take (suc m) zero l = rw (zero-sub (suc m))
+drop-take (suc m) (suc n) [] = sym (take-nil (suc n - suc m))
+drop-take (suc m) (suc n) (x ∷ l) = rw (suc-sub-suc n m) (drop-take m n l)
+
+-- the levels of a pattern's part are what follows its 46th byte
+pub part-below : (s : List ℕ) (a n : ℕ) → drop 46 (part s a n) ≡ part s (a + 46) (n - 46)
+unfolding part
+part-below s a n = drop-take 46 n (drop a s) ∙ ap (take (n - 46)) (drop-drop 46 a s)
+
+-- ---- the rules that stand in bytes
+
+-- the pattern of a grant that was seen in s has the terminal id t, and is short
+pub record Fits (s t : List ℕ) (g : GrantSeen) : Type 0 where
+  pub shown : ruleOf s g .pattern ≡ patternWith t (below s (g .pattern))
+  pub few : before (ruleOf s g .pattern .below) ≤ 105
+
+-- the rules of the n grants from a place of s on, each with the terminal id t
+pub data Stand (s t : List ℕ) : ℕ → ℕ → List Rule → Type 0 where
+  no-more : (at : ℕ) → Stand s t 0 at []
+  one-more : (n at next : ℕ) (g : GrantSeen) (rs : List Rule) → grantAt s at ≡ got g next → Fits s t g → Stand s t n next rs
+      → Stand s t (suc n) at (ruleOf s g ∷ rs)
+
+-- they are those that are read there
+pub stand-rules : (s t : List ℕ) {n at : ℕ} {rs : List Rule} → Stand s t n at rs → rulesAt s n at ≡ rs
+unfolding rulesAt
+stand-rules s t (no-more at) = refl
+stand-rules s t (one-more n at next g rs e f r) = rw (rulesAt, e, stand-rules s t r)
+
+-- there are n
+pub stand-count : (s t : List ℕ) {n at : ℕ} {rs : List Rule} → Stand s t n at rs → length rs ≡ n
+stand-count s t (no-more at) = refl
+stand-count s t (one-more n at next g rs e f r) = ap suc (stand-count s t r)
+
+-- their patterns have at most 105 levels before "**"
+pub stand-few : (s t : List ℕ) {n at : ℕ} {rs : List Rule} → Stand s t n at rs → deepest rs ≤ 105
+stand-few s t (no-more at) = omega arith
+stand-few s t (one-more n at next g rs e f r) = omega (arith, f .few, stand-few s t r)
+
+-- ---- the masks
+
+-- a test and true is the test
+and-true : (a : Bool) → (a && true) ≡ a
+and-true true = refl
+and-true false = refl
+
+-- a test or false is the test
+or-false : (a : Bool) → (a || false) ≡ a
+or-false true = refl
+or-false false = refl
+
+-- one grant that is read is noted
+noted-step : (s p d : List ℕ) (n at next : ℕ) (g : GrantSeen) → grantAt s at ≡ got g next
+    → notedAt s p d (suc n) at ≡ notedAt s p (marked 0 d (textRange (below s (g .pattern)) p) (g .mask)) n next
+unfolding notedAt
+noted-step s p d n at next g e = rw (notedAt, e)
+
+-- a mask joined where a test holds
+or-where : (b : Bool) (x mask m : ℕ) → hasMode (cond b (bitOr x mask) x) m ≡ (hasMode x m || (hasMode mask m && b))
+or-where true x mask m = or-mode x mask m ∙ ap (λ (c : Bool). hasMode x m || c) (sym (and-true (hasMode mask m)))
+or-where false x mask m = sym (ap (λ (c : Bool). hasMode x m || c) (and-false (hasMode mask m)) ∙ or-false (hasMode x m))
+
+-- three tests in a row
+or-row : (a b c : Bool) → ((a || b) || c) ≡ (a || (b || c))
+or-row true b c = refl
+or-row false b c = refl
+
+-- a grant's pattern covers another of the same terminal id exactly where the range of the two texts has k
+range-told : (s t p : List ℕ) (g : GrantSeen) (k : ℕ) → Fits s t g → canTake (levelsOf (levels p)) k ≡ true → k < most
+    → inRange (textRange (below s (g .pattern)) p) k ≡ patternCovers (ruleOf s g .pattern) (patternWith t p) k
+unfolding textRange
+range-told s t p g k f c h =
+    let q : Levels = levelsOf (levels (below s (g .pattern))) in
+    sym
+    (ap (λ (x : Pattern). patternCovers x (patternWith t p) k) (f .shown)
+    ∙ ap (λ (b : Bool). b && covers q (levelsOf (levels p)) k) (same-refl t)
+    ∙ range-covers q (levelsOf (levels p)) k c h)
+
+-- after one grant is noted, the mask at k has the modes that it had and those in which the grant's rule covers the pattern with k names
+noted-one : (s t p d : List ℕ) (g : GrantSeen) (m k : ℕ) → Fits s t g → length d ≡ most → canTake (levelsOf (levels p)) k ≡ true → k < most
+    → hasMode (getD (marked 0 d (textRange (below s (g .pattern)) p) (g .mask)) k 0) m
+    ≡ (hasMode (getD d k 0) m || (hasMode (g .mask) m && patternCovers (ruleOf s g .pattern) (patternWith t p) k))
+noted-one s t p d g m k f l c h =
+    let r : Range = textRange (below s (g .pattern)) p in
+    ap (λ (x : ℕ). hasMode x m) (marked-at d r (g .mask) k (omega arith)) ∙ or-where (inRange r k) (getD d k 0) (g .mask) m
+    ∙ ap (λ (b : Bool). hasMode (getD d k 0) m || (hasMode (g .mask) m && b)) (range-told s t p g k f c h)
+
+-- after the grants are noted, the mask at k has the modes that it had and those in which the rules cover the pattern with k names
+noted-more : (s t p : List ℕ) {n at : ℕ} {rs : List Rule} → Stand s t n at rs → (d : List ℕ) (m k : ℕ)
+    → length d ≡ most → canTake (levelsOf (levels p)) k ≡ true → k < most
+    → hasMode (getD (notedAt s p d n at) k 0) m ≡ (hasMode (getD d k 0) m || covered rs m (patternWith t p) k)
+unfolding notedAt
+noted-more s t p (no-more at) d m k l c h = sym (or-false (hasMode (getD d k 0) m))
+noted-more s t p (one-more n at next g rs e f st) d m k l c h =
+    let r : Range = textRange (below s (g .pattern)) p in
+    let d₁ : List ℕ = marked 0 d r (g .mask) in
+    let rest : Bool = covered rs m (patternWith t p) k in
+    ap (λ (x : List ℕ). hasMode (getD x k 0) m) (noted-step s p d n at next g e)
+    ∙ noted-more s t p st d₁ m k (marked-length 0 d r (g .mask) ∙ l) c h
+    ∙ ap (λ (b : Bool). b || rest) (noted-one s t p d g m k f l c h)
+    ∙ or-row (hasMode (getD d k 0) m) (hasMode (g .mask) m && patternCovers (ruleOf s g .pattern) (patternWith t p) k) rest
+
+-- each of n zeros, and what follows them, is 0
+zero-at : (n k : ℕ) → _≡_ {A = ℕ} (getD (replicate n 0) k 0) 0
+zero-at zero k = refl
+zero-at (suc n) zero = refl
+zero-at (suc n) (suc k) = zero-at n k
+
+-- 0 has no mode
+zero-lacks : (m : ℕ) → hasMode 0 m ≡ false
+unfolding hasMode
+zero-lacks m = rw (zero-div (2 ^ m))
+
+-- no mode is noted at first
+pub zeros-lack : (m k : ℕ) → hasMode (getD zeros k 0) m ≡ false
+zeros-lack m k = ap (λ (x : ℕ). hasMode x m) (zero-at most k) ∙ zero-lacks m
+
+-- after the grants are noted, the mask at k has exactly the modes in which the rules cover the pattern with k names
+pub noted-covered : (s t p : List ℕ) {n at : ℕ} {rs : List Rule} → Stand s t n at rs → (m k : ℕ) → canTake (levelsOf (levels p)) k ≡ true → k < most
+    → hasMode (getD (notedAt s p zeros n at) k 0) m ≡ covered rs m (patternWith t p) k
+noted-covered s t p {rs = rs} st m k c h =
+    noted-more s t p st zeros m k (length-replicate {A = ℕ} most 0) c h ∙ ap (λ (b : Bool). b || covered rs m (patternWith t p) k) (zeros-lack m k)
+
+-- rules with another terminal id cover nothing
+pub other-covered : (s t u p : List ℕ) {n at : ℕ} {rs : List Rule} → Stand s t n at rs → same t u ≡ false → (m k : ℕ)
+    → covered rs m (patternWith u p) k ≡ false
+other-covered s t u p (no-more at) e m k = refl
+other-covered s t u p (one-more n at next g rs i f r) e m k =
+    let none-here : patternCovers (ruleOf s g .pattern) (patternWith u p) k ≡ false =
+    ap (λ (x : Pattern). patternCovers x (patternWith u p) k) (f .shown)
+    ∙ ap (λ (b : Bool). b && covers (levelsOf (levels (below s (g .pattern)))) (levelsOf (levels p)) k) e in
+    ap₂ (λ (a b : Bool). (hasMode (g .mask) m && a) || b) none-here (other-covered s t u p r e m k) ∙ ap (λ (b : Bool). b || false) (and-false (hasMode (g .mask) m))

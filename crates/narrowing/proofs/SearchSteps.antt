@@ -1,0 +1,212 @@
+-- Laws of one step of the search (specs/Scan.antt), as the code's loops take them. Assumes nothing.
+use mathlib.Core.Path.{_≡_, refl, sym, ap, _∙_}
+use mathlib.Core.Bool.{Bool, true, false, not, cond, _&&_}
+use mathlib.Core.List.{List}
+use mathlib.Core.Option.{Option, none, some}
+use Prim.Native.Nat.{ℕ, zero, suc, _+_, _-_, _/_, _%_, _^_, _≤_, _<_}
+use native.Mathlib.Numerals.{add-one}
+use native.Mathlib.Omega.{arith}
+use lib.ListN.{length, getD, take, drop, length-drop, length-replicate}
+use lib.Seq.{getD-drop}
+use lib.Dec.{eqb}
+use borrow.Author.Tests.{not-true, not-false}
+use Rattle.cbor_item.specs.Bytes.{part, same}
+use Rattle.cbor_item.specs.Reads.{Got, got, refused, bind}
+use Rattle.cbor_item.specs.Head.{spanOf}
+use Rattle.resource.specs.Level.{levels}
+use Rattle.resource.specs.Pattern.{endsDeep}
+use Rattle.resource.specs.Text.{patternOk, levelsOf}
+use Rattle.descriptor.specs.Keys.{kResourcePattern}
+use Rattle.descriptor.specs.Reader.{hasMode, GrantSeen, grantAt}
+use Rattle.descriptor.proofs.LoopLaws.{same-more}
+use Rattle.descriptor.proofs.GrantBounds.{Holds, held, holds-bind, holds-guard, WordTo, word-bounds}
+use Rattle.descriptor.proofs.WordLaws.{pattern-short}
+use Rattle.narrowing.specs.declared.range.Range.{Range}
+use Rattle.narrowing.specs.declared.search.Found.the-variants.{At, Nothing}
+use Rattle.narrowing.specs.Escape.{least, orElse}
+use Rattle.narrowing.specs.Range.{most, textRange, marked}
+use Rattle.narrowing.specs.Scan.{below, notedAt, lacksAt, lowestFrom, zeros, escapeIn}
+use Rattle.narrowing.proofs.LeastLaws.{least-some}
+use Rattle.narrowing.proofs.RangeLaws.{marked-length}
+
+-- ---- one mode
+
+-- a bit that is 0 is not 1
+bit-lacks : (x : ℕ) → x < 2 → eqb x 0 ≡ not (eqb x 1)
+bit-lacks zero h = refl
+bit-lacks (suc zero) h = refl
+bit-lacks (suc (suc x)) h = absurd (omega arith)
+
+-- the bit of a mode, at its place
+pub lacks-mode : (mask m q : ℕ) → q ≡ mask / 2 ^ m → eqb (q % 2) 0 ≡ not (hasMode mask m)
+unfolding hasMode
+lacks-mode mask m q e = rw e (bit-lacks (mask / 2 ^ m % 2) (omega arith))
+
+-- the mask has a mode that the code did not find lacking
+pub has-of : {b h : Bool} → b ≡ not h → not b ≡ true → h ≡ true
+has-of {b} {h} e t = not-false h (sym e ∙ not-true b t)
+
+-- it lacks one that the code found lacking
+pub lacks-of : {b h : Bool} → b ≡ not h → not b ≡ false → h ≡ false
+lacks-of {b} {h} e t = not-true h (sym e ∙ not-false b t)
+
+-- ---- the least number
+
+module _ (f : ℕ → Bool) (k to : ℕ) where
+  -- k passes
+  pub least-hit : k < to → f k ≡ true → orElse (least f k (to - k)) to ≡ k
+  least-hit h e = let n : to - k ≡ suc (to - (k + 1)) = omega arith in rw (n, e)
+
+  -- k does not pass
+  pub least-miss : k < to → f k ≡ false → orElse (least f k (to - k)) to ≡ orElse (least f (k + 1) (to - (k + 1))) to
+  least-miss h e = let n : to - k ≡ suc (to - (k + 1)) = omega arith in rw (n, e, add-one)
+
+  -- none is left
+  pub least-end : to ≤ k → orElse (least f k (to - k)) to ≡ to
+  least-end h = let n : to - k ≡ 0 = omega arith in rw n
+
+-- an answer below `to` is a number that was found
+hit-some : (o : Option ℕ) (k to : ℕ) → k ≡ orElse o to → k < to → o ≡ some k
+hit-some none k to e h = absurd (omega arith)
+hit-some (some j) k to e h = ap some (sym e)
+
+-- an answer not below `to` is none, as a number that was found is below
+miss-none : (o : Option ℕ) (k to : ℕ) → k ≡ orElse o to → to ≤ k → ((j : ℕ) → o ≡ some j → j < to) → o ≡ none
+miss-none none k to e h f = refl
+miss-none (some j) k to e h f = absurd (omega (arith, f j refl))
+
+-- ---- the lowest mode
+
+module _ (d : List ℕ) (mask from to m : ℕ) where
+  -- the mask does not have the mode
+  pub lowest-skip : m < 4 → hasMode mask m ≡ false → lowestFrom d mask from to m (4 - m) ≡ lowestFrom d mask from to (m + 1) (4 - (m + 1))
+  unfolding lowestFrom
+  lowest-skip h e = let n : 4 - m ≡ suc (4 - (m + 1)) = omega arith in rw (n, e, lowestFrom)
+
+  -- a path escapes in the mode
+  pub lowest-hit : (k : ℕ) → m < 4 → hasMode mask m ≡ true → k ≡ orElse (least (lacksAt d m) from (to - from)) to → k < to
+      → lowestFrom d mask from to m (4 - m) ≡ At m k
+  unfolding lowestFrom
+  lowest-hit k h e f l = let n : 4 - m ≡ suc (4 - (m + 1)) = omega arith in rw (n, e, hit-some (least (lacksAt d m) from (to - from)) k to f l, lowestFrom)
+
+  -- none escapes in the mode
+  pub lowest-miss : (k : ℕ) → from ≤ to → m < 4 → hasMode mask m ≡ true → k ≡ orElse (least (lacksAt d m) from (to - from)) to → to ≤ k
+      → lowestFrom d mask from to m (4 - m) ≡ lowestFrom d mask from to (m + 1) (4 - (m + 1))
+  unfolding lowestFrom
+  lowest-miss k b h e f l =
+      let n : 4 - m ≡ suc (4 - (m + 1)) = omega arith in
+      let o : least (lacksAt d m) from (to - from) ≡ none =
+      miss-none (least (lacksAt d m) from (to - from)) k to f l (λ j q. omega (arith, least-some (lacksAt d m) from (to - from) j q .below)) in
+      rw (n, e, o, lowestFrom)
+
+  -- no mode is left
+  pub lowest-end : 4 ≤ m → lowestFrom d mask from to m (4 - m) ≡ Nothing
+  unfolding lowestFrom
+  lowest-end h = let n : 4 - m ≡ 0 = omega arith in rw (n, lowestFrom)
+
+-- ---- two parts
+
+-- two parts are equal for one byte more
+pub same-parts : (s t : List ℕ) (a b i : ℕ) → a + i < length s → b + i < length t
+    → same (part s a (i + 1)) (part t b (i + 1)) ≡ (same (part s a i) (part t b i) && eqb (getD s (a + i) 0) (getD t (b + i) 0))
+unfolding part
+same-parts s t a b i h k =
+    rw (← getD-drop a s i 0, ← getD-drop b t i 0) (same-more (drop a s) (drop b t) i (omega (arith, length-drop a s)) (omega (arith, length-drop b t)))
+
+-- ---- a grant that was read
+
+-- what is known of the pattern of a grant: it has at least 46 bytes and lies within s
+abbrev pub PatternIn : List ℕ → GrantSeen → ℕ → Type 0
+PatternIn s g n = (46 ≤ g .pattern .len) × (g .pattern .start + g .pattern .len ≤ length s)
+
+-- a reader of which nothing is said, and then another
+then-holds : {R Q : Type 0} (P : Q → ℕ → Type 0) (o : Got R) (k : R → ℕ → Got Q) → ((r : R) (n : ℕ) → Holds P (k r n)) → Holds P (bind o k)
+unfolding bind
+then-holds P (got r n) k f = f r n
+then-holds P refused k f = tt
+
+-- the pattern of a grant is such a one
+pattern-in : (s : List ℕ) (at : ℕ) → Holds (PatternIn s) (grantAt s at)
+unfolding grantAt
+pattern-in s at =
+    then-holds (PatternIn s) _ _ (λ c n. then-holds (PatternIn s) _ _ (λ mask m. then-holds (PatternIn s) _ _ (λ pairs k.
+    holds-bind (WordTo s (k + length kResourcePattern) 46) (PatternIn s) _ _
+    (holds-guard (WordTo s (k + length kResourcePattern) 46) _ _ (λ t. word-bounds patternOk 46 (λ c e. pattern-short c e .0) s (k + length kResourcePattern)))
+    (λ pattern p q. holds-guard (PatternIn s) _ _ (λ t. (q .1, omega (arith, q .0 .ends, q .0 .fits)))))))
+
+-- the same of an answer
+pub pattern-room : {g : GrantSeen} {n : ℕ} (s : List ℕ) (at : ℕ) → got g n ≡ grantAt s at → PatternIn s g n
+pattern-room s at e = held (PatternIn s) (pattern-in s at) e
+
+-- what the code takes of a pattern are its levels
+pub part-below : (s : List ℕ) (start len : ℕ) → take ((start + len) - (start + 46)) (drop (start + 46) s) ≡ below s (spanOf start len)
+unfolding part
+part-below s start len = let e : (start + len) - (start + 46) ≡ len - 46 = omega arith in rw e
+
+-- ---- noting
+
+module _ (s p d : List ℕ) (left here : ℕ) where
+  -- one grant more was noted
+  pub noted-next : {g : GrantSeen} {next : ℕ} → 0 < left → got g next ≡ grantAt s here
+      → notedAt s p (marked 0 d (textRange (below s (g .pattern)) p) (g .mask)) (left - 1) next ≡ notedAt s p d left here
+  unfolding notedAt
+  noted-next {g} {next} h e =
+      let n : suc (left - 1) ≡ left = omega arith in
+      let one : notedAt s p d (suc (left - 1)) here ≡ notedAt s p (marked 0 d (textRange (below s (g .pattern)) p) (g .mask)) (left - 1) next = rw (← e, notedAt) in
+      sym one ∙ ap (λ (k : ℕ). notedAt s p d k here) n
+
+  -- the same of what the code took of its pattern and wrote
+  pub noted-step : {g : GrantSeen} {next : ℕ} (r : Range) (x : List ℕ) → 0 < left → got g next ≡ grantAt s here
+      → r ≡ textRange (take ((g .pattern .start + g .pattern .len) - (g .pattern .start + 46)) (drop (g .pattern .start + 46) s)) p → x ≡ marked 0 d r (g .mask)
+      → notedAt s p x (left - 1) next ≡ notedAt s p d left here
+  noted-step {g} {next} r x h e f q =
+      ap (λ (y : List ℕ). notedAt s p y (left - 1) next)
+      (q ∙ ap (λ (y : Range). marked 0 d y (g .mask)) (f ∙ ap (λ (y : List ℕ). textRange y p) (part-below s (g .pattern .start) (g .pattern .len))))
+      ∙ noted-next h e
+
+  -- none could be read
+  pub noted-stop : 0 < left → refused ≡ grantAt s here → d ≡ notedAt s p d left here
+  unfolding notedAt
+  noted-stop h e = let n : left ≡ suc (left - 1) = omega arith in sym (rw (n, ← e, notedAt))
+
+  -- none is left
+  pub noted-done : left ≤ 0 → d ≡ notedAt s p d left here
+  unfolding notedAt
+  noted-done h = let n : left ≡ 0 = omega arith in sym (rw (n, notedAt))
+
+-- noting keeps the number of masks
+pub noted-length : (s p d : List ℕ) (n at : ℕ) → length (notedAt s p d n at) ≡ length d
+unfolding notedAt
+noted-length s p d zero at = refl
+noted-length s p d (suc n) at = go (grantAt s at) refl (λ x next. noted-length s p x n next)
+  where
+    go : (o : Got GrantSeen) → grantAt s at ≡ o → ((x : List ℕ) (next : ℕ) → length (notedAt s p x n next) ≡ length x) → length (notedAt s p d (suc n) at) ≡ length d
+    go (got g next) e f = rw (e, notedAt) (f (marked 0 d (textRange (below s (g .pattern)) p) (g .mask)) next ∙ marked-length 0 d (textRange (below s (g .pattern)) p) (g .mask))
+    go refused e f = rw (e, notedAt)
+
+-- ---- an escape
+
+module _ (s : List ℕ) (at count : ℕ) (own : Bool) (p : List ℕ) where
+  -- the masks, noted where the terminal id is the parent's
+  abbrev pub masksOf : List ℕ
+  masksOf = cond own (notedAt s p zeros count at) zeros
+
+  -- they are 128
+  pub masks-length : (d : List ℕ) → d ≡ masksOf → 128 ≡ length d
+  masks-length d e = sym (ap length e ∙ by own)
+    where
+      by : (b : Bool) → length (cond b (notedAt s p zeros count at) zeros) ≡ 128
+      by true = noted-length s p zeros count at ∙ length-replicate {A = ℕ} most 0
+      by false = length-replicate {A = ℕ} most 0
+
+  -- "**" takes one name or more
+  pub escape-deep : (mask : ℕ) (d : List ℕ) (b : Bool) → d ≡ masksOf → b ≡ endsDeep (levelsOf (levels p)) → b ≡ true
+      → lowestFrom d mask 1 128 0 4 ≡ escapeIn s at count own p mask
+  unfolding escapeIn
+  escape-deep mask d b e f t = ap (λ (x : List ℕ). lowestFrom x mask 1 128 0 4) e ∙ rw (sym f ∙ t)
+
+  -- without "**" there is none to take
+  pub escape-flat : (mask : ℕ) (d : List ℕ) (b : Bool) → d ≡ masksOf → b ≡ endsDeep (levelsOf (levels p)) → b ≡ false
+      → lowestFrom d mask 0 1 0 4 ≡ escapeIn s at count own p mask
+  unfolding escapeIn
+  escape-flat mask d b e f t = ap (λ (x : List ℕ). lowestFrom x mask 0 1 0 4) e ∙ rw (sym f ∙ t)

@@ -1,0 +1,48 @@
+-- `compared` meets its contract. Assumes nothing.
+use mathlib.Core.Path.{_∙_}
+use Rattle.narrowing.proofs.NarrowSteps.{parent-constrained, child-constrained, begins-early, ends-late, compared-first}
+use borrow.Author.Needs.{needs}
+use Rattle.narrowing.proofs.compared.Statement.{statement}
+use Rattle.narrowing.proofs.compared.Tie as tie
+
+returns : tie.Need-returns
+returns c = parent-constrained _ _ _ _ (c .if1 .taken)
+
+returns-2 : tie.Need-returns-2
+returns-2 c = child-constrained _ _ _ _ (c .before .before .if1 .left) (c .if2 .taken)
+
+returns-3 : tie.Need-returns-3
+returns-3 c =
+    let b = c .before .before .before in
+    begins-early _ _ _ _ (b .before .before .if1 .left) (b .if2 .left) (c .if3 .taken)
+
+returns-4 : tie.Need-returns-4
+returns-4 c =
+    let d = c .before .before .before in
+    let b = d .before .before .before in
+    ends-late _ _ _ _ (b .before .before .if1 .left) (b .if2 .left) (d .if3 .left) (c .if4 .taken)
+
+same-terminal-requires : tie.Need-same-terminal-requires
+same-terminal-requires c κs = search needs
+
+first-requires : tie.Need-first-requires
+first-requires c κs = search needs
+
+returns-5 : tie.Need-returns-5
+returns-5 c =
+    let e = c .before .before in
+    let d = e .before .before .before in
+    let b = d .before .before .before in
+    c .first .ensures ∙ compared-first _ _ _ _ (b .before .before .if1 .left) (b .if2 .left) (d .if3 .left) (e .if4 .left) (c .before .same-terminal .ensures)
+
+pub compared-spec : {M : Type 1} → statement M
+compared-spec =
+    tie.close
+    (tie.spec
+    returns
+    returns-2
+    returns-3
+    returns-4
+    same-terminal-requires
+    first-requires
+    returns-5)

@@ -1,0 +1,63 @@
+-- `least_lacking` meets its contract. The invariant: the search from k on answers what the whole search does. The measure: what is left. Assumes nothing.
+use mathlib.Core.Path.{_≡_, refl, sym, _∙_}
+use Prim.Native.Nat.{_-_, _≤_}
+use native.Mathlib.Omega.{arith}
+use borrow.Author.Needs.{needs}
+use Rattle.narrowing.specs.Escape.{least, orElse}
+use Rattle.narrowing.specs.Scan.{lacksAt}
+use Rattle.narrowing.proofs.SearchSteps.{least-hit, least-miss, least-end}
+use Rattle.narrowing.proofs.search.least_lacking.Statement.{statement}
+use Rattle.narrowing.proofs.search.least_lacking.Tie as tie
+
+abbrev Inv-loop : tie.InvT-loop
+Inv-loop d mode from to k₀ k = (k ≤ to) × (orElse (least (lacksAt d mode) from (to - from)) to ≡ orElse (least (lacksAt d mode) k (to - k)) to)
+
+abbrev μ-loop : tie.MeasureT-loop
+μ-loop d mode from to k₀ k = to - k
+
+loop-holds : tie.Need-loop-holds Inv-loop μ-loop
+loop-holds c = (c .before .pre .1, refl)
+
+mul-lacks : tie.Need-mul-lacks Inv-loop μ-loop
+mul-lacks c = search needs
+
+shared-slice-read-lacks : tie.Need-shared-slice-read-lacks Inv-loop μ-loop
+shared-slice-read-lacks c = search needs
+
+lacks-requires : tie.Need-lacks-requires Inv-loop μ-loop
+lacks-requires c κs = search needs
+
+returns : tie.Need-returns Inv-loop μ-loop
+returns c =
+    let l = c .before .before .before .before in
+    sym (l .loop .inv .1 ∙ least-hit _ _ _ (c .before .before .before .loop-test .taken) (sym (c .before .lacks .ensures) ∙ c .if1 .taken))
+
+add-k : tie.Need-add-k Inv-loop μ-loop
+add-k c = search needs
+
+loop-less : tie.Need-loop-less Inv-loop μ-loop
+loop-less c = search needs
+
+loop-again : tie.Need-loop-again Inv-loop μ-loop
+loop-again c =
+    let l = c .before .before .before .before in
+    (omega arith, l .loop .inv .1 ∙ least-miss _ _ _ (c .before .before .before .loop-test .taken) (sym (c .before .lacks .ensures) ∙ c .if1 .left))
+
+returns-2 : tie.Need-returns-2 Inv-loop μ-loop
+returns-2 c = sym (c .before .loop .inv .1 ∙ least-end _ _ _ (c .loop-test .left))
+
+pub least-lacking-spec : {M : Type 1} → statement M
+least-lacking-spec =
+    tie.close
+    (tie.spec
+    Inv-loop
+    μ-loop
+    loop-holds
+    mul-lacks
+    shared-slice-read-lacks
+    lacks-requires
+    returns
+    add-k
+    loop-less
+    loop-again
+    returns-2)

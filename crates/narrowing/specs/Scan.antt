@@ -1,0 +1,77 @@
+-- What the code's inner functions answer as they walk the grants of both descriptors. A reader of the promises does not need this page: the laws in proofs/ tie it
+-- to Escape.antt and Narrow.antt.
+use mathlib.Core.Bool.{Bool, true, false, not, cond}
+use mathlib.Core.List.{List, [], _∷_}
+use mathlib.Core.Option.{Option, none, some}
+use Prim.Native.Nat.{ℕ, zero, suc, _+_, _-_}
+use lib.ListN.{getD, replicate}
+use Rattle.cbor_item.specs.Bytes.{part, same}
+use lib.Dec.{eqb, ltb}
+use Rattle.cbor_item.specs.Reads.{Got, got, refused}
+use Rattle.cbor_item.specs.Head.{Span}
+use Rattle.resource.specs.Level.{levels}
+use Rattle.resource.specs.Pattern.{endsDeep}
+use Rattle.resource.specs.Text.{levelsOf}
+use Rattle.descriptor.specs.declared.Fields.{Fields}
+use Rattle.descriptor.specs.Reader.{hasMode, grantAt}
+use Rattle.narrowing.specs.declared.Narrowing.{Narrowing}
+use Rattle.narrowing.specs.declared.Narrowing.the-variants.{Accepted, Constrained, Period, NotCovered}
+use Rattle.narrowing.specs.declared.search.Found.{Found}
+use Rattle.narrowing.specs.declared.search.Found.the-variants.{At, Nothing}
+use Rattle.narrowing.specs.Escape.{least}
+use Rattle.narrowing.specs.Range.{most, textRange, marked}
+
+-- the levels of a pattern's part of s: what follows the terminal id and "/"
+abbrev pub below : List ℕ → Span → List ℕ
+below s c = part s (c .start + 46) (c .len - 46)
+
+-- the masks after the n grants from a place of s on were noted
+unfoldable pub notedAt : List ℕ → List ℕ → List ℕ → ℕ → ℕ → List ℕ
+notedAt s p d zero at = d
+notedAt s p d (suc n) at =
+    elim (grantAt s at) [ got g next ↦ notedAt s p (marked 0 d (textRange (below s (g .pattern)) p) (g .mask)) n next | refused ↦ d ]
+
+-- the mask noted for k names lacks the mode
+abbrev pub lacksAt : List ℕ → ℕ → ℕ → Bool
+lacksAt d m k = not (hasMode (getD d k 0) m)
+
+-- a mode with its number of names, or what the next modes have
+abbrev pub foundAt : ℕ → Option ℕ → Found → Found
+foundAt m none rest = rest
+foundAt m (some k) rest = At m k
+
+-- the first, of the n modes from m on that the mask has, in which a path escapes with a number of names from `from` on and below `to`
+unfoldable pub lowestFrom : List ℕ → ℕ → ℕ → ℕ → ℕ → ℕ → Found
+lowestFrom d mask from to m zero = Nothing
+lowestFrom d mask from to m (suc n) =
+    elim (hasMode mask m) [ true ↦ foundAt m (least (lacksAt d m) from (to - from)) (lowestFrom d mask from to (m + 1) n) | false ↦ lowestFrom d mask from to (m + 1) n ]
+
+-- no mode is noted
+abbrev pub zeros : List ℕ
+zeros = replicate most 0
+
+-- how a path escapes by a grant with the levels p and the mask, under the `count` grants from a place of s on; `own` where the terminal id is theirs
+unfoldable pub escapeIn : List ℕ → ℕ → ℕ → Bool → List ℕ → ℕ → Found
+escapeIn s at count own p mask =
+    let d = cond own (notedAt s p zeros count at) zeros in
+    cond (endsDeep (levelsOf (levels p))) (lowestFrom d mask 1 most 0 4) (lowestFrom d mask 0 1 0 4)
+
+-- an escape by the grant at i, or what the next grants have
+abbrev pub orNext : ℕ → Found → Narrowing → Narrowing
+orNext i (At m k) rest = NotCovered i m k
+orNext i Nothing rest = rest
+
+-- the first, of the n grants from a place of t on, of which i came before, by which a path escapes
+unfoldable pub firstIn : List ℕ → ℕ → ℕ → Bool → List ℕ → ℕ → ℕ → ℕ → Narrowing
+firstIn s at count own t i zero from = Accepted
+firstIn s at count own t i (suc n) from =
+    elim (grantAt t from) [ got g next ↦ orNext i (escapeIn s at count own (below t (g .pattern)) (g .mask)) (firstIn s at count own t (i + 1) n next) | refused ↦ Accepted ]
+
+-- both read: 19, then 18, then 20, else 0
+unfoldable pub comparedIn : List ℕ → Fields → List ℕ → Fields → Narrowing
+comparedIn s v t w =
+    cond (not (eqb (v .constraints) 0)) Constrained
+    (cond (not (eqb (w .constraints) 0)) Constrained
+    (cond (ltb (w .before) (v .before)) Period
+    (cond (ltb (v .after) (w .after)) Period
+    (firstIn s (v .first) (v .grants) (same (part s (v .terminal) 45) (part t (w .terminal) 45)) t 0 (w .grants) (w .first)))))

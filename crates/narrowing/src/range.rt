@@ -1,0 +1,85 @@
+// For which numbers of names one pattern's levels cover another's.
+use resource::Step;
+ghost use mathlib.Core.Path.{_≡_};
+ghost use Prim.Native.Nat.{_<_};
+ghost use Rattle.resource.specs.Level.{levels, isDeep};
+ghost use Rattle.resource.specs.Text.{levelsOf};
+ghost use Rattle.narrowing.specs.Range.{freshRange, textRange, marked};
+
+// The numbers from lo on and below hi.
+pub(crate) struct Range {
+    pub(crate) lo: usize,
+    pub(crate) hi: usize,
+}
+
+// Whether p is "**".
+pub(crate) fn is_deep(p: &[u8]) -> bool
+    ensures { λ o. ⌜ o ≡ isDeep (now (p .entry)) ⌝ }
+{
+    if p.len() != 2 {
+        return false;
+    }
+    (p[0] == b'*') & (p[1] == b'*')
+}
+
+// How many names that q does not have q matches: only "*" and "**" do.
+fn fresh(q: &[u8]) -> Range
+    ensures { λ r. ⌜ r ≡ freshRange 0 (levelsOf (levels (now (q .entry)))) ⌝ }
+{
+    let mut rest = q;
+    let mut e: usize = 0;
+    loop {
+        if is_deep(rest) {
+            return Range { lo: e + 1, hi: 128 };
+        }
+        if rest.len() == 0 {
+            return Range { lo: 0, hi: 0 };
+        }
+        if rest[0] != b'*' {
+            return Range { lo: 0, hi: 0 };
+        }
+        if rest.len() == 1 {
+            return Range {
+                lo: e + 1,
+                hi: e + 2,
+            };
+        }
+        if rest[1] != b'/' {
+            return Range { lo: 0, hi: 0 };
+        }
+        rest = &rest[2..];
+        e += 1;
+    }
+}
+
+// With how many names for the "**" of p q covers p.
+pub(crate) fn cover(q: &[u8], p: &[u8]) -> Range
+    ensures { λ r. ⌜ r ≡ textRange (now (q .entry)) (now (p .entry)) ⌝ }
+{
+    if is_deep(q) {
+        return Range { lo: 0, hi: 128 };
+    }
+    if is_deep(p) {
+        return fresh(q);
+    }
+    match resource::step_levels(q, p) {
+        Step::Differ => Range { lo: 0, hi: 0 },
+        Step::Finish => Range { lo: 0, hi: 1 },
+        Step::Next { p: i, r: j } => cover(&q[i + 1..], &p[j + 1..]),
+    }
+}
+
+// Joins the mask to those at the numbers of the range.
+pub(crate) fn mark(d: &mut [u64], r: Range, mask: u64)
+    ensures { λ o. ⌜ now (d .exit) ≡ marked 0 (now (d .entry)) r mask ⌝ }
+{
+    let hi = r.hi;
+    let mut k = r.lo;
+    while k < hi {
+        if d.len() <= k {
+            return;
+        }
+        d[k] = d[k] | mask;
+        k += 1;
+    }
+}

@@ -3,10 +3,9 @@ use mathlib.Core.Path.{_≡_, refl, sym, ap, ap₂, _∙_}
 use mathlib.Core.Bool.{Bool, true, false, not, cond, _&&_}
 use mathlib.Core.List.{List, [], _∷_}
 use mathlib.Core.Option.{Option, none, some}
-use mathlib.Core.Logic.{⊎-elim}
 use Prim.Native.Nat.{ℕ, zero, suc, _+_, _-_, _≤_, _<_}
 use native.Mathlib.Numerals.{add-one}
-use native.Mathlib.Nat.{add-zero, zero-add, not-suc-le-zero, eq-or-lt-of-le, le-of-suc-le-suc}
+use native.Mathlib.Nat.{add-zero, zero-add}
 use native.Mathlib.Omega.{arith}
 use lib.ListN.{getD}
 use lib.Dec.{eqb}
@@ -25,7 +24,7 @@ use Rattle.narrowing.specs.Escape.{Rule, covered, canTake, escapesWith, 
 use Rattle.narrowing.specs.Range.{most}
 use Rattle.narrowing.specs.Scan.{below, notedAt, lacksAt, foundAt, lowestFrom, zeros, escapeIn, orNext, firstIn}
 use Rattle.narrowing.specs.Narrow.{ruleOf, rulesIn, answerAt}
-use Rattle.narrowing.proofs.CoveredLaws.{covered-stays}
+use Rattle.narrowing.proofs.SearchLaws.{with-last}
 use Rattle.narrowing.proofs.NotedLaws.{patternWith, Fits, Stand, no-more, one-more, stand-count, stand-few, zeros-lack, noted-covered, other-covered}
 use Rattle.narrowing.proofs.StandLaws.{read-stands}
 
@@ -77,17 +76,6 @@ flat-search f g n z s =
     later (suc j) i = s j
 
 -- ---- one rule and one mode
-
--- past the deepest pattern no number of names more changes anything
-with-last : (qs : List Rule) (g : Rule) (m k : ℕ) → deepest qs < k → escapesWith qs g m k ≡ escapesWith qs g m (suc (deepest qs))
-with-last qs g m zero h = absurd (not-suc-le-zero h)
-with-last qs g m (suc zero) h =
-    let e : 0 ≡ deepest qs = omega arith in
-    ap (λ (n : ℕ). escapesWith qs g m (suc n)) e
-with-last qs g m (suc (suc k)) h =
-    ⊎-elim (λ (e : deepest qs ≡ suc k). rw e)
-    (λ l. ap (λ (b : Bool). hasMode (g .mask) m && (endsDeep (g .pattern .below) && not b)) (covered-stays qs m (g .pattern) (suc k) l) ∙ with-last qs g m (suc k) l)
-    (eq-or-lt-of-le (le-of-suc-le-suc h))
 
 -- the masks tell for each number of names in which modes the rules cover the pattern
 abbrev Told : List Rule → Pattern → List ℕ → Type 0

@@ -12,18 +12,15 @@ use mir.Val.{Fits}
 use borrow.Author.Tests.{leb-true, leb-false, lt-ltb, le-ltb, eq-eqb, ne-eqb}
 use Rattle.cbor_item.specs.Bytes as cbor
 use Rattle.cbor_item.specs.Bytes.{AreBytes, part}
-use Rattle.cbor_item.specs.Reads.{Got, got, refused, bind}
-use Rattle.resource.specs.Text.{patternOk}
+use Rattle.cbor_item.specs.Reads.{got, refused}
 use Rattle.descriptor.specs.declared.Fields.{Fields}
 use Rattle.descriptor.specs.declared.Reading.{Reading}
 use Rattle.descriptor.specs.declared.Reading.the-variants as reading
 use Rattle.descriptor.specs.Reader.{GrantSeen, grantAt, Seen, Answer, read, structure, validity, readOf}
-use Rattle.descriptor.specs.Keys.{kResourcePattern}
 use Rattle.descriptor.specs.View.{descriptorView}
 use Rattle.descriptor.specs.Answer.{fieldsOf, readingOf, numberOf}
 use Rattle.descriptor.proofs.Promises.{reads-exactly}
-use Rattle.descriptor.proofs.WordLaws.{terminal-length, pattern-short}
-use Rattle.descriptor.proofs.GrantBounds.{Holds, held, holds-bind, holds-guard, WordTo, word-bounds}
+use Rattle.descriptor.proofs.WordLaws.{terminal-length}
 use Rattle.narrowing.specs.declared.Narrowing.{Narrowing}
 use Rattle.narrowing.specs.declared.Narrowing.the-variants.{Accepted, NoParent, Structure, Validity, Constrained, Period, NotCovered}
 use Rattle.narrowing.specs.declared.search.Found.{Found}
@@ -31,6 +28,7 @@ use Rattle.narrowing.specs.declared.search.Found.the-variants.{At, Nothi
 use Rattle.narrowing.specs.Scan.{below, escapeIn, orNext, comparedIn, firstIn}
 use Rattle.narrowing.specs.Narrow.{compared, withParent, underParent, narrow}
 use Rattle.narrowing.proofs.StandLaws.{terminal-part}
+use Rattle.narrowing.proofs.SearchSteps.{lent-levels}
 use Rattle.narrowing.proofs.AgreeLaws.{scan-agrees}
 
 -- what is known of a lent slice: its elements are bytes
@@ -181,40 +179,13 @@ module _ (s : List ℕ) (v : Fields) (t : List ℕ) (w : Fields) where
 
 -- ---- the search through the child's grants
 
--- a grant's pattern has at least 46 bytes and lies within s
-abbrev GrantFits : List ℕ → GrantSeen → ℕ → Type 0
-GrantFits s g n = (46 ≤ g .pattern .len) × (g .pattern .start + g .pattern .len ≤ length s)
-
--- whatever was read before
-after-any : {R Q : Type 0} (P : Q → ℕ → Type 0) (o : Got R) (k : R → ℕ → Got Q) → ((r : R) (n : ℕ) → Holds P (k r n)) → Holds P (bind o k)
-unfolding bind
-after-any P (got r n) k f = f r n
-after-any P refused k f = tt
-
--- so it is of a grant that was read
-grant-fits : (s : List ℕ) (at : ℕ) → Holds (GrantFits s) (grantAt s at)
-unfolding grantAt
-grant-fits s at =
-    after-any (GrantFits s) _ _ (λ c n.
-    after-any (GrantFits s) _ _ (λ mask m.
-    after-any (GrantFits s) _ _ (λ pairs k.
-    holds-bind (WordTo s (k + length kResourcePattern) 46) (GrantFits s) _ _
-    (holds-guard (WordTo s (k + length kResourcePattern) 46) _ _ (λ t. word-bounds patternOk 46 (λ c e. pattern-short c e .0) s (k + length kResourcePattern)))
-    (λ pattern p q. holds-guard (GrantFits s) _ _ (λ t. (q .1, omega (arith, q .0 .ends, q .0 .fits)))))))
-
-pub grant-inside : {g : GrantSeen} {n : ℕ} (s : List ℕ) (at : ℕ) → got g n ≡ grantAt s at → (46 ≤ g .pattern .len) × (g .pattern .start + g .pattern .len ≤ length s)
-grant-inside s at e = held (GrantFits s) (grant-fits s at) e
-
 -- the levels of a pattern, as the code lends them
 abbrev pub lent : List ℕ → GrantSeen → List ℕ
 lent s g = take (g .pattern .start + g .pattern .len - (g .pattern .start + 46)) (drop (g .pattern .start + 46) s)
 
 -- they are those below the terminal id
 lent-below : (s : List ℕ) (g : GrantSeen) → lent s g ≡ below s (g .pattern)
-unfolding part
-lent-below s g =
-    let e : g .pattern .start + g .pattern .len - (g .pattern .start + 46) ≡ g .pattern .len - 46 = omega arith in
-    ap (λ (n : ℕ). take n (drop (g .pattern .start + 46) s)) e
+lent-below s g = lent-levels s (g .pattern .start) (g .pattern .len)
 
 -- the search from the first grant on
 pub first-begin : (s : List ℕ) (at count : ℕ) (own : Bool) (t : List ℕ) (n from : ℕ) → firstIn s at count own t 0 (n - 0) from ≡ firstIn s at count own t 0 n from

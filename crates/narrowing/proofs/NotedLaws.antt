@@ -27,6 +27,7 @@ use Rattle.narrowing.specs.Escape.{Rule, patternCovers, covered, canTake
 use Rattle.narrowing.specs.Range.{inRange, most, textRange, marked}
 use Rattle.narrowing.specs.Scan.{below, notedAt, zeros}
 use Rattle.narrowing.specs.Narrow.{ruleOf, rulesAt}
+use Rattle.narrowing.proofs.RuleLaws.{or-false}
 use Rattle.narrowing.proofs.RangeLaws.{range-covers, marked-length, marked-at, or-mode}
 
 -- ---- the text of a pattern
@@ -121,11 +122,6 @@ stand-few s t (one-more n at next g rs e f r) = omega (arith, f .few, stand-few 
 and-true : (a : Bool) → (a && true) ≡ a
 and-true true = refl
 and-true false = refl
-
--- a test or false is the test
-or-false : (a : Bool) → (a || false) ≡ a
-or-false true = refl
-or-false false = refl
 
 -- one grant that is read is noted
 noted-step : (s p d : List ℕ) (n at next : ℕ) (g : GrantSeen) → grantAt s at ≡ got g next

@@ -28,7 +28,7 @@ use Rattle.narrowing.proofs.RuleLaws.{ruleFor}
 -- ---- rules
 
 -- the first of the grants from a place on, and those after it
-dropped : (gs : List Grant) (i : ℕ) (g : Grant) (hs : List Grant) → drop i gs ≡ g ∷ hs
+pub dropped : (gs : List Grant) (i : ℕ) (g : Grant) (hs : List Grant) → drop i gs ≡ g ∷ hs
     → (i < length gs) × (getD gs i g ≡ g) × (drop (suc i) gs ≡ hs)
 dropped [] zero g hs e = absurd (nil≢cons e)
 dropped [] (suc i) g hs e = absurd (nil≢cons e)
@@ -54,7 +54,7 @@ rules-from d b q (g ∷ hs) i e =
     ∙ ap₂ (λ (c : Rule) (cs : List Rule). c ∷ cs) here (rules-from d b q hs (i + 1) (rw add-one (r .2)))
 
 -- as many grants are seen as there are
-count-of : (at : ℕ) (gs : List Grant) → grantsView at gs .count ≡ length gs
+pub count-of : (at : ℕ) (gs : List Grant) → grantsView at gs .count ≡ length gs
 count-of at [] = refl
 count-of at (g ∷ gs) = refl
 

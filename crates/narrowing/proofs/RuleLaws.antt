@@ -32,7 +32,7 @@ or-turn true false c = refl
 or-turn false b c = refl
 
 -- a test or false is the test
-or-false : (a : Bool) → (a || false) ≡ a
+pub or-false : (a : Bool) → (a || false) ≡ a
 or-false true = refl
 or-false false = refl
 

@@ -71,7 +71,7 @@ with-stays qs g m zero h = absurd (not-suc-le-zero h)
 with-stays qs g m (suc k) h = rw (covered-stays qs m (g .pattern) (suc k) h)
 
 -- and no number of names more does
-with-last : (qs : List Rule) (g : Rule) (m k : ℕ) → deepest qs < k → escapesWith qs g m k ≡ escapesWith qs g m (suc (deepest qs))
+pub with-last : (qs : List Rule) (g : Rule) (m k : ℕ) → deepest qs < k → escapesWith qs g m k ≡ escapesWith qs g m (suc (deepest qs))
 with-last qs g m zero h = absurd (not-suc-le-zero h)
 with-last qs g m (suc k) h =
     ⊎-elim (λ (e : deepest qs ≡ k). rw e) (λ l. with-stays qs g m k l ∙ with-last qs g m k l) (eq-or-lt-of-le (le-of-suc-le-suc h))

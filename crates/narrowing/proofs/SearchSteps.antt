@@ -139,9 +139,9 @@ pub pattern-room : {g : GrantSeen} {n : ℕ} (s : List ℕ) (at : ℕ) → got g
 pattern-room s at e = held (PatternIn s) (pattern-in s at) e
 
 -- what the code takes of a pattern are its levels
-pub part-below : (s : List ℕ) (start len : ℕ) → take ((start + len) - (start + 46)) (drop (start + 46) s) ≡ below s (spanOf start len)
+pub lent-levels : (s : List ℕ) (start len : ℕ) → take ((start + len) - (start + 46)) (drop (start + 46) s) ≡ below s (spanOf start len)
 unfolding part
-part-below s start len = let e : (start + len) - (start + 46) ≡ len - 46 = omega arith in rw e
+lent-levels s start len = let e : (start + len) - (start + 46) ≡ len - 46 = omega arith in rw e
 
 -- ---- noting
 
@@ -161,7 +161,7 @@ module _ (s p d : List ℕ) (left here : ℕ) where
       → notedAt s p x (left - 1) next ≡ notedAt s p d left here
   noted-step {g} {next} r x h e f q =
       ap (λ (y : List ℕ). notedAt s p y (left - 1) next)
-      (q ∙ ap (λ (y : Range). marked 0 d y (g .mask)) (f ∙ ap (λ (y : List ℕ). textRange y p) (part-below s (g .pattern .start) (g .pattern .len))))
+      (q ∙ ap (λ (y : Range). marked 0 d y (g .mask)) (f ∙ ap (λ (y : List ℕ). textRange y p) (lent-levels s (g .pattern .start) (g .pattern .len))))
       ∙ noted-next h e
 
   -- none could be read

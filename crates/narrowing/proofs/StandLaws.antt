@@ -1,12 +1,12 @@
 -- The rules of an allowed descriptor stand in its encoding, each with the terminal id of the descriptor, which stands there too. Assumes nothing.
 use mathlib.Core.Path.{_≡_, refl, sym, ap, _∙_, subst}
 use mathlib.Core.Bool.{true}
-use mathlib.Core.List.{List, [], _∷_, _++_, nil≢cons}
-use Prim.Native.Nat.{ℕ, zero, suc, _+_, _≤_, _<_}
+use mathlib.Core.List.{List, [], _∷_, _++_}
+use Prim.Native.Nat.{ℕ, _+_, _≤_}
 use native.Mathlib.Numerals.{add-one}
 use native.Mathlib.Nat.{add-zero}
 use native.Mathlib.Omega.{arith}
-use lib.ListN.{length, getD, take, drop}
+use lib.ListN.{length, take, drop}
 use Rattle.cbor_item.specs.Bytes.{AreBytes, Has, part}
 use Rattle.cbor_item.specs.Encoding.{head}
 use Rattle.cbor_item.proofs.BytesLaws.{has-left, has-right, has-part, all-has}
@@ -16,7 +16,7 @@ use Rattle.descriptor.specs.Keys.{kTerminalId, kDescriptorId, kSubjectFayId}
 use Rattle.descriptor.specs.Model.{Grant, Payload, Descriptor, encBytes, encText, encodePayload, encode}
 use Rattle.descriptor.specs.Allowed.{GrantOk, All, Formed}
 use Rattle.descriptor.specs.Reader.{GrantSeen, Seen, read, readOf, beforePayload}
-use Rattle.descriptor.specs.View.{encOpening, encMiddle, keysOf, grantView, grantsView, descriptorView}
+use Rattle.descriptor.specs.View.{encOpening, encMiddle, keysOf, grantView, descriptorView}
 use Rattle.descriptor.specs.Promises.{grantPlace}
 use Rattle.descriptor.proofs.Promises.{reads-exactly, grants-walk}
 use Rattle.descriptor.proofs.WordLaws.{terminal-length}
@@ -24,15 +24,8 @@ use Rattle.descriptor.proofs.PayloadLaws.{pieces-encode}
 use Rattle.descriptor.proofs.DescriptorLaws.{halves-encode}
 use Rattle.narrowing.specs.Escape.{Rule}
 use Rattle.narrowing.specs.Narrow.{rulesAt, rulesIn}
+use Rattle.narrowing.proofs.ReadLaws.{dropped, count-of}
 use Rattle.narrowing.proofs.NotedLaws.{patternWith, pattern-parts, pattern-few, part-below, Fits, Stand, no-more, one-more, stand-rules}
-
--- the first of the grants from a place on, and those after it
-dropped : (gs : List Grant) (i : ℕ) (g : Grant) (hs : List Grant) → drop i gs ≡ g ∷ hs
-    → (i < length gs) × (getD gs i g ≡ g) × (drop (suc i) gs ≡ hs)
-dropped [] zero g hs e = absurd (nil≢cons e)
-dropped [] (suc i) g hs e = absurd (nil≢cons e)
-dropped (f ∷ gs) zero g hs e = (omega arith, cc, cc)
-dropped (f ∷ gs) (suc i) g hs e = let r = dropped gs i g hs e in (omega (arith, r .0), r .1, r .2)
 
 -- a grant that was seen in s fits where its part of s is an allowed pattern that begins with t
 fits-of : (s t x : List ℕ) (g : GrantSeen) → part s (g .pattern .start) (g .pattern .len) ≡ x → patternOk x ≡ true → take 45 x ≡ t → Fits s t g
@@ -62,11 +55,6 @@ stand-from d t b q (g ∷ hs) i e a o =
     let st = one-more (length hs) (grantPlace d i) (grantPlace d (i + 1)) v _ (w .0) (fits-of (encode d) t (g .pattern) v (w .1) (a .0 .pattern) (o .0))
     (stand-from d t b q hs (i + 1) (rw add-one (r .2)) (a .1) (o .1)) in
     subst (λ (rs : List Rule). Stand (encode d) t (length (g ∷ hs)) (grantPlace d i) rs) (sym (stand-rules (encode d) t st)) st
-
--- as many grants are seen as there are
-count-of : (at : ℕ) (gs : List Grant) → grantsView at gs .count ≡ length gs
-count-of at [] = refl
-count-of at (g ∷ gs) = refl
 
 -- the rules of a descriptor that was read from s stand there with the terminal id t
 abbrev pub Stands : List ℕ → List ℕ → Seen → Type 0

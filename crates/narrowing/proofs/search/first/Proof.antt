@@ -7,7 +7,8 @@ use Rattle.descriptor.specs.declared.GrantRead.the-variants.{IsGrant}
 use Rattle.descriptor.specs.Answer.{grantRead}
 use Rattle.descriptor.specs.Reader.{grantAt}
 use Rattle.narrowing.specs.Scan.{firstIn}
-use Rattle.narrowing.proofs.NarrowSteps.{grant-inside, first-begin, first-hit, first-next, first-none, first-done}
+use Rattle.narrowing.proofs.SearchSteps.{pattern-room}
+use Rattle.narrowing.proofs.NarrowSteps.{first-begin, first-hit, first-next, first-none, first-done}
 use borrow.Author.Needs.{needs}
 use Rattle.narrowing.proofs.search.first.Statement.{statement}
 use Rattle.narrowing.proofs.search.first.Tie as tie
@@ -29,7 +30,7 @@ seen k = sym (ap grantRead (k .fields .given .1)) ∙ k .before .before .read-gr
 inside : (k : tie.After-fields Inv-loop μ-loop)
     → (46 ≤ k .fields .given .0 .0 .len)
     × (k .fields .given .0 .0 .pattern + k .fields .given .0 .0 .len ≤ length (k .before .before .before .before .before .before .before .args .child .now))
-inside k = grant-inside _ _ (seen k)
+inside k = pattern-room _ _ (seen k)
 
 loop-holds : tie.Need-loop-holds Inv-loop μ-loop
 loop-holds c = (omega arith, first-begin _ _ _ _ _ _ _)

@@ -24,7 +24,7 @@ use Rattle.narrowing.specs.declared.Narrowing.the-variants.{Accepted, Co
 use Rattle.narrowing.specs.Meaning.{grantAdmits, anyAdmits, Admits}
 use Rattle.narrowing.specs.Escape.{Rule, fewestNames, lowestMode, ruleAt, firstRule, orZero, witnessPath}
 use Rattle.narrowing.specs.Narrow.{rulesIn, unconstrained, periodWithin, answerAt, compared, underParent, withParent, narrow, numbersOf}
-use Rattle.narrowing.specs.Promises.{AcceptedExactly, EscapeExactly, one, more, ChainInside, Reads, Inside, grantOf, NoEscape, rulesOf, witnessOf, FirstEscape}
+use Rattle.narrowing.specs.Promises.{PeriodInside, PeriodExactly, EscapeAnswered, AcceptedExactly, EscapeExactly, one, more, ChainInside, Reads, Inside, grantOf, NoEscape, rulesOf, witnessOf, FirstEscape}
 use Rattle.narrowing.proofs.CoveredLaws.{contra, true-of, or-left, witness-path, witness-admitted}
 use Rattle.narrowing.proofs.SearchLaws.{NoRuleEscape, Lowest, First, first-none, first-some}
 use Rattle.narrowing.proofs.RuleLaws.{pattern-of, ruleFor, rules-length, rule-at, rule-patterns, grant-mode, admitting, admitted-by, to-rule, of-rule}
@@ -272,6 +272,49 @@ pub narrow-escape : EscapeExactly
 narrow-escape s t p c i m k a b h =
     grants-escape p c i m k (a .allowed) (b .allowed)
     (chosen (within p c) (byGrants p c) Period (λ e. absurd (omega (arith, number e))) (sym (narrow-as s t p c a b) ∙ h) .1)
+
+-- a period that lies within another passes the test
+inside-test : (p c : Descriptor) → PeriodInside p c → within p c ≡ true
+inside-test p c i =
+    and-both _ _ (le-leb (p .payload .notBefore) (c .payload .notBefore) (i .0)) (le-leb (c .payload .notAfter) (p .payload .notAfter) (i .1))
+
+-- and one that passes it lies within
+test-inside : (p c : Descriptor) → within p c ≡ true → PeriodInside p c
+test-inside p c e = (
+  leb-true _ _ (and-left (leb (p .payload .notBefore) (c .payload .notBefore)) (leb (c .payload .notAfter) (p .payload .notAfter)) e),
+  leb-true _ _ (and-right (leb (p .payload .notBefore) (c .payload .notBefore)) (leb (c .payload .notAfter) (p .payload .notAfter)) e),
+)
+
+-- within the parent's period the grants decide
+within-as : (s t : List ℕ) (p c : Descriptor) → Reads s p → Reads t c → PeriodInside p c → narrow s t ≡ byGrants p c
+within-as s t p c a b i = narrow-as s t p c a b ∙ ap (λ (w : Bool). cond w (byGrants p c) Period) (inside-test p c i)
+
+-- the grants do not answer 18
+not-period : (qs cs : List Rule) (o : Option ℕ) → answerAt qs cs o ≡ Period → ⊥
+not-period qs cs none e = omega (arith, number e)
+not-period qs cs (some i) e = omega (arith, number e)
+
+-- 18 exactly when the child's period does not lie within the parent's
+pub narrow-period : PeriodExactly
+narrow-period s t p c a b = (λ h i. not-period (rulesOf (p .payload .grants)) (rulesOf (c .payload .grants)) (firstRule (rulesOf (p .payload .grants)) (rulesOf (c .payload .grants))) (sym (within-as s t p c a b i) ∙ h), λ f. go f (within p c) refl)
+  where
+    go : (PeriodInside p c → ⊥) → (w : Bool) → within p c ≡ w → narrow s t ≡ Period
+    go f true e = absurd (f (test-inside p c e))
+    go f false e = narrow-as s t p c a b ∙ ap (λ (w : Bool). cond w (byGrants p c) Period) e
+
+-- the grants answer 0 or 20
+zero-or-escape : (qs cs : List Rule) (o : Option ℕ) → (answerAt qs cs o ≡ Accepted → ⊥) → (i : ℕ) × (m : ℕ) × (k : ℕ) × (answerAt qs cs o ≡ NotCovered i m k)
+zero-or-escape qs cs none f = absurd (f refl)
+zero-or-escape qs cs (some i) f = (i, _, _, refl)
+
+-- a child whose period lies within the parent's and that is not accepted is answered 20
+pub narrow-answered : EscapeAnswered
+narrow-answered s t p c a b i f =
+    let e = within-as s t p c a b i in
+    let qs : List Rule = rulesOf (p .payload .grants) in
+    let cs : List Rule = rulesOf (c .payload .grants) in
+    let r = zero-or-escape qs cs (firstRule qs cs) (λ h. f (e ∙ h)) in
+    (r .0, r .1, r .2, e ∙ r .3)
 
 -- down a chain of acceptances the last is inside the first
 pub narrow-chain : ChainInside

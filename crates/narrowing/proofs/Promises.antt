@@ -1,12 +1,18 @@
 -- The promises of specs/Promises.antt, proved: each line names the law that it is. Assumes nothing.
-use Rattle.narrowing.specs.Promises.{AcceptedExactly, EscapeExactly, ChainInside}
-use Rattle.narrowing.proofs.NarrowLaws.{narrow-accepted, narrow-escape, narrow-chain}
+use Rattle.narrowing.specs.Promises.{AcceptedExactly, PeriodExactly, EscapeExactly, EscapeAnswered, ChainInside}
+use Rattle.narrowing.proofs.NarrowLaws.{narrow-accepted, narrow-period, narrow-escape, narrow-answered, narrow-chain}
 
 pub accepted-exactly : AcceptedExactly
 accepted-exactly = narrow-accepted
 
+pub period-exactly : PeriodExactly
+period-exactly = narrow-period
+
 pub escape-exactly : EscapeExactly
 escape-exactly = narrow-escape
+
+pub escape-answered : EscapeAnswered
+escape-answered = narrow-answered
 
 pub chain-inside : ChainInside
 chain-inside = narrow-chain

@@ -11,7 +11,7 @@ use Rattle.resource.specs.Text.{patternOf}
 use Rattle.descriptor.specs.Model.{Pair, Grant, Descriptor, encode}
 use Rattle.descriptor.specs.Allowed.{Allowed}
 use Rattle.descriptor.specs.View.{maskOf}
-use Rattle.narrowing.specs.declared.Narrowing.the-variants.{Accepted, NotCovered}
+use Rattle.narrowing.specs.declared.Narrowing.the-variants.{Accepted, Period, NotCovered}
 use Rattle.narrowing.specs.Meaning.{Admits, Escapes, takenBy}
 use Rattle.narrowing.specs.Escape.{Rule, witnessPath}
 use Rattle.narrowing.specs.Narrow.{narrow}
@@ -40,6 +40,14 @@ Inside parent child = (moment : ℕ) (x : Path) (m : ℕ) → IsPath x → Admit
 -- accepted exactly when the child is inside the parent
 abbrev pub AcceptedExactly : Type 0
 AcceptedExactly = (s t : List ℕ) (parent child : Descriptor) → Reads s parent → Reads t child → (narrow s t ≡ Accepted) ↔ Inside parent child
+
+-- the child's period lies within the parent's
+abbrev pub PeriodInside : Descriptor → Descriptor → Type 0
+PeriodInside parent child = (parent .payload .notBefore ≤ child .payload .notBefore) × (child .payload .notAfter ≤ parent .payload .notAfter)
+
+-- 18 exactly when the child's period does not lie within the parent's
+abbrev pub PeriodExactly : Type 0
+PeriodExactly = (s t : List ℕ) (parent child : Descriptor) → Reads s parent → Reads t child → (narrow s t ≡ Period) ↔ (PeriodInside parent child → ⊥)
 
 -- the grant at a place
 abbrev pub grantOf : Descriptor → ℕ → Grant
@@ -77,6 +85,12 @@ pub record FirstEscape (parent child : Descriptor) (i m k : ℕ) : Type 0 where
 -- an answer 20 has the numbers of the first escape
 abbrev pub EscapeExactly : Type 0
 EscapeExactly = (s t : List ℕ) (parent child : Descriptor) (i m k : ℕ) → Reads s parent → Reads t child → narrow s t ≡ NotCovered i m k → FirstEscape parent child i m k
+
+-- a child whose period lies within the parent's and that is not accepted is answered 20
+abbrev pub EscapeAnswered : Type 0
+EscapeAnswered =
+    (s t : List ℕ) (parent child : Descriptor) → Reads s parent → Reads t child → PeriodInside parent child → (narrow s t ≡ Accepted → ⊥)
+    → (i : ℕ) × (m : ℕ) × (k : ℕ) × (narrow s t ≡ NotCovered i m k)
 
 -- a chain of acceptances from the bytes s to the bytes t
 pub data Chain : List ℕ → List ℕ → Type 0 where

@@ -109,6 +109,7 @@ def chosen():
     yield "a ladder to 105 levels", one(*ladder), one("**")
     yield "a ladder to 105 levels, and deeper", one(*ladder, stars(104) + "/**"), one("**")
     yield "256 grants each, all covered", one(*wide, stars(22) + "/**"), one(*wide, stars(22) + "/**")
+    yield "256 grants each, every one of 22 levels and **", one(*[stars(22) + "/**"] * 256), one(*[stars(22) + "/**"] * 256)
     yield "256 grants each, the last escapes", one(*wide, stars(22) + "/**"), one(*wide, stars(21) + "/**")
     yield "the parent is empty", b"", one("a")
     yield "the parent's period is too long", one("a", not_after=7778001), one("a")

@@ -15,3 +15,4 @@ pub mod CoverSteps
 pub mod SearchSteps
 pub mod DeepSteps
 pub mod NarrowSteps
+pub mod OrderLaws

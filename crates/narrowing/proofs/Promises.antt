@@ -1,6 +1,16 @@
 -- The promises of specs/Promises.antt, proved: each line names the law that it is. Assumes nothing.
-use Rattle.narrowing.specs.Promises.{AcceptedExactly, PeriodExactly, EscapeExactly, EscapeAnswered, ChainInside}
+use Rattle.narrowing.specs.Promises.{NoParentExactly, ChildExactly, ConstrainedExactly, AcceptedExactly, PeriodExactly, EscapeExactly, EscapeAnswered, ChainInside}
 use Rattle.narrowing.proofs.NarrowLaws.{narrow-accepted, narrow-period, narrow-escape, narrow-answered, narrow-chain}
+use Rattle.narrowing.proofs.OrderLaws.{order-parent, order-child, order-constrained}
+
+pub no-parent-exactly : NoParentExactly
+no-parent-exactly = order-parent
+
+pub child-exactly : ChildExactly
+child-exactly = order-child
+
+pub constrained-exactly : ConstrainedExactly
+constrained-exactly = order-constrained
 
 pub accepted-exactly : AcceptedExactly
 accepted-exactly = narrow-accepted

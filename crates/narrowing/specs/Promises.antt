@@ -11,7 +11,8 @@ use Rattle.resource.specs.Text.{patternOf}
 use Rattle.descriptor.specs.Model.{Pair, Grant, Descriptor, encode}
 use Rattle.descriptor.specs.Allowed.{Allowed}
 use Rattle.descriptor.specs.View.{maskOf}
-use Rattle.narrowing.specs.declared.Narrowing.the-variants.{Accepted, Period, NotCovered}
+use Rattle.descriptor.specs.Reader.{Seen, read, structure, validity, readOf}
+use Rattle.narrowing.specs.declared.Narrowing.the-variants.{Accepted, NoParent, Structure, Validity, Constrained, Period, NotCovered}
 use Rattle.narrowing.specs.Meaning.{Admits, Escapes, takenBy}
 use Rattle.narrowing.specs.Escape.{Rule, witnessPath}
 use Rattle.narrowing.specs.Narrow.{narrow}
@@ -32,6 +33,22 @@ pub record Reads (s : List ℕ) (d : Descriptor) : Type 0 where
   pub allowed : Allowed d
   pub encoded : s ≡ encode d
   pub plain : NoPairs (d .payload .grants)
+
+-- 21 exactly when the parent doesn't read
+abbrev pub NoParentExactly : Type 0
+NoParentExactly = (s t : List ℕ) → (narrow s t ≡ NoParent) ↔ ((v : Seen) → readOf s ≡ read v → ⊥)
+
+-- under a parent that reads, 1 and 2 exactly when reading the child answers so
+abbrev pub ChildExactly : Type 0
+ChildExactly =
+    (s t : List ℕ) (v : Seen) → readOf s ≡ read v
+    → ((narrow s t ≡ Structure) ↔ (readOf t ≡ structure)) × ((narrow s t ≡ Validity) ↔ (readOf t ≡ validity))
+
+-- where both read, 19 exactly when a constraint pair stands in either
+abbrev pub ConstrainedExactly : Type 0
+ConstrainedExactly =
+    (s t : List ℕ) (parent child : Descriptor) → AreBytes s → AreBytes t → Allowed parent → Allowed child → s ≡ encode parent → t ≡ encode child
+    → (narrow s t ≡ Constrained) ↔ (NoPairs (parent .payload .grants) × NoPairs (child .payload .grants) → ⊥)
 
 -- every moment, path and mode that the child admits together the parent admits together
 abbrev pub Inside : Descriptor → Descriptor → Type 0

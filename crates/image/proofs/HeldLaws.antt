@@ -1,0 +1,112 @@
+-- The body that a check notes for an id, over the list of bodies, and that it is the one with the id (specs/Check.antt). Assumes nothing.
+use mathlib.Core.Path.{_≡_, refl, sym, ap, _∙_, subst}
+use mathlib.Core.Bool.{Bool, true, false}
+use mathlib.Core.List.{List, [], _∷_, _++_}
+use mathlib.Core.Option.{none, some}
+use Prim.Native.Nat.{ℕ, _+_, _≤_}
+use lib.ListN.{length}
+use Rattle.cbor_item.specs.Bytes.{part, Has, same}
+use Rattle.cbor_item.specs.Reads.{AllFrom}
+use Rattle.cbor_item.proofs.BytesLaws.{has-left, has-right, has-part, has-fits}
+use Rattle.descriptor.specs.declared.Fields.{Fields}
+use Rattle.descriptor.specs.declared.Reading.{Reading}
+use Rattle.descriptor.specs.declared.Reading.the-variants.{Read, Structure, Validity}
+use Rattle.image.specs.declared.Held.{Held}
+use Rattle.image.specs.declared.Held.the-variants.{Missing, Body}
+use Rattle.image.specs.Layout.{rowPlace}
+use Rattle.image.specs.Image.{reading, idOf, joined, hasId, BodyOk, seenWith, bodyWith}
+use Rattle.image.specs.Check.{noted}
+use Rattle.image.proofs.BodyLaws.{read-in}
+use Rattle.image.proofs.ListLaws.{or-true, or-no-left, or-no-right, read-is, has-snoc, rest-new, with-first, with-rest}
+
+-- ---- what is held
+
+-- What is held after a body of n bytes at a place, of which reading says so.
+abbrev pub heldAfter : Bool → Held → ℕ → ℕ → Reading → Held
+heldAfter hit h at n (Read f) = noted hit h at n f
+heldAfter hit h at n Structure = h
+heldAfter hit h at n Validity = h
+
+-- What is held after bodies that lie back to back from a place on.
+unfoldable pub heldFrom : List ℕ → ℕ → Held → List (List ℕ) → Held
+heldFrom id at h [] = h
+heldFrom id at h (b ∷ bs) = heldFrom id (at + length b) (heldAfter (same (idOf b) id) h at (length b) (reading b)) bs
+
+-- What is held of the bodies of an image.
+unfoldable pub heldIn : List ℕ → List (List ℕ) → Held
+heldIn id bs = heldFrom id (rowPlace (length bs)) Missing bs
+
+-- ---- it is the body with the id
+
+-- The body of `len` bytes at `at` in s, of which f was read, is the one with the id.
+pub record HeldBody (s id : List ℕ) (bs : List (List ℕ)) (at len : ℕ) (f : Fields) : Type 0 where
+  pub which : bodyWith id bs ≡ some (part s at len)
+  pub mine : hasId id bs ≡ true
+  pub inside : at + len ≤ length s
+  pub reads : reading (part s at len) ≡ Read f
+  pub named : same (idOf (part s at len)) id ≡ true
+
+-- What is held is the body with the id, or none has it.
+abbrev pub HeldIs : List ℕ → List ℕ → List (List ℕ) → Held → Type 0
+HeldIs s id bs Missing = (bodyWith id bs ≡ none) × (hasId id bs ≡ false)
+HeldIs s id bs (Body at len f) = HeldBody s id bs at len f
+
+-- After a body that reads, with the id or not.
+held-hit : (id : List ℕ) (at : ℕ) (h : Held) (b : List ℕ) (bs : List (List ℕ)) (f : Fields) (t : Bool) → reading b ≡ Read f → same (idOf b) id ≡ t
+    → heldFrom id at h (b ∷ bs) ≡ heldFrom id (at + length b) (noted t h at (length b) f) bs
+unfolding heldFrom
+held-hit id at h b bs f t e i = rw (e, i)
+
+-- Bodies of which none has the id change nothing.
+held-none : (id : List ℕ) (at : ℕ) (h : Held) (bs : List (List ℕ)) → hasId id bs ≡ false → heldFrom id at h bs ≡ h
+unfolding heldFrom hasId
+held-none id at h [] i = refl
+held-none id at h (b ∷ bs) i =
+    let e : same (idOf b) id ≡ false = or-no-left (same (idOf b) id) (hasId id bs) i in
+    ap (λ (t : Bool). heldFrom id (at + length b) (heldAfter t h at (length b) (reading b)) bs) e
+    ∙ ap (λ (g : Held). heldFrom id (at + length b) g bs) (passed (reading b))
+    ∙ held-none id (at + length b) h bs (or-no-right (same (idOf b) id) (hasId id bs) i)
+  where
+    passed : (r : Reading) → heldAfter false h at (length b) r ≡ h
+    passed (Read f) = refl
+    passed Structure = refl
+    passed Validity = refl
+
+-- Where the first body has another id, what is held of the rest is held of all.
+held-rest : (s id b : List ℕ) (bs : List (List ℕ)) (h : Held) → same (idOf b) id ≡ false → HeldIs s id bs h → HeldIs s id (b ∷ bs) h
+held-rest s id b bs Missing e k = let w = with-rest id b bs e in (w .0 ∙ k .0, w .1 ∙ k .1)
+held-rest s id b bs (Body at len f) e k =
+    let w = with-rest id b bs e in
+    record { which = w .0 ∙ k .which; mine = w .1 ∙ k .mine; inside = k .inside; reads = k .reads; named = k .named }
+
+-- A first body with the id is held.
+held-first : (s id : List ℕ) (at : ℕ) (b : List ℕ) (bs : List (List ℕ)) (f : Fields) → Has s at b → reading b ≡ Read f → same (idOf b) id ≡ true
+    → HeldBody s id (b ∷ bs) at (length b) f
+held-first s id at b bs f h e i =
+    let p : part s at (length b) ≡ b = has-part s at b h in
+    let w = with-first id b bs i in
+    record {
+      which = w .0 ∙ ap some (sym p);
+      mine = w .1;
+      inside = has-fits s at b (read-in b f e .some) h;
+      reads = ap reading p ∙ e;
+      named = ap (λ (x : List ℕ). same (idOf x) id) p ∙ i;
+    }
+
+-- What is held of bodies that stand back to back from a place on is the one with the id.
+pub held-is : (s id : List ℕ) (at : ℕ) (seen bs : List (List ℕ)) → AllFrom BodyOk seenWith seen bs → Has s at (joined bs)
+    → HeldIs s id bs (heldFrom id at Missing bs)
+unfolding heldFrom joined bodyWith hasId
+held-is s id at seen [] a h = (refl, refl)
+held-is s id at seen (b ∷ bs) a h =
+    let r = read-is b (a .0 .reads) in
+    go (same (idOf b) id) refl (r .0) (r .1) (held-is s id (at + length b) (seen ++ (b ∷ [])) bs (a .1) (has-right s at b (joined bs) h))
+  where
+    go : (t : Bool) → same (idOf b) id ≡ t → (f : Fields) → reading b ≡ Read f → HeldIs s id bs (heldFrom id (at + length b) Missing bs)
+        → HeldIs s id (b ∷ bs) (heldFrom id at Missing (b ∷ bs))
+    go true e f i k =
+        let m : hasId id (seen ++ (b ∷ [])) ≡ true = has-snoc id seen b ∙ rw e (or-true (hasId id seen)) in
+        let w : heldFrom id at Missing (b ∷ bs) ≡ Body at (length b) f
+        = held-hit id at Missing b bs f true i e ∙ held-none id (at + length b) (Body at (length b) f) bs (rest-new id (seen ++ (b ∷ [])) bs (a .1) m) in
+        subst (HeldIs s id (b ∷ bs)) (sym w) (held-first s id at b bs f (has-left s at b (joined bs) h) i e)
+    go false e f i k = subst (HeldIs s id (b ∷ bs)) (sym (held-hit id at Missing b bs f false i e)) (held-rest s id b bs (heldFrom id (at + length b) Missing bs) e k)

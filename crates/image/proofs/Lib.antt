@@ -1,0 +1,14 @@
+pub mod BodyLaws
+pub mod StepLaws
+pub mod RowLaws
+pub mod ListLaws
+pub mod HeldLaws
+pub mod CheckLaws
+pub mod RunLaws
+pub mod SoundLaws
+pub mod SurveyLaws
+pub mod FreshLaws
+pub mod MaskLaws
+pub mod ReadLaws
+pub mod Promises
+pub mod CodeLaws

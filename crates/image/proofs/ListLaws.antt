@@ -1,0 +1,130 @@
+-- Laws of lists of bodies (specs/Image.antt): which ids they have, which body has an id, and one body more. Assumes nothing.
+use mathlib.Core.Path.{_≡_, refl, sym, ap, _∙_, subst}
+use mathlib.Core.Bool.{Bool, true, false, _||_, false≢true}
+use mathlib.Core.List.{List, [], _∷_, _++_, append-assoc, append-nil}
+use mathlib.Core.Option.{Option, some}
+use Prim.Native.Nat.{ℕ, _*_, _≤_}
+use native.Mathlib.Omega.{arith}
+use lib.ListN.{length, length-append}
+use Rattle.cbor_item.specs.Bytes.{same}
+use Rattle.cbor_item.specs.Reads.{AllFrom}
+use Rattle.cbor_item.proofs.BytesLaws.{same-eq, same-refl, T-of}
+use Rattle.descriptor.specs.declared.Fields.{Fields}
+use Rattle.descriptor.specs.declared.Reading.{Reading}
+use Rattle.descriptor.specs.declared.Reading.the-variants.{Read, Structure, Validity}
+use Rattle.descriptor.proofs.Truth.{T-true}
+use Rattle.image.specs.Image.{reading, isRead, idOf, joined, hasId, BodyOk, seenWith, bodyWith}
+use Rattle.image.proofs.BodyLaws.{read-in}
+
+-- ---- tests
+
+-- Lists of bytes of which the test says so are equal.
+pub same-true : (x y : List ℕ) → same x y ≡ true → x ≡ y
+same-true x y e = same-eq x y (T-of refl e)
+
+-- Equal lists of bytes pass the test.
+pub true-same : (x y : List ℕ) → x ≡ y → same x y ≡ true
+true-same x y e = T-true (same x y) .0 (rw e (same-refl y))
+
+-- Three tests of which one holds.
+pub or-assoc : (a b c : Bool) → (a || (b || c)) ≡ ((a || b) || c)
+or-assoc true b c = refl
+or-assoc false b c = refl
+
+-- A test or false is the test.
+pub or-false : (a : Bool) → (a || false) ≡ a
+or-false true = refl
+or-false false = refl
+
+-- A test or true is true.
+pub or-true : (a : Bool) → (a || true) ≡ true
+or-true true = refl
+or-true false = refl
+
+-- Of two tests of which none holds the first does not.
+pub or-no-left : (a b : Bool) → (a || b) ≡ false → a ≡ false
+or-no-left true b e = e
+or-no-left false b e = refl
+
+-- Nor does the second.
+pub or-no-right : (a b : Bool) → (a || b) ≡ false → b ≡ false
+or-no-right true b e = absurd (false≢true (sym e))
+or-no-right false b e = e
+
+-- ---- a body that reads
+
+-- Of a body that reads something was read.
+pub read-is : (b : List ℕ) → isRead (reading b) ≡ true → (f : Fields) × (reading b ≡ Read f)
+read-is b t = go (reading b) t
+  where
+    go : (r : Reading) → isRead r ≡ true → (f : Fields) × (r ≡ Read f)
+    go (Read f) e = (f, refl)
+    go Structure e = absurd (false≢true e)
+    go Validity e = absurd (false≢true e)
+
+-- A body of which something was read reads.
+pub is-read : (b : List ℕ) (f : Fields) → reading b ≡ Read f → isRead (reading b) ≡ true
+is-read b f e = ap isRead e
+
+-- Bodies that read have at most 32768 bytes each.
+pub joined-short : (seen bs : List (List ℕ)) → AllFrom BodyOk seenWith seen bs → length (joined bs) ≤ 32768 * length bs
+unfolding joined
+joined-short seen [] a = omega arith
+joined-short seen (b ∷ bs) a =
+    let r = read-is b (a .0 .reads) in
+    omega (arith, length-append b (joined bs), read-in b (r .0) (r .1) .short, joined-short (seen ++ (b ∷ [])) bs (a .1))
+
+-- ---- ids
+
+-- The ids of the bodies and one more.
+pub has-snoc : (id : List ℕ) (bs : List (List ℕ)) (b : List ℕ) → hasId id (bs ++ (b ∷ [])) ≡ (hasId id bs || same (idOf b) id)
+unfolding hasId
+has-snoc id [] b = or-false (same (idOf b) id)
+has-snoc id (x ∷ bs) b = ap (λ (t : Bool). same (idOf x) id || t) (has-snoc id bs b) ∙ or-assoc (same (idOf x) id) (hasId id bs) (same (idOf b) id)
+
+-- An id that a body before has, none of the bodies has.
+pub rest-new : (id : List ℕ) (seen bs : List (List ℕ)) → AllFrom BodyOk seenWith seen bs → hasId id seen ≡ true → hasId id bs ≡ false
+unfolding hasId
+rest-new id seen [] a h = refl
+rest-new id seen (b ∷ bs) a h =
+    let more : hasId id (seen ++ (b ∷ [])) ≡ true = has-snoc id seen b ∙ ap (λ (t : Bool). t || same (idOf b) id) h in
+    go (same (idOf b) id) refl (rest-new id (seen ++ (b ∷ [])) bs (a .1) more)
+  where
+    go : (t : Bool) → same (idOf b) id ≡ t → hasId id bs ≡ false → (t || hasId id bs) ≡ false
+    go true e r = absurd (false≢true (sym (a .0 .new) ∙ ap (λ (x : List ℕ). hasId x seen) (same-true (idOf b) id e) ∙ h))
+    go false e r = r
+
+-- Bodies and one more that is allowed after them are allowed.
+pub each-snoc : (seen bs : List (List ℕ)) (b : List ℕ) → AllFrom BodyOk seenWith seen bs → BodyOk (seen ++ bs) b → AllFrom BodyOk seenWith seen (bs ++ (b ∷ []))
+each-snoc seen [] b a o = (subst (λ (l : List (List ℕ)). BodyOk l b) (append-nil seen) o, tt)
+each-snoc seen (x ∷ bs) b a o =
+    (a .0, each-snoc (seen ++ (x ∷ [])) bs b (a .1) (subst (λ (l : List (List ℕ)). BodyOk l b) (sym (append-assoc seen (x ∷ []) bs)) o))
+
+-- ---- the body with an id
+
+-- After one more body its id finds it, where none of the others has it.
+pub with-new : (id : List ℕ) (bs : List (List ℕ)) (b : List ℕ) → hasId id bs ≡ false → same (idOf b) id ≡ true → bodyWith id (bs ++ (b ∷ [])) ≡ some b
+unfolding bodyWith hasId
+with-new id [] b h e = rw (e, bodyWith)
+with-new id (x ∷ bs) b h e = go (same (idOf x) id) h (with-new id bs b)
+  where
+    go : (t : Bool) → (t || hasId id bs) ≡ false → (hasId id bs ≡ false → same (idOf b) id ≡ true → bodyWith id (bs ++ (b ∷ [])) ≡ some b)
+        → elim t as (λ t. Option (List ℕ)) [ true ↦ some x | false ↦ bodyWith id (bs ++ (b ∷ [])) ] ≡ some b
+    go true h r = absurd (false≢true (sym h))
+    go false h r = r h e
+
+-- Any other id finds what it found before.
+pub with-other : (id : List ℕ) (bs : List (List ℕ)) (b : List ℕ) → same (idOf b) id ≡ false → bodyWith id (bs ++ (b ∷ [])) ≡ bodyWith id bs
+unfolding bodyWith
+with-other id [] b e = rw (e, bodyWith)
+with-other id (x ∷ bs) b e = ap (λ (o : Option (List ℕ)). elim (same (idOf x) id) as (λ t. Option (List ℕ)) [ true ↦ some x | false ↦ o ]) (with-other id bs b e)
+
+-- The first body is found by its id.
+pub with-first : (id b : List ℕ) (bs : List (List ℕ)) → same (idOf b) id ≡ true → (bodyWith id (b ∷ bs) ≡ some b) × (hasId id (b ∷ bs) ≡ true)
+unfolding bodyWith hasId
+with-first id b bs e = (rw (e, bodyWith), rw e)
+
+-- By another id the rest is searched.
+pub with-rest : (id b : List ℕ) (bs : List (List ℕ)) → same (idOf b) id ≡ false → (bodyWith id (b ∷ bs) ≡ bodyWith id bs) × (hasId id (b ∷ bs) ≡ hasId id bs)
+unfolding bodyWith hasId
+with-rest id b bs e = (rw (e, bodyWith), rw e)

@@ -1,0 +1,53 @@
+-- `check` meets its contract. Assumes nothing.
+use native.Mathlib.Omega.{arith}
+use Rattle.image.proofs.CodeLaws.{survey-short, header-few, survey-header, survey-long, survey-rows}
+use borrow.Author.Needs.{needs}
+use Rattle.image.proofs.rows.check.Statement.{statement}
+use Rattle.image.proofs.rows.check.Tie as tie
+
+returns : tie.Need-returns
+returns c = survey-short _ _ (omega arith)
+
+header-fits-requires : tie.Need-header-fits-requires
+header-fits-requires c κs = search needs
+
+returns-2 : tie.Need-returns-2
+returns-2 c = survey-header _ _ (omega arith) _ (c .before .header-fits .ensures) (c .if2 .taken)
+
+number-at-requires : tie.Need-number-at-requires
+number-at-requires c κs = search needs
+
+mul-if3 : tie.Need-mul-if3
+mul-if3 c = search needs
+
+add-if3 : tie.Need-add-if3
+add-if3 c = search needs
+
+returns-3 : tie.Need-returns-3
+returns-3 c =
+    let u = c .before .before in
+    survey-long _ _ (omega arith) _ (u .before .header-fits .ensures) (u .if2 .left) _ (c .before .number-at .ensures .0) (omega arith)
+
+all-rows-requires : tie.Need-all-rows-requires
+all-rows-requires c κs =
+    let u = c .before .before in
+    (header-few _ _ _ (omega arith) (u .before .header-fits .ensures) (u .if2 .left) (c .before .number-at .ensures .0), omega arith)
+
+returns-4 : tie.Need-returns-4
+returns-4 c =
+    let u = c .before .before .before in
+    survey-rows _ _ (omega arith) _ (u .before .header-fits .ensures) (u .if2 .left) _ (c .before .before .number-at .ensures .0) (omega arith) _ (c .all-rows .ensures)
+
+pub check-spec : {M : Type 1} → statement M
+check-spec =
+    tie.close
+    (tie.spec
+    returns
+    header-fits-requires
+    returns-2
+    number-at-requires
+    mul-if3
+    add-if3
+    returns-3
+    all-rows-requires
+    returns-4)

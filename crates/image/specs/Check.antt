@@ -1,0 +1,166 @@
+-- The check of an image and the lookup of an id, in one pass over the rows. These definitions compute: the code answers what they say.
+use mathlib.Core.Bool.{Bool, true, false, not, _&&_, _||_}
+use mathlib.Core.List.{List, [], _∷_}
+use mathlib.Core.Option.{Option, none, some}
+use Prim.Native.Nat.{ℕ, zero, suc, _+_}
+use lib.ListN.{length}
+use lib.Dec.{leb, eqb}
+use Rattle.cbor_item.specs.Bytes.{part, same}
+use Rattle.cbor_item.specs.Head.{Span, spanOf, numberAt}
+use Rattle.cbor_item.specs.Item.{inside}
+use Rattle.cbor_item.specs.Reads.{Got, got, refused, bind, guard}
+use Rattle.descriptor.specs.declared.Fields.{Fields}
+use Rattle.descriptor.specs.declared.Reading.{Reading}
+use Rattle.descriptor.specs.declared.Reading.the-variants.{Read, Structure, Validity}
+use Rattle.image.specs.declared.Held.{Held}
+use Rattle.image.specs.declared.Held.the-variants.{Missing, Body}
+use Rattle.image.specs.declared.Survey.{Survey}
+use Rattle.image.specs.declared.Survey.the-variants.{Sound, Unsound}
+use Rattle.image.specs.declared.Finding.{Finding}
+use Rattle.image.specs.declared.Finding.the-variants.{Found, BadId, BadImage, NotHeld}
+use Rattle.image.specs.declared.rows.RowRead.{RowRead}
+use Rattle.image.specs.declared.rows.RowRead.the-variants.{IsRow, NoRow}
+use Rattle.image.specs.Layout.{imageEdition, modeEdition, headerSize, idSize, mostRows, rowPlace}
+use Rattle.image.specs.Image.{reading}
+
+-- ---- numbers of the header and of the row at r
+
+-- the row count
+unfoldable pub rowCount : List ℕ → ℕ
+rowCount s = numberAt s 4 2
+
+-- the id of the row
+abbrev pub rowId : List ℕ → ℕ → List ℕ
+rowId s r = part s r idSize
+
+-- the body's offset
+abbrev pub rowOffset : List ℕ → ℕ → ℕ
+rowOffset s r = numberAt s (r + 16) 4
+
+-- the body's length
+abbrev pub rowLength : List ℕ → ℕ → ℕ
+rowLength s r = numberAt s (r + 20) 4
+
+-- the editions are known, the row count is at most 64, and zero follows
+unfoldable pub headerFits : List ℕ → Bool
+headerFits s =
+    eqb (numberAt s 0 2) imageEdition && (eqb (numberAt s 2 2) modeEdition && (leb (rowCount s) mostRows && eqb (numberAt s 6 2) 0))
+
+-- ---- one row
+
+-- one of the first n rows has the id
+unfoldable pub idAmong : List ℕ → List ℕ → ℕ → Bool
+idAmong s id zero = false
+idAmong s id (suc n) = elim (same (rowId s (rowPlace n)) id) [ true ↦ true | false ↦ idAmong s id n ]
+
+-- the row at r is that of the body at `at`, of which f was read: its id, its offset, the union of its modes, and zero
+unfoldable pub rowFits : List ℕ → ℕ → ℕ → Fields → Bool
+rowFits s r at f =
+    same (rowId s r) (part s (at + f .id) idSize)
+    && (eqb (rowOffset s r) at && (eqb (numberAt s (r + 24) 1) (f .mask) && eqb (numberAt s (r + 25) 7) 0))
+
+-- what was read, and then a reader
+abbrev pub onRead : {R : Type 0} → Reading → (Fields → Got R) → Got R
+onRead (Read f) k = k f
+onRead Structure k = refused
+onRead Validity k = refused
+
+-- row i, whose body begins at `at`: what was read of the body, and the place after it
+unfoldable pub rowAt : List ℕ → ℕ → ℕ → Got Fields
+rowAt s i at =
+    let r = rowPlace i in
+    let n = rowLength s r in
+    guard (leb (at + n) (length s))
+    (onRead (reading (part s at n)) (λ f.
+    guard (rowFits s r at f) (guard (not (idAmong s (rowId s r) i)) (got f (at + n)))))
+
+-- ---- all rows
+
+-- the body at a place is the one looked for, or what was held before stays
+abbrev pub noted : Bool → Held → ℕ → ℕ → Fields → Held
+noted true h at n f = Body at n f
+noted false h at n f = h
+
+-- k rows from row i on, whose bodies begin at `at`: the body with the id, and the place after the last
+unfoldable pub rowsFrom : List ℕ → List ℕ → ℕ → ℕ → ℕ → Held → Got Held
+rowsFrom s id zero i at h = got h at
+rowsFrom s id (suc k) i at h =
+    bind (rowAt s i at) (λ f next. rowsFrom s id k (i + 1) next (noted (same (rowId s (rowPlace i)) id) h at (rowLength s (rowPlace i)) f))
+
+-- the check of the image that s begins with: the body with the id, and where the image ends
+unfoldable pub checked : List ℕ → List ℕ → Got Held
+checked s id =
+    guard (leb headerSize (length s))
+    (guard (headerFits s)
+    (guard (leb (rowPlace (rowCount s)) (length s)) (rowsFrom s id (rowCount s) 0 (rowPlace (rowCount s)) Missing)))
+
+-- ---- what is answered
+
+-- what the answer of reading a row says
+abbrev pub rowRead : RowRead → Got Fields
+rowRead (IsRow f next) = got f next
+rowRead NoRow = refused
+
+-- the answer of a check, of an image of n rows
+abbrev pub surveyed : ℕ → Got Held → Survey
+surveyed n (got h end) = Sound n end h
+surveyed n refused = Unsound
+
+-- the survey of an image for an id
+unfoldable pub surveyOf : List ℕ → List ℕ → Survey
+surveyOf s id = surveyed (rowCount s) (checked s id)
+
+-- the image is sound
+abbrev pub isSound : Survey → Bool
+isSound (Sound n end h) = true
+isSound Unsound = false
+
+-- where the body is held
+abbrev pub heldAt : Held → Finding
+heldAt (Body at n f) = Found at n
+heldAt Missing = NotHeld
+
+abbrev pub foundIn : Survey → Finding
+foundIn (Sound n end h) = heldAt h
+foundIn Unsound = BadImage
+
+-- the lookup of an id: an id that is not 16 bytes, then the image, then the row
+unfoldable pub findOf : List ℕ → List ℕ → Finding
+findOf s id = elim (eqb (length id) idSize) [ true ↦ foundIn (surveyOf s id) | false ↦ BadId ]
+
+-- document 01's answer for a lookup, and the place and length of the body
+pub record Numbers : Type 0 where
+  pub answer : ℕ
+  pub at : ℕ
+  pub len : ℕ
+
+abbrev pub numbersOf : Finding → Numbers
+numbersOf (Found at n) = record { answer = 0; at = at; len = n }
+numbersOf BadId = record { answer = 15; at = 0; len = 0 }
+numbersOf BadImage = record { answer = 16; at = 0; len = 0 }
+numbersOf NotHeld = record { answer = 7; at = 0; len = 0 }
+
+-- where the body that was found stands in s; nothing at the start where none was
+abbrev pub bodySpan : List ℕ → Finding → Span
+bodySpan s (Found at n) = inside s at n
+bodySpan s BadId = spanOf 0 0
+bodySpan s BadImage = spanOf 0 0
+bodySpan s NotHeld = spanOf 0 0
+
+-- the bytes of the body that was found
+abbrev pub bodyFound : List ℕ → Finding → Option (List ℕ)
+bodyFound s (Found at n) = some (part s at n)
+bodyFound s BadId = none
+bodyFound s BadImage = none
+bodyFound s NotHeld = none
+
+-- ---- the bodies that the rows name
+
+-- the bodies of k rows from row i on
+unfoldable pub bodiesFrom : List ℕ → ℕ → ℕ → List (List ℕ)
+bodiesFrom s zero i = []
+bodiesFrom s (suc k) i = part s (rowOffset s (rowPlace i)) (rowLength s (rowPlace i)) ∷ bodiesFrom s k (i + 1)
+
+-- the bodies of an image
+unfoldable pub bodiesOf : List ℕ → List (List ℕ)
+bodiesOf s = bodiesFrom s (rowCount s) 0

@@ -1,0 +1,30 @@
+-- The sizes, limits and editions of a stored image, each named once. Document 01, "The stored image".
+use Prim.Native.Nat.{ℕ, _+_, _*_}
+
+-- the edition of the image's layout
+abbrev pub imageEdition : ℕ
+imageEdition = 1
+
+-- the edition of the modes' numbers: read 0, write 1, execute 2, configure 3
+abbrev pub modeEdition : ℕ
+modeEdition = 1
+
+-- the bytes of the header
+abbrev pub headerSize : ℕ
+headerSize = 8
+
+-- the bytes of a row
+abbrev pub rowSize : ℕ
+rowSize = 32
+
+-- the bytes of a descriptor id
+abbrev pub idSize : ℕ
+idSize = 16
+
+-- the most rows
+abbrev pub mostRows : ℕ
+mostRows = 64
+
+-- where row i stands; where the bodies of so many rows begin
+abbrev pub rowPlace : ℕ → ℕ
+rowPlace i = headerSize + rowSize * i

@@ -1,0 +1,5 @@
+pub mod Layout
+pub mod Image
+pub mod Check
+pub mod Fresh
+pub mod Promises

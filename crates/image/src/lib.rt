@@ -1,0 +1,103 @@
+// The stored image of document 01: a table of contents, then the bodies. What is promised is in specs/Promises.antt.
+mod layout;
+mod rows;
+
+use descriptor::Fields;
+ghost use mathlib.Core.Path.{_≡_};
+ghost use Rattle.cbor_item.specs.Bytes.{PartOf};
+ghost use Rattle.image.specs.Check.{surveyOf, heldAt, findOf, bodySpan};
+ghost use Rattle.image.specs.Fresh.{madeOf, afterNew};
+
+// The body with an id: where it lies in the image, how long it is, and what was read of it; or there is none.
+pub enum Held {
+    Missing,
+    Body {
+        at: usize,
+        len: usize,
+        fields: Fields,
+    },
+}
+
+// What a check of an image answers: how many rows it has, where it ends, and the body that was looked for; or that it is not sound.
+pub enum Survey {
+    Sound { rows: u64, end: usize, held: Held },
+    Unsound,
+}
+
+// What a lookup answers: the body's place and length; 15, the id is not 16 bytes; 16, the image is not sound; 7, the id is not held.
+pub enum Finding {
+    Found { at: usize, len: usize },
+    BadId,
+    BadImage,
+    NotHeld,
+}
+
+// What making a new image answers: 0 or 17.
+pub enum Made {
+    Done,
+    TooShort,
+}
+
+// Checks the image, and looks for the body with the id in the same pass.
+pub fn check(image: &[u8], id: &[u8]) -> Survey
+    ensures { λ r. ⌜ r ≡ surveyOf (now (image .entry)) (now (id .entry)) ⌝ }
+{
+    rows::check(image, id)
+}
+
+// Looks for the body with the id.
+pub fn find(image: &[u8], id: &[u8]) -> Finding
+    ensures { λ r. ⌜ r ≡ findOf (now (image .entry)) (now (id .entry)) ⌝ }
+{
+    if id.len() != layout::ID_SIZE {
+        return Finding::BadId;
+    }
+    match rows::check(image, id) {
+        Survey::Sound {
+            rows: _,
+            end: _,
+            held,
+        } => found(held),
+        Survey::Unsound => Finding::BadImage,
+    }
+}
+
+// Where the body is held.
+fn found(held: Held) -> Finding
+    ensures { λ r. ⌜ r ≡ heldAt held ⌝ }
+{
+    match held {
+        Held::Body { at, len, fields: _ } => Finding::Found { at, len },
+        Held::Missing => Finding::NotHeld,
+    }
+}
+
+// The body that was found in the image, as the part of the image itself; the empty part at the start where none was.
+pub fn body_part(image: &[u8], finding: Finding) -> &[u8]
+    ensures { λ r. ⌜ PartOf (image .entry) r (bodySpan (now (image .entry)) finding .start) (bodySpan (now (image .entry)) finding .len) ⌝ }
+{
+    match finding {
+        Finding::Found { at, len } => {
+            let item = cbor_item::Item::Bytes {
+                start: at,
+                len,
+                next: 0,
+            };
+            cbor_item::content(image, item)
+        }
+        Finding::BadId => &image[..0],
+        Finding::BadImage => &image[..0],
+        Finding::NotHeld => &image[..0],
+    }
+}
+
+// Makes a new image of no bodies; a buffer under 8 bytes is left as it was.
+pub fn new_image(image: &mut [u8]) -> Made
+    ensures { λ r. ⌜ (r ≡ madeOf (now (image .entry))) × (now (image .exit) ≡ afterNew (now (image .entry))) ⌝ }
+{
+    if image.len() < layout::HEADER_SIZE {
+        return Made::TooShort;
+    }
+    buffer::put(image, 0, b"\x00\x01\x00\x01\x00\x00\x00\x00");
+    Made::Done
+}

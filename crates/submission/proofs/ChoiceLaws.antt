@@ -1,0 +1,148 @@
+-- What the stages that only look answer is what the steps in order come to (specs/Stages.antt, specs/Submission.antt). Assumes nothing.
+use mathlib.Core.Path.{_≡_, refl, ap}
+use mathlib.Core.Logic.{_⊎_, inl, inr, ⊎-elim}
+use mathlib.Core.Bool.{Bool, true, false, not, _&&_}
+use mathlib.Core.List.{List}
+use Prim.Native.Nat.{ℕ, _+_, _≤_, _<_}
+use native.Mathlib.Omega.{arith}
+use lib.ListN.{length}
+use lib.Dec.{leb, ltb}
+use borrow.Author.Tests.{ltb-true, leb-true}
+use Rattle.cbor_item.specs.Bytes.{part, same}
+use Rattle.cbor_item.proofs.Tests.{by-cond, and-left, and-right}
+use Rattle.descriptor.specs.declared.Fields.{Fields}
+use Rattle.descriptor.specs.declared.Reading.{Reading}
+use Rattle.descriptor.specs.declared.Reading.the-variants.{Read, Structure, Validity}
+use Rattle.steps.specs.declared.Window.{Window}
+use Rattle.steps.specs.Order.{inOrder}
+use Rattle.steps.specs.Key.{bad, noKey, isVerdict, isThat, keyOpen}
+use Rattle.steps.proofs.OrderLaws.{Decides, ends, passes, fails, decided}
+use Rattle.image.specs.declared.Held.{Held}
+use Rattle.image.specs.declared.Held.the-variants.{Missing, Body}
+use Rattle.image.specs.declared.Survey.{Survey}
+use Rattle.image.specs.declared.Survey.the-variants.{Sound, Unsound}
+use Rattle.image.specs.Layout.{rowSize, mostRows}
+use Rattle.image.specs.Image.{reading, idOf}
+use Rattle.image.specs.Check.{surveyOf}
+use Rattle.submission.specs.declared.Submission.{Submission}
+use Rattle.submission.specs.declared.Submission.the-variants as answers
+use Rattle.submission.specs.declared.choose.Choice.{Choice}
+use Rattle.submission.specs.declared.choose.Choice.the-variants.{Answer, Store}
+use Rattle.submission.specs.declared.choose.Admission.{Admission}
+use Rattle.submission.specs.Submission.{longestLead, isHeld, stepsBy, numberOf, afterAnswer}
+use Rattle.submission.specs.Stages.{admitted, placed, whenAdmitted, chosenRead, chosenUnread, chosenBy, choiceOf}
+
+-- ---- the buffer after a refusal
+
+-- Every byte is as it was, or the answer is 0.
+pub kept-or-done : (d b : List ℕ) (held : Bool) (a : Submission) → (afterAnswer d b held a ≡ d) ⊎ (a ≡ answers.Done)
+kept-or-done d b true a = inl refl
+kept-or-done d b false answers.Done = inr refl
+kept-or-done d b false answers.Structure = inl refl
+kept-or-done d b false answers.Validity = inl refl
+kept-or-done d b false answers.UnknownIssuer = inl refl
+kept-or-done d b false answers.BadSignature = inl refl
+kept-or-done d b false answers.Duplicate = inl refl
+kept-or-done d b false answers.Full = inl refl
+kept-or-done d b false answers.KeyInvalid = inl refl
+kept-or-done d b false answers.Malformed = inl refl
+kept-or-done d b false answers.BadImage = inl refl
+
+-- An answer that is not 0 leaves every byte as it was.
+pub refused-keeps : (d b : List ℕ) (held : Bool) (a : Submission) → (a ≡ answers.Done → ⊥) → afterAnswer d b held a ≡ d
+refused-keeps d b held a other = ⊎-elim (λ e. e) (λ e. absurd (other e)) (kept-or-done d b held a)
+
+-- ---- what a choice says
+
+-- The body is to be stored: every step passes, the id is not held, and there is room.
+pub record Storing (d b : List ℕ) (clock verdict : ℕ) (window : Window) (r : Reading) (v : Survey) (n end id mask : ℕ) : Type 0 where
+  pub done : answers.Done ≡ inOrder (stepsBy d b clock verdict window r v) answers.Done
+  pub found : v ≡ Sound n end Missing
+  pub fields : Fields
+  pub reads : r ≡ Read fields
+  pub named : id ≡ fields .id
+  pub modes : mask ≡ fields .mask
+  pub few : n < 64
+  pub room : end + 32 + length b ≤ length d
+
+-- An answer is what the steps come to, and leaves the buffer as it was; a body that is to be stored has passed every step.
+abbrev pub ChoiceIs : List ℕ → List ℕ → ℕ → ℕ → Window → Reading → Survey → Choice → Type 0
+ChoiceIs d b clock verdict window r v (Answer a) = (a ≡ inOrder (stepsBy d b clock verdict window r v) answers.Done) × (afterAnswer d b (isHeld v) a ≡ d)
+ChoiceIs d b clock verdict window r v (Store n end id mask) = Storing d b clock verdict window r v n end id mask
+
+-- A refusal that the steps come to is a choice that says so.
+refuses : (d b : List ℕ) (clock verdict : ℕ) (window : Window) (r : Reading) (v : Survey) (a : Submission) → 0 < numberOf a
+    → Decides (stepsBy d b clock verdict window r v) answers.Done a → ChoiceIs d b clock verdict window r v (Answer a)
+refuses d b clock verdict window r v a n w = (decided w, refused-keeps d b (isHeld v) a (λ e. omega (arith, ap numberOf e)))
+
+module _ (d b : List ℕ) (clock verdict : ℕ) (window : Window) (known : isVerdict verdict ≡ true) where
+  module _ (n end : ℕ) (f : Fields) (early : leb (f .before) (clock + longestLead) ≡ true) (issuer : isThat verdict noKey ≡ false) (key : keyOpen window clock ≡ true) (signed : isThat verdict bad ≡ false) where
+    -- Where the steps before it pass, the place of the body is what the last two steps come to.
+    placed-is : (h : Held) → ChoiceIs d b clock verdict window (Read f) (Sound n end h) (placed d b n end h f)
+    unfolding stepsBy placed
+    placed-is (Body at len g) =
+        by-cond (ChoiceIs d b clock verdict window (Read f) (Sound n end (Body at len g))) (same (part d at len) b)
+        (λ e. (
+          decided (passes known (passes refl (passes refl (passes refl (passes early (passes (ap not issuer) (passes key (passes (ap not signed) (passes e (passes refl ends)))))))))),
+          refl,
+        ))
+        (λ e. (
+          decided (passes known (passes refl (passes refl (passes refl (passes early (passes (ap not issuer) (passes key (passes (ap not signed) (fails e))))))))),
+          refl,
+        ))
+    placed-is Missing =
+        by-cond (ChoiceIs d b clock verdict window (Read f) (Sound n end Missing)) (ltb n mostRows && leb (end + rowSize + length b) (length d))
+        (λ e. record {
+          done = decided (passes known (passes refl (passes refl (passes refl (passes early (passes (ap not issuer) (passes key (passes (ap not signed) (passes refl (passes e ends))))))))));
+          found = refl;
+          fields = f;
+          reads = refl;
+          named = refl;
+          modes = refl;
+          few = ltb-true n mostRows (and-left (ltb n mostRows) (leb (end + rowSize + length b) (length d)) e);
+          room = leb-true (end + rowSize + length b) (length d) (and-right (ltb n mostRows) (leb (end + rowSize + length b) (length d)) e);
+        })
+        (λ e. (
+          decided (passes known (passes refl (passes refl (passes refl (passes early (passes (ap not issuer) (passes key (passes (ap not signed) (passes refl (fails e)))))))))),
+          refl,
+        ))
+
+  -- A body that reads, in an image that is sound: the steps from the beginning to the signature, and then the place.
+  read-is : (n end : ℕ) (h : Held) (f : Fields)
+      → ChoiceIs d b clock verdict window (Read f) (Sound n end h) (whenAdmitted (admitted (f .before) clock verdict window) (placed d b n end h f))
+  unfolding stepsBy admitted
+  read-is n end h f =
+      let v : Survey = Sound n end h in
+      let P : Admission → Type 0 = λ a. ChoiceIs d b clock verdict window (Read f) v (whenAdmitted a (placed d b n end h f)) in
+      by-cond P (leb (f .before) (clock + longestLead))
+      (λ early. by-cond P (isThat verdict noKey)
+      (λ issuer. refuses d b clock verdict window (Read f) v answers.UnknownIssuer (omega arith) (passes known (passes refl (passes refl (passes refl (passes early (fails (ap not issuer))))))))
+      (λ issuer. by-cond P (keyOpen window clock)
+      (λ key. by-cond P (isThat verdict bad)
+      (λ signed. refuses d b clock verdict window (Read f) v answers.BadSignature (omega arith)
+      (passes known (passes refl (passes refl (passes refl (passes early (passes (ap not issuer) (passes key (fails (ap not signed))))))))))
+      (λ signed. placed-is n end f early issuer key signed h))
+      (λ key. refuses d b clock verdict window (Read f) v answers.KeyInvalid (omega arith) (passes known (passes refl (passes refl (passes refl (passes early (passes (ap not issuer) (fails key)))))))))
+      )
+      (λ early. refuses d b clock verdict window (Read f) v answers.Validity (omega arith) (passes known (passes refl (passes refl (passes refl (fails early))))))
+
+  -- A verdict that is known: the image, then what reading the body answered.
+  known-is : (r : Reading) (v : Survey) → ChoiceIs d b clock verdict window r v (chosenBy d b clock verdict window r v)
+  unfolding stepsBy chosenRead chosenUnread
+  known-is (Read f) (Sound n end h) = read-is n end h f
+  known-is (Read f) Unsound = refuses d b clock verdict window (Read f) Unsound answers.BadImage (omega arith) (passes known (fails refl))
+  known-is Structure (Sound n end h) = refuses d b clock verdict window Structure (Sound n end h) answers.Structure (omega arith) (passes known (passes refl (fails refl)))
+  known-is Structure Unsound = refuses d b clock verdict window Structure Unsound answers.BadImage (omega arith) (passes known (fails refl))
+  known-is Validity (Sound n end h) = refuses d b clock verdict window Validity (Sound n end h) answers.Validity (omega arith) (passes known (passes refl (passes refl (fails refl))))
+  known-is Validity Unsound = refuses d b clock verdict window Validity Unsound answers.BadImage (omega arith) (passes known (fails refl))
+
+-- What the stages choose is what the steps come to.
+pub choice-is : (d b : List ℕ) (clock verdict : ℕ) (window : Window)
+    → ChoiceIs d b clock verdict window (reading b) (surveyOf d (idOf b)) (choiceOf d b clock verdict window)
+unfolding stepsBy choiceOf
+choice-is d b clock verdict window =
+    let r : Reading = reading b in
+    let v : Survey = surveyOf d (idOf b) in
+    by-cond (ChoiceIs d b clock verdict window r v) (isVerdict verdict)
+    (λ known. known-is d b clock verdict window known r v)
+    (λ unknown. refuses d b clock verdict window r v answers.Malformed (omega arith) (fails unknown))

@@ -1,0 +1,220 @@
+-- Laws that the proofs of the code apply: what the tests, calls and writes of the code say of the definitions of specs/Stages.antt. Assumes nothing.
+use mathlib.Core.Path.{_≡_, sym, ap, _∙_, subst}
+use mathlib.Core.Bool.{Bool, true, false, not}
+use mathlib.Core.List.{List}
+use Prim.Native.Nat.{ℕ, suc, _+_, _-_, _*_, _≤_, _<_}
+use native.Mathlib.Omega.{arith}
+use lib.ListN.{length, take, drop, replicate, getD}
+use mir.Syntax.{w8}
+use mir.Val.{Fits}
+use borrow.Author.Tests.{lt-ltb, le-ltb, le-leb, lt-leb, eq-eqb, ne-eqb, not-true, not-false}
+use Rattle.cbor_item.specs.Bytes.{AreBytes, part, same}
+use Rattle.cbor_item.specs.Encoding.{bigEndian}
+use Rattle.buffer.specs.Write.{putAt, movedUp}
+use Rattle.buffer.specs.Number.{numberIn}
+use Rattle.descriptor.specs.declared.Fields.{Fields}
+use Rattle.descriptor.specs.declared.Reading.{Reading}
+use Rattle.descriptor.specs.declared.Reading.the-variants.{Read, Structure, Validity}
+use Rattle.descriptor.specs.Reader.{readOf}
+use Rattle.descriptor.specs.Answer.{readingOf}
+use Rattle.steps.specs.declared.Window.{Window}
+use Rattle.steps.specs.Key.{isVerdict, isThat, keyOpen}
+use Rattle.image.specs.declared.Held.{Held}
+use Rattle.image.specs.declared.Held.the-variants.{Missing, Body}
+use Rattle.image.specs.declared.Survey.{Survey}
+use Rattle.image.specs.declared.Survey.the-variants.{Sound, Unsound}
+use Rattle.image.specs.Image.{reading, idIn, idOf}
+use Rattle.image.specs.Check.{surveyOf}
+use Rattle.image.proofs.BodyLaws.{read-in}
+use Rattle.image.proofs.CodeLaws.{lent-part}
+use Rattle.submission.specs.declared.Submission.{Submission}
+use Rattle.submission.specs.declared.Submission.the-variants as answers
+use Rattle.submission.specs.declared.choose.Choice.{Choice}
+use Rattle.submission.specs.declared.choose.Choice.the-variants.{Answer, Store}
+use Rattle.submission.specs.declared.choose.Admission.{Admission}
+use Rattle.submission.specs.declared.choose.Admission.the-variants.{Refused, Admitted}
+use Rattle.submission.specs.Places.{HeldFits}
+use Rattle.submission.specs.Stages.{admitted, placed, whenAdmitted, chosenRead, chosenUnread, chosenBy, choiceOf, raised, withRow, grown}
+
+-- ---- the beginning, the issuer, the key and the signature
+
+-- A descriptor that begins more than a day ahead is refused.
+pub admit-late : (before clock verdict : ℕ) (window : Window) → clock + 86400 < before → Refused answers.Validity ≡ admitted before clock verdict window
+unfolding admitted
+admit-late before clock verdict window h = rw (lt-leb before (clock + 86400) h)
+
+module _ (before clock verdict : ℕ) (window : Window) (h : before ≤ clock + 86400) where
+  -- Where there is no such key the issuer is unknown.
+  pub admit-issuer : verdict ≡ 2 → Refused answers.UnknownIssuer ≡ admitted before clock verdict window
+  unfolding admitted isThat
+  admit-issuer e = rw (le-leb before (clock + 86400) h, eq-eqb verdict 2 e)
+
+  module _ (n : verdict ≡ 2 → ⊥) (opens : Bool) (k : opens ≡ keyOpen window clock) where
+    -- A key whose window the clock is not in is refused.
+    pub admit-key : not opens ≡ true → Refused answers.KeyInvalid ≡ admitted before clock verdict window
+    unfolding admitted isThat
+    admit-key t = rw (le-leb before (clock + 86400) h, ne-eqb verdict 2 n, sym k ∙ not-true opens t)
+
+    -- A bad signature is refused.
+    pub admit-bad : not opens ≡ false → verdict ≡ 1 → Refused answers.BadSignature ≡ admitted before clock verdict window
+    unfolding admitted isThat
+    admit-bad t e = rw (le-leb before (clock + 86400) h, ne-eqb verdict 2 n, sym k ∙ not-false opens t, eq-eqb verdict 1 e)
+
+    -- Else all pass.
+    pub admit-all : not opens ≡ false → (verdict ≡ 1 → ⊥) → Admitted ≡ admitted before clock verdict window
+    unfolding admitted isThat
+    admit-all t e = rw (le-leb before (clock + 86400) h, ne-eqb verdict 2 n, sym k ∙ not-false opens t, ne-eqb verdict 1 e)
+
+-- ---- a body that is held, and one that is not
+
+-- The body that is held lies in the image.
+pub held-room : (d : List ℕ) (h : Held) (at len : ℕ) (g : Fields) → HeldFits d h → h ≡ Body at len g → at + len ≤ length d
+held-room d h at len g k e = subst (HeldFits d) e k
+
+module _ (d b : List ℕ) (n end : ℕ) (h : Held) (f : Fields) where
+  module _ (at len : ℕ) (g : Fields) (e : h ≡ Body at len g) (t : Bool) (k : t ≡ same (take (at + len - at) (drop at d)) b) where
+    -- The bytes that the code compares are those of the body that is held.
+    same-held : same (part d at len) b ≡ t
+    same-held = sym (k ∙ ap (λ (x : List ℕ). same x b) (lent-part d at len))
+
+    -- The same bytes are held: nothing is to be stored.
+    pub place-same : t ≡ true → Answer answers.Done ≡ placed d b n end h f
+    unfolding placed
+    place-same u = sym (ap (λ (x : Held). placed d b n end x f) e ∙ rw (same-held ∙ u))
+
+    -- Other bytes are held under the id.
+    pub place-other : t ≡ false → Answer answers.Duplicate ≡ placed d b n end h f
+    unfolding placed
+    place-other u = sym (ap (λ (x : Held). placed d b n end x f) e ∙ rw (same-held ∙ u))
+
+  module _ (e : h ≡ Missing) where
+    -- There are 64 rows.
+    pub place-full : 64 ≤ n → Answer answers.Full ≡ placed d b n end h f
+    unfolding placed
+    place-full l = sym (ap (λ (x : Held). placed d b n end x f) e ∙ rw (le-ltb n 64 l))
+
+    -- The larger image would exceed the buffer.
+    pub place-long : n < 64 → length d < end + 32 + length b → Answer answers.Full ≡ placed d b n end h f
+    unfolding placed
+    place-long l m = sym (ap (λ (x : Held). placed d b n end x f) e ∙ rw (lt-ltb n 64 l, lt-leb (end + 32 + length b) (length d) m))
+
+    -- Else the body is to be stored.
+    pub place-store : n < 64 → end + 32 + length b ≤ length d → Store n end (f .id) (f .mask) ≡ placed d b n end h f
+    unfolding placed
+    place-store l m = sym (ap (λ (x : Held). placed d b n end x f) e ∙ rw (lt-ltb n 64 l, le-leb (end + 32 + length b) (length d) m))
+
+-- ---- by the survey of the image
+
+module _ (d b : List ℕ) (clock verdict : ℕ) (window : Window) (f : Fields) (v : Survey) where
+  -- An image that is not sound is refused.
+  pub read-unsound : v ≡ Unsound → Answer answers.BadImage ≡ chosenRead d b clock verdict window f v
+  unfolding chosenRead
+  read-unsound e = sym (ap (chosenRead d b clock verdict window f) e)
+
+  module _ (n end : ℕ) (h : Held) (e : v ≡ Sound n end h) (a : Admission) (k : a ≡ admitted (f .before) clock verdict window) where
+    -- In a sound image it is placed, if it is admitted.
+    read-sound : chosenRead d b clock verdict window f v ≡ whenAdmitted a (placed d b n end h f)
+    unfolding chosenRead
+    read-sound =
+        ap (chosenRead d b clock verdict window f) e
+        ∙ ap (λ (x : Admission). whenAdmitted x (placed d b n end h f)) (sym k)
+
+    -- A refusal is the answer.
+    pub read-refused : (x : Submission) → a ≡ Refused x → Answer x ≡ chosenRead d b clock verdict window f v
+    read-refused x u = sym (read-sound ∙ ap (λ (y : Admission). whenAdmitted y (placed d b n end h f)) u)
+
+    -- What is admitted is placed.
+    pub read-placed : (r : Choice) → a ≡ Admitted → r ≡ placed d b n end h f → r ≡ chosenRead d b clock verdict window f v
+    read-placed r u p = p ∙ sym (read-sound ∙ ap (λ (y : Admission). whenAdmitted y (placed d b n end h f)) u)
+
+module _ (d id : List ℕ) (a : Submission) (v : Survey) (e : v ≡ surveyOf d id) where
+  -- What is answered of a body that does not read, in a sound image.
+  pub unread-sound : (n end : ℕ) (h : Held) → v ≡ Sound n end h → Answer a ≡ chosenUnread a (surveyOf d id)
+  unfolding chosenUnread
+  unread-sound n end h u = ap (chosenUnread a) (sym u ∙ e)
+
+  -- In an image that is not sound that comes first.
+  pub unread-unsound : v ≡ Unsound → Answer answers.BadImage ≡ chosenUnread a (surveyOf d id)
+  unfolding chosenUnread
+  unread-unsound u = ap (chosenUnread a) (sym u ∙ e)
+
+-- ---- what is to be done
+
+-- What is known of a lent slice: its elements are bytes.
+pub are-bytes : (s : List ℕ) → ((i : ℕ) → Fits w8 (getD s i 0)) → AreBytes s
+are-bytes s h i = omega (arith, h i)
+
+-- What the code reads is the reading of the body.
+reading-is : (b : List ℕ) (o x : Reading) → o ≡ readingOf (readOf b) → o ≡ x → reading b ≡ x
+unfolding reading
+reading-is b o x k e = sym k ∙ e
+
+-- The id that was read lies in the body.
+pub id-room : (b : List ℕ) (o : Reading) (f : Fields) → o ≡ readingOf (readOf b) → o ≡ Read f → f .id + 16 ≤ length b
+id-room b o f k e = read-in b f (reading-is b o (Read f) k e) .id
+
+-- A verdict that is none of the three is refused.
+pub choice-malformed : (d b : List ℕ) (clock verdict : ℕ) (window : Window) → 2 < verdict → Answer answers.Malformed ≡ choiceOf d b clock verdict window
+unfolding choiceOf isVerdict
+choice-malformed d b clock verdict window h = rw (lt-leb verdict 2 h)
+
+module _ (d b : List ℕ) (clock verdict : ℕ) (window : Window) (h : verdict ≤ 2) (o : Reading) (k : o ≡ readingOf (readOf b)) where
+  -- What is to be done, by what was read.
+  choice-by : (x : Reading) → o ≡ x → chosenBy d b clock verdict window x (surveyOf d (idIn b x)) ≡ choiceOf d b clock verdict window
+  unfolding choiceOf isVerdict idOf
+  choice-by x e =
+      ap (λ (y : Reading). chosenBy d b clock verdict window y (surveyOf d (idIn b y))) (sym (reading-is b o x k e))
+      ∙ rw (le-leb verdict 2 h)
+
+  -- A body that reads.
+  pub choice-read : (f : Fields) (v : Survey) (r : Choice) → o ≡ Read f → v ≡ surveyOf d (take (f .id + 16 - f .id) (drop (f .id) b))
+      → r ≡ chosenRead d b clock verdict window f v → r ≡ choiceOf d b clock verdict window
+  choice-read f v r e s p =
+      p
+      ∙ ap (chosenRead d b clock verdict window f) (s ∙ ap (surveyOf d) (lent-part b (f .id) 16))
+      ∙ choice-by (Read f) e
+
+  -- A body with a fault of structure.
+  pub choice-structure : (r : Choice) → o ≡ Structure → r ≡ chosenUnread answers.Structure (surveyOf d (replicate 16 0)) → r ≡ choiceOf d b clock verdict window
+  choice-structure r e p = p ∙ choice-by Structure e
+
+  -- A body with a period that is not valid.
+  pub choice-validity : (r : Choice) → o ≡ Validity → r ≡ chosenUnread answers.Validity (surveyOf d (replicate 16 0)) → r ≡ choiceOf d b clock verdict window
+  choice-validity r e p = p ∙ choice-by Validity e
+
+-- ---- the offsets are raised
+
+-- Before the first row all rows are left.
+pub raise-begin : (d : List ℕ) (n : ℕ) → raised d n 0 ≡ raised d (n - 0) 0
+raise-begin d n = let k : n ≡ n - 0 = omega arith in ap (λ (m : ℕ). raised d m 0) k
+
+-- A row whose offset was raised leaves the rows after it.
+pub raise-next : (d d′ : List ℕ) (n i v : ℕ) → i < n → v ≡ numberIn d (8 + 32 * i + 16) 4 → d′ ≡ putAt d (8 + 32 * i + 16) (bigEndian 4 (v + 32))
+    → raised d (n - i) i ≡ raised d′ (n - (i + 1)) (i + 1)
+unfolding raised
+raise-next d d′ n i v l e p =
+    let k : n - i ≡ suc (n - (i + 1)) = omega arith in
+    ap (λ (m : ℕ). raised d m i) k
+    ∙ ap (λ (x : List ℕ). raised x (n - (i + 1)) (i + 1))
+    (ap (λ (w : ℕ). putAt d (8 + 32 * i + 16) (bigEndian 4 (w + 32))) (sym e) ∙ sym p)
+
+-- After the last row nothing is left.
+pub raise-end : (d : List ℕ) (n i : ℕ) → n ≤ i → raised d (n - i) i ≡ d
+unfolding raised
+raise-end d n i l = let k : n - i ≡ 0 = omega arith in ap (λ (m : ℕ). raised d m i) k
+
+-- ---- the row and the whole
+
+-- The five writes of a row.
+pub row-done : (d d₁ d₂ d₃ d₄ d₅ : List ℕ) (r at : ℕ) (b : List ℕ) (id mask : ℕ)
+    → d₁ ≡ putAt d r (take (id + 16 - id) (drop id b)) → d₂ ≡ putAt d₁ (r + 16) (bigEndian 4 at) → d₃ ≡ putAt d₂ (r + 20) (bigEndian 4 (length b))
+    → d₄ ≡ putAt d₃ (r + 24) (bigEndian 1 mask) → d₅ ≡ putAt d₄ (r + 25) (bigEndian 7 0) → d₅ ≡ withRow d r at b id mask
+unfolding withRow
+row-done d d₁ d₂ d₃ d₄ d₅ r at b id mask e₁ e₂ e₃ e₄ e₅ = rw (e₅, e₄, e₃, e₂, e₁, lent-part b id 16)
+
+-- The five writes of one more row and body.
+pub grow-done : (d d₁ d₂ d₃ d₄ d₅ : List ℕ) (n end : ℕ) (b : List ℕ) (id mask : ℕ)
+    → d₁ ≡ movedUp d (8 + 32 * n) end 32 → d₂ ≡ raised d₁ n 0 → d₃ ≡ withRow d₂ (8 + 32 * n) (end + 32) b id mask
+    → d₄ ≡ putAt d₃ (end + 32) b → d₅ ≡ putAt d₄ 4 (bigEndian 2 (n + 1)) → d₅ ≡ grown d n end b id mask
+unfolding grown
+grow-done d d₁ d₂ d₃ d₄ d₅ n end b id mask e₁ e₂ e₃ e₄ e₅ = rw (e₅, e₄, e₃, e₂, e₁)

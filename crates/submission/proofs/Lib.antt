@@ -1,0 +1,9 @@
+pub mod FitLaws
+pub mod CodeLaws
+pub mod ChoiceLaws
+pub mod StepLaws
+pub mod RaiseLaws
+pub mod GrowLaws
+pub mod StoredLaws
+pub mod SubmitLaws
+pub mod Promises

@@ -1,0 +1,138 @@
+-- What the writes of one row leave (specs/Stages.antt): an offset raised, all offsets raised, a row written in pieces, the row count written. Assumes nothing.
+use mathlib.Core.Path.{_≡_, refl, sym, ap, _∙_, subst}
+use mathlib.Core.List.{List, [], _∷_, _++_, append-assoc}
+use Prim.Native.Nat.{ℕ, suc, _+_, _*_, _≤_, _<_}
+use native.Mathlib.Omega.{arith}
+use lib.ListN.{length, length-append}
+use Rattle.cbor_item.specs.Bytes.{part, Has}
+use Rattle.cbor_item.specs.Encoding.{bigEndian}
+use Rattle.cbor_item.proofs.BytesLaws.{has-left, has-fits}
+use Rattle.cbor_item.proofs.HeadLaws.{length-bigEndian}
+use Rattle.buffer.specs.Write.{over, putAt}
+use Rattle.buffer.specs.Number.{numberIn}
+use Rattle.buffer.proofs.OverLaws.{over-has, over-append, Kept, kept-over, kept-has, kept-join, kept-self, put-fits}
+use Rattle.buffer.proofs.NumberLaws.{number-in, number-of-has}
+use Rattle.descriptor.specs.declared.Fields.{Fields}
+use Rattle.descriptor.specs.declared.Reading.the-variants.{Read}
+use Rattle.image.specs.Layout.{imageEdition, modeEdition, rowSize, rowPlace}
+use Rattle.image.specs.Image.{reading, idOf, modesOf, header, row, rowsOf, joined}
+use Rattle.image.proofs.RowLaws.{id-read, modes-read, id-length, row-length, has-after, has-both, RowParts, row-parts, parts-row}
+use Rattle.submission.specs.Stages.{raised, withRow}
+
+-- ---- offsets
+
+-- What is kept but for some bytes is kept but for more.
+pub kept-wide : (d d′ : List ℕ) (from to a b : ℕ) → Kept d d′ from to → a ≤ from → to ≤ b → Kept d d′ a b
+kept-wide d d′ from to a b k h l = kept-join d d d′ from to from to a b (kept-self d from to) k h h l l
+
+-- The offset of a row raised by a row's size: the row of the body that lies so much higher, and no other byte is changed.
+pub row-raised : (d : List ℕ) (r at : ℕ) (b : List ℕ) → at < 4294967296 → Has d r (row at b)
+    → Has (putAt d (r + 16) (bigEndian 4 (numberIn d (r + 16) 4 + rowSize))) r (row (at + 32) b)
+    × Kept d (putAt d (r + 16) (bigEndian 4 (numberIn d (r + 16) 4 + rowSize))) r (r + 32)
+row-raised d r at b small h =
+    let p : RowParts d r at b = row-parts d r at b h in
+    let l : length (row at b) ≡ 32 = row-length at b in
+    let i : r + 32 ≤ length d = omega (arith, has-fits d r (row at b) (omega arith) h) in
+    let v : numberIn d (r + 16) 4 ≡ at = number-in d (r + 16) 4 (omega arith) (omega arith) ∙ number-of-has d (r + 16) 4 at small (omega arith) (p .offset) in
+    let new : List ℕ = bigEndian 4 (at + 32) in
+    let m : length new ≡ 4 = length-bigEndian 4 (at + 32) in
+    let fit : (r + 16) + length new ≤ length d = omega arith in
+    let d′ : List ℕ = over d (r + 16) new in
+    let k : Kept d d′ (r + 16) ((r + 16) + length new) = kept-over d (r + 16) new fit in
+    let q : RowParts d′ r (at + 32) b = record {
+      id = k .before r (idOf b) (omega (arith, id-length b)) (p .id);
+      offset = over-has d (r + 16) new fit;
+      size = kept-has d d′ _ _ (r + 20) _ k (omega arith) (p .size);
+      mask = kept-has d d′ _ _ (r + 24) _ k (omega arith) (p .mask);
+      zeros = kept-has d d′ _ _ (r + 25) _ k (omega arith) (p .zeros);
+    } in
+    let e : putAt d (r + 16) (bigEndian 4 (numberIn d (r + 16) 4 + 32)) ≡ d′
+    = ap (λ (n : ℕ). putAt d (r + 16) (bigEndian 4 (n + 32))) v ∙ put-fits d (r + 16) new fit in
+    subst (λ (x : List ℕ). Has x r (row (at + 32) b) × Kept d x r (r + 32)) (sym e)
+    (parts-row d′ r (at + 32) b q, kept-wide d d′ (r + 16) ((r + 16) + length new) r (r + 32) k (omega arith) (omega arith))
+
+-- The offsets of all rows raised: the rows of the bodies that lie so much higher, and no other byte is changed.
+pub rows-raised : (d : List ℕ) (i at : ℕ) (bs : List (List ℕ)) → at + length (joined bs) < 4294967296 → Has d (rowPlace i) (rowsOf at bs)
+    → Has (raised d (length bs) i) (rowPlace i) (rowsOf (at + 32) bs) × Kept d (raised d (length bs) i) (rowPlace i) (rowPlace i + 32 * length bs)
+unfolding raised rowsOf joined
+rows-raised d i at [] small h = (h, kept-self d (rowPlace i) (rowPlace i + 0))
+rows-raised d i at (b ∷ bs) small h =
+    let r : ℕ = rowPlace i in
+    let next : ℕ = rowPlace (i + 1) in
+    let step : r + 32 ≡ next = omega arith in
+    let rest : List ℕ = rowsOf (at + length b) bs in
+    let short : at + (length b + length (joined bs)) < 4294967296 = omega (arith, length-append b (joined bs)) in
+    let d′ : List ℕ = putAt d (r + 16) (bigEndian 4 (numberIn d (r + 16) 4 + rowSize)) in
+    let x = row-raised d r at b (omega arith) (has-left d r (row at b) rest h) in
+    let g : Has d′ next rest = kept-has d d′ r (r + 32) next rest (x .1) (omega arith) (has-after d r 32 next (row at b) rest (row-length at b) step h) in
+    let y = rows-raised d′ (i + 1) (at + length b) bs (omega arith) g in
+    let d″ : List ℕ = raised d′ (length bs) (i + 1) in
+    let s : (at + length b) + 32 ≡ (at + 32) + length b = omega arith in
+    let first : Has d″ r (row (at + 32) b) = y .1 .before r (row (at + 32) b) (omega (arith, row-length (at + 32) b)) (x .0) in (
+      has-both d″ r 32 next (row (at + 32) b) (rowsOf ((at + 32) + length b) bs) (row-length (at + 32) b) step first (subst (λ (n : ℕ). Has d″ next (rowsOf n bs)) s (y .0)),
+      kept-join d d′ d″ r (r + 32) next (next + 32 * length bs) r (r + 32 * suc (length bs)) (x .1) (y .1) (omega arith) (omega arith) (omega arith) (omega arith),
+    )
+
+-- ---- a row in pieces
+
+-- A piece written right after another is the two written together.
+put-next : (d : List ℕ) (r : ℕ) (s t : List ℕ) (p : ℕ) → r + length s ≡ p → p + length t ≤ length d → putAt (over d r s) p t ≡ over d r (s ++ t)
+put-next d r s t p e h =
+    let k : Kept d (over d r s) r (r + length s) = kept-over d r s (omega arith) in
+    put-fits (over d r s) p t (omega (arith, k .long)) ∙ ap (λ (q : ℕ). over (over d r s) q t) (sym e) ∙ over-append d r s t (omega arith)
+
+-- Five lists one after the other, in two orders of joining.
+five : (a b c d e : List ℕ) → (((a ++ b) ++ c) ++ d) ++ e ≡ a ++ (b ++ (c ++ (d ++ e)))
+five a b c d e = simp append-assoc
+
+-- The row of a body, written in its five pieces, is the row written.
+pub with-row : (d : List ℕ) (r at : ℕ) (b : List ℕ) (f : Fields) → reading b ≡ Read f → r + 32 ≤ length d → withRow d r at b (f .id) (f .mask) ≡ over d r (row at b)
+unfolding withRow row
+with-row d r at b f e room =
+    let i : List ℕ = idOf b in
+    let o : List ℕ = bigEndian 4 at in
+    let n : List ℕ = bigEndian 4 (length b) in
+    let m : List ℕ = bigEndian 1 (modesOf b) in
+    let z : List ℕ = bigEndian 7 0 in
+    let li : length i ≡ 16 = id-length b in
+    let lo : length o ≡ 4 = length-bigEndian 4 at in
+    let ln : length n ≡ 4 = length-bigEndian 4 (length b) in
+    let lm : length m ≡ 1 = length-bigEndian 1 (modesOf b) in
+    let lz : length z ≡ 7 = length-bigEndian 7 0 in
+    let l₂ : length (i ++ o) ≡ 20 = omega (arith, length-append i o) in
+    let l₃ : length ((i ++ o) ++ n) ≡ 24 = omega (arith, length-append (i ++ o) n) in
+    let l₄ : length (((i ++ o) ++ n) ++ m) ≡ 25 = omega (arith, length-append ((i ++ o) ++ n) m) in
+    let e₁ : putAt d r (part b (f .id) 16) ≡ over d r i = ap (putAt d r) (sym (id-read b f e)) ∙ put-fits d r i (omega arith) in
+    let e₂ : putAt (over d r i) (r + 16) o ≡ over d r (i ++ o) = put-next d r i o (r + 16) (omega arith) (omega arith) in
+    let e₃ : putAt (over d r (i ++ o)) (r + 20) n ≡ over d r ((i ++ o) ++ n) = put-next d r (i ++ o) n (r + 20) (omega arith) (omega arith) in
+    let e₄ : putAt (over d r ((i ++ o) ++ n)) (r + 24) m ≡ over d r (((i ++ o) ++ n) ++ m) = put-next d r ((i ++ o) ++ n) m (r + 24) (omega arith) (omega arith) in
+    let e₅ : putAt (over d r (((i ++ o) ++ n) ++ m)) (r + 25) z ≡ over d r ((((i ++ o) ++ n) ++ m) ++ z)
+    = put-next d r (((i ++ o) ++ n) ++ m) z (r + 25) (omega arith) (omega arith) in
+    rw (e₁, e₂, e₃, ← modes-read b f e, e₄, e₅) (ap (over d r) (five i o n m z))
+
+-- ---- the row count
+
+-- Another row count written over a header is the header of so many rows.
+pub header-counted : (d : List ℕ) (n m : ℕ) → Has d 0 (header n) → Has (over d 4 (bigEndian 2 m)) 0 (header m)
+unfolding header
+header-counted d n m h =
+    let a : List ℕ = bigEndian 2 imageEdition in
+    let b : List ℕ = bigEndian 2 modeEdition in
+    let c : List ℕ = bigEndian 2 n in
+    let z : List ℕ = bigEndian 2 0 in
+    let new : List ℕ = bigEndian 2 m in
+    let la : length a ≡ 2 = length-bigEndian 2 imageEdition in
+    let lb : length b ≡ 2 = length-bigEndian 2 modeEdition in
+    let lc : length c ≡ 2 = length-bigEndian 2 n in
+    let lz : length z ≡ 2 = length-bigEndian 2 0 in
+    let lm : length new ≡ 2 = length-bigEndian 2 m in
+    let h₁ : Has d 2 (b ++ (c ++ z)) = has-after d 0 2 2 a (b ++ (c ++ z)) la refl h in
+    let h₂ : Has d 4 (c ++ z) = has-after d 2 2 4 b (c ++ z) lb refl h₁ in
+    let h₃ : Has d 6 z = has-after d 4 2 6 c z lc refl h₂ in
+    let i : 6 + length z ≤ length d = has-fits d 6 z (omega arith) h₃ in
+    let fit : 4 + length new ≤ length d = omega arith in
+    let d′ : List ℕ = over d 4 new in
+    let k : Kept d d′ 4 (4 + length new) = kept-over d 4 new fit in
+    has-both d′ 0 2 2 a (b ++ (new ++ z)) la refl (k .before 0 a (omega arith) (has-left d 0 a (b ++ (c ++ z)) h))
+    (has-both d′ 2 2 4 b (new ++ z) lb refl (k .before 2 b (omega arith) (has-left d 2 b (c ++ z) h₁))
+    (has-both d′ 4 2 6 new z lm refl (over-has d 4 new fit) (kept-has d d′ 4 (4 + length new) 6 z k (omega arith) h₃)))

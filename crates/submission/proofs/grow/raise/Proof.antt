@@ -1,0 +1,76 @@
+-- `raise` meets its contract. Assumes nothing.
+use mathlib.Core.Path.{_≡_, refl, sym, ap, _∙_}
+use Prim.Native.Nat.{_-_, _≤_}
+use native.Mathlib.Omega.{arith}
+use lib.ListN.{length}
+use Rattle.buffer.proofs.OverLaws.{put-length}
+use Rattle.submission.specs.Stages.{raised}
+use Rattle.submission.proofs.CodeLaws.{raise-begin, raise-next, raise-end}
+use borrow.Author.Needs.{needs}
+use Rattle.submission.proofs.grow.raise.Statement.{statement}
+use Rattle.submission.proofs.grow.raise.Tie as tie
+
+abbrev Inv-loop : tie.InvT-loop
+Inv-loop d₀ n i₀ d i = (i ≤ n) × (length d ≡ length d₀) × (raised d₀ n 0 ≡ raised d (n - i) i)
+
+abbrev μ-loop : tie.MeasureT-loop
+μ-loop d₀ n i₀ d i = n - i
+
+loop-holds : tie.Need-loop-holds Inv-loop μ-loop
+loop-holds c = (omega arith, refl, raise-begin _ _)
+
+mul-r : tie.Need-mul-r Inv-loop μ-loop
+mul-r c = search needs
+
+add-r : tie.Need-add-r Inv-loop μ-loop
+add-r c = search needs
+
+add-r-2 : tie.Need-add-r-2 Inv-loop μ-loop
+add-r-2 c = search needs
+
+number-at-requires : tie.Need-number-at-requires Inv-loop μ-loop
+number-at-requires c κs = search needs
+
+add-put-number : tie.Need-add-put-number Inv-loop μ-loop
+add-put-number c = search needs
+
+put-number-requires : tie.Need-put-number-requires Inv-loop μ-loop
+put-number-requires c κs = search needs
+
+add-i : tie.Need-add-i Inv-loop μ-loop
+add-i c = search needs
+
+loop-less : tie.Need-loop-less Inv-loop μ-loop
+loop-less c = search needs
+
+loop-again : tie.Need-loop-again Inv-loop μ-loop
+loop-again c =
+    let p = c .before .before in
+    let v = p .before .before in
+    let l = v .before .before .before .loop in
+    (omega arith, ap length (p .put-number .ensures) ∙ put-length _ _ _ ∙ l .inv .1, l .inv .2 ∙ raise-next _ _ _ _ _ (omega arith) (v .number-at .ensures .0) (p .put-number .ensures))
+
+same-length : tie.Need-same-length Inv-loop μ-loop
+same-length c = c .before .loop .inv .1
+
+returns : tie.Need-returns Inv-loop μ-loop
+returns c = let l = c .before .loop in sym (l .inv .2 ∙ raise-end _ _ _ (omega arith))
+
+pub raise-spec : {M : Type 1} → statement M
+raise-spec =
+    tie.close
+    (tie.spec
+    Inv-loop
+    μ-loop
+    loop-holds
+    mul-r
+    add-r
+    add-r-2
+    number-at-requires
+    add-put-number
+    put-number-requires
+    add-i
+    loop-less
+    loop-again
+    same-length
+    returns)

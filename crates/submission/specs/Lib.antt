@@ -1,0 +1,4 @@
+pub mod Submission
+pub mod Places
+pub mod Stages
+pub mod Promises

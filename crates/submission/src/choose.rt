@@ -1,0 +1,145 @@
+// The steps of a submission: which one refuses, or that the body is to be stored. Nothing is written here.
+use crate::Submission;
+use descriptor::Fields;
+use descriptor::Reading;
+use image::Held;
+use image::Survey;
+use steps::Window;
+ghost use mathlib.Core.Path.{_≡_};
+ghost use Prim.Native.Nat.{_+_, _≤_};
+ghost use lib.ListN.{length, replicate};
+ghost use Rattle.image.specs.Check.{surveyOf};
+ghost use Rattle.cbor_item.specs.Bytes.{AreBytes};
+ghost use Rattle.submission.specs.Stages.{admitted, placed, chosenRead, chosenUnread, choiceOf};
+ghost use Rattle.submission.specs.Places.{HeldFits, SurveyFits};
+
+// What is to be done: the answer alone, or the body is to be stored under its id and mask after the rows, which end at `end`.
+pub(crate) enum Choice {
+    Answer(Submission),
+    Store {
+        rows: u64,
+        end: usize,
+        id: usize,
+        mask: u64,
+    },
+}
+
+// The steps from the beginning to the signature: the refusal, or that all pass.
+pub(crate) enum Admission {
+    Refused(Submission),
+    Admitted,
+}
+
+// How far ahead a descriptor may begin: one day, in seconds.
+const LONGEST_LEAD: u64 = 86400;
+
+// The beginning, the issuer, the key and the signature of a body that reads.
+fn admit(before: u64, clock: u64, verdict: u64, window: Window) -> Admission
+    ensures { λ r. ⌜ r ≡ admitted before clock verdict window ⌝ }
+{
+    if clock < before {
+        if LONGEST_LEAD < before - clock {
+            return Admission::Refused(Submission::Validity);
+        }
+    }
+    if verdict == 2 {
+        return Admission::Refused(Submission::UnknownIssuer);
+    }
+    if !steps::key_open(window, clock) {
+        return Admission::Refused(Submission::KeyInvalid);
+    }
+    if verdict == 1 {
+        return Admission::Refused(Submission::BadSignature);
+    }
+    Admission::Admitted
+}
+
+// Whether the body is held, held with other bytes, has room or not.
+fn place(image: &[u8], body: &[u8], rows: u64, end: usize, held: Held, fields: Fields) -> Choice
+    requires { ⌜ (end ≤ length (now image)) × HeldFits (now image) held ⌝ }
+    ensures { λ r. ⌜ r ≡ placed (now (image .entry)) (now (body .entry)) rows end held fields ⌝ }
+{
+    match held {
+        Held::Body { at, len, fields: _ } => {
+            if buffer::same_bytes(&image[at..at + len], body) {
+                return Choice::Answer(Submission::Done);
+            }
+            Choice::Answer(Submission::Duplicate)
+        }
+        Held::Missing => {
+            if 64 <= rows {
+                return Choice::Answer(Submission::Full);
+            }
+            let left = image.len() - end;
+            if left < 32 {
+                return Choice::Answer(Submission::Full);
+            }
+            if left - 32 < body.len() {
+                return Choice::Answer(Submission::Full);
+            }
+            Choice::Store {
+                rows,
+                end,
+                id: fields.id,
+                mask: fields.mask,
+            }
+        }
+    }
+}
+
+// A body that reads, by the survey of the image for its id.
+fn choose_read(
+    image: &[u8],
+    body: &[u8],
+    clock: u64,
+    verdict: u64,
+    window: Window,
+    fields: Fields,
+    found: Survey,
+) -> Choice
+    requires { ⌜ SurveyFits (now image) found ⌝ }
+    ensures { λ r. ⌜ r ≡ chosenRead (now (image .entry)) (now (body .entry)) clock verdict window fields found ⌝ }
+{
+    match found {
+        Survey::Sound { rows, end, held } => {
+            match admit(fields.before, clock, verdict, window) {
+                Admission::Refused(answer) => Choice::Answer(answer),
+                Admission::Admitted => place(image, body, rows, end, held, fields),
+            }
+        }
+        Survey::Unsound => Choice::Answer(Submission::BadImage),
+    }
+}
+
+// A body that does not read: the image is looked at first.
+fn choose_unread(image: &[u8], answer: Submission) -> Choice
+    ensures { λ r. ⌜ r ≡ chosenUnread answer (surveyOf (now (image .entry)) (replicate 16 0)) ⌝ }
+{
+    let none = [0u8; 16];
+    match image::check(image, &none) {
+        Survey::Sound {
+            rows: _,
+            end: _,
+            held: _,
+        } => Choice::Answer(answer),
+        Survey::Unsound => Choice::Answer(Submission::BadImage),
+    }
+}
+
+// What is to be done with the body.
+pub(crate) fn choose(image: &[u8], body: &[u8], clock: u64, verdict: u64, window: Window) -> Choice
+    ensures { λ r. ⌜ (r ≡ choiceOf (now (image .entry)) (now (body .entry)) clock verdict window) × AreBytes (now (image .entry)) ⌝ }
+{
+    if 2 < verdict {
+        return Choice::Answer(Submission::Malformed);
+    }
+    match descriptor::read_descriptor(body) {
+        Reading::Read(fields) => {
+            let id = fields.id;
+            let found = image::check(image, &body[id..id + 16]);
+            choose_read(image, body, clock, verdict, window, fields, found)
+        }
+        Reading::Structure => choose_unread(image, Submission::Structure),
+        Reading::Validity => choose_unread(image, Submission::Validity),
+    }
+}

@@ -1,0 +1,4 @@
+pub mod WalkLaws
+pub mod EndLaws
+pub mod PlaceLaws
+pub mod Promises

@@ -1,0 +1,107 @@
+-- Laws of the arguments of a request and of the list of ids (specs/Asked.antt), in the code's own form. Assumes nothing.
+use mathlib.Core.Path.{_≡_, refl, sym, ap, _∙_}
+use mathlib.Core.Bool.{Bool, true, false, _&&_}
+use mathlib.Core.List.{List}
+use Prim.Native.Nat.{ℕ, suc, _+_, _-_, _*_, _/_, _%_, _≤_, _<_}
+use native.Mathlib.Omega.{arith}
+use lib.ListN.{length, take, drop}
+use lib.Dec.{leb, eqb}
+use borrow.Author.Tests.{le-leb, lt-leb, leb-true, eq-eqb, ne-eqb}
+use Rattle.cbor_item.specs.Bytes.{part, same}
+use Rattle.cbor_item.proofs.Tests.{and-left, and-right}
+use Rattle.resource.specs.Identifier.{isFay, isTerminal}
+use Rattle.resource.specs.Text.{resourceOk}
+use Rattle.steps.specs.Key.{isVerdict}
+use Rattle.image.specs.Layout.{idSize}
+use Rattle.image.proofs.CodeLaws.{lent-part}
+use Rattle.request.specs.Asked.{wellFormed, listedAmong, isListed}
+
+-- ---- the arguments
+
+module _ (id fay terminal resource : List ℕ) (mode : ℕ) (revoked : List ℕ) (verdict : ℕ) where
+  -- Another verdict is malformed.
+  pub no-verdict : 2 < verdict → false ≡ wellFormed id fay terminal resource mode revoked verdict
+  unfolding wellFormed isVerdict
+  no-verdict h = sym (rw (lt-leb verdict 2 h))
+
+  -- So is another mode.
+  pub no-mode : verdict ≤ 2 → 3 < mode → false ≡ wellFormed id fay terminal resource mode revoked verdict
+  unfolding wellFormed isVerdict
+  no-mode h k = sym (rw (le-leb verdict 2 h, lt-leb mode 3 k))
+
+  -- So is an id that is not 16 bytes.
+  pub no-id : verdict ≤ 2 → mode ≤ 3 → (length id ≡ 16 → ⊥) → false ≡ wellFormed id fay terminal resource mode revoked verdict
+  unfolding wellFormed isVerdict
+  no-id h k l = sym (rw (le-leb verdict 2 h, le-leb mode 3 k, ne-eqb (length id) 16 l))
+
+  module _ (h : verdict ≤ 2) (k : mode ≤ 3) (l : length id ≡ 16) where
+    -- Else the identifiers tell, and the length of the list.
+    texts-left : wellFormed id fay terminal resource mode revoked verdict
+        ≡ (isFay fay && (isTerminal terminal && (resourceOk resource && eqb (length revoked % 16) 0)))
+    unfolding wellFormed isVerdict
+    texts-left = rw (le-leb verdict 2 h, le-leb mode 3 k, eq-eqb (length id) 16 l)
+
+    -- A text that is no fay id is malformed.
+    pub no-fay : isFay fay ≡ false → false ≡ wellFormed id fay terminal resource mode revoked verdict
+    no-fay e = sym (texts-left ∙ rw e)
+
+    -- So is one that is no terminal id.
+    pub no-terminal : isFay fay ≡ true → isTerminal terminal ≡ false → false ≡ wellFormed id fay terminal resource mode revoked verdict
+    no-terminal e f = sym (texts-left ∙ rw (e, f))
+
+    -- So is one that is no resource id.
+    pub no-resource : isFay fay ≡ true → isTerminal terminal ≡ true → resourceOk resource ≡ false
+        → false ≡ wellFormed id fay terminal resource mode revoked verdict
+    no-resource e f g = sym (texts-left ∙ rw (e, f, g))
+
+    -- Else the length of the list tells.
+    pub list-left : isFay fay ≡ true → isTerminal terminal ≡ true → resourceOk resource ≡ true
+        → eqb (length revoked % 16) 0 ≡ wellFormed id fay terminal resource mode revoked verdict
+    list-left e f g = sym (texts-left ∙ rw (e, f, g))
+
+  module _ (w : wellFormed id fay terminal resource mode revoked verdict ≡ true) where
+    -- The mode of well-formed arguments is at most 3.
+    pub formed-mode : mode ≤ 3
+    unfolding wellFormed
+    formed-mode = leb-true mode 3 (and-left (leb mode 3) _ (and-right (isVerdict verdict) _ w))
+
+    -- Their resource is a resource id.
+    pub formed-resource : resourceOk resource ≡ true
+    unfolding wellFormed
+    formed-resource =
+        and-left (resourceOk resource) (eqb (length revoked % 16) 0)
+        (and-right (isTerminal terminal) _ (and-right (isFay fay) _ (and-right (eqb (length id) 16) _ (and-right (leb mode 3) _ (and-right (isVerdict verdict) _ w)))))
+
+-- ---- the list of ids
+
+-- The whole list is looked through.
+pub listed-begin : (revoked id : List ℕ) → isListed revoked id ≡ listedAmong revoked id (length revoked / 16)
+unfolding isListed
+listed-begin revoked id = refl
+
+-- No id is before the first.
+pub listed-none : (revoked id : List ℕ) (i : ℕ) → i ≤ 0 → listedAmong revoked id i ≡ false
+unfolding listedAmong
+listed-none revoked id i h = let k : i ≡ 0 = omega arith in ap (listedAmong revoked id) k
+
+-- The last of the first ids, and then those before it.
+listed-suc : (revoked id : List ℕ) (j : ℕ) (t : Bool) → same (part revoked (idSize * j) idSize) id ≡ t
+    → listedAmong revoked id (suc j) ≡ elim t [ true ↦ true | false ↦ listedAmong revoked id j ]
+unfolding listedAmong
+listed-suc revoked id j t e = rw (e, listedAmong)
+
+module _ (revoked id : List ℕ) (i : ℕ) {b : Bool} (h : 0 < i) (e : b ≡ same (take (16 * (i - 1) + 16 - 16 * (i - 1)) (drop (16 * (i - 1)) revoked)) id) where
+  -- The code compares the last of the first i ids.
+  last-of : (t : Bool) → b ≡ t → listedAmong revoked id i ≡ elim t [ true ↦ true | false ↦ listedAmong revoked id (i - 1) ]
+  last-of t f =
+      let k : i ≡ suc (i - 1) = omega arith in
+      ap (listedAmong revoked id) k
+      ∙ listed-suc revoked id (i - 1) t (ap (λ (x : List ℕ). same x id) (sym (lent-part revoked (16 * (i - 1)) 16)) ∙ sym e ∙ f)
+
+  -- Where it is the id, the id is among them.
+  pub listed-hit : b ≡ true → listedAmong revoked id i ≡ true
+  listed-hit f = last-of true f
+
+  -- Else those before it count.
+  pub listed-next : b ≡ false → listedAmong revoked id i ≡ listedAmong revoked id (i - 1)
+  listed-next f = last-of false f

@@ -1,0 +1,14 @@
+pub mod SearchLaws
+pub mod AskedLaws
+pub mod DecideLaws
+pub mod FitLaws
+pub mod StepLaws
+pub mod ListedLaws
+pub mod HeldLaws
+pub mod PlaceLaws
+pub mod MatchLaws
+pub mod GrantLaws
+pub mod MeaningLaws
+pub mod FirstLaws
+pub mod StoredLaws
+pub mod Promises

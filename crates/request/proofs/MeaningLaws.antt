@@ -1,0 +1,81 @@
+-- A request for a descriptor that a sound image holds is decided on that descriptor (specs/Meaning.antt). Assumes nothing.
+use mathlib.Core.Path.{_≡_, refl, sym, ap, ap₂, _∙_}
+use mathlib.Core.Bool.{Bool, true, false, _&&_}
+use mathlib.Core.List.{List}
+use Prim.Native.Nat.{ℕ, _%_, _≤_, _<_}
+use native.Mathlib.Omega.{arith}
+use lib.ListN.{length}
+use lib.Dec.{leb, eqb}
+use borrow.Author.Tests.{leb-true}
+use Rattle.cbor_item.specs.Bytes.{AreBytes}
+use Rattle.resource.specs.Identifier.{isFay, isTerminal}
+use Rattle.resource.specs.Text.{resourceOk, pathOf}
+use Rattle.resource.proofs.Flags.{and-left, and-right}
+use Rattle.descriptor.specs.declared.Fields.{Fields}
+use Rattle.descriptor.specs.declared.Reading.the-variants.{Read}
+use Rattle.descriptor.specs.Model.{Descriptor, encode}
+use Rattle.descriptor.specs.Allowed.{Formed, Allowed}
+use Rattle.descriptor.specs.View.{descriptorView}
+use Rattle.descriptor.specs.Answer.{fieldsOf, readingOf}
+use Rattle.descriptor.proofs.Promises.{reads-exactly}
+use Rattle.steps.specs.Key.{isVerdict}
+use Rattle.image.specs.Layout.{idSize}
+use Rattle.image.specs.Image.{reading}
+use Rattle.request.specs.declared.search.Matched.{Matched}
+use Rattle.request.specs.Asked.{Asked, highestMode, wellFormed}
+use Rattle.request.specs.Decision.{Facts, factsOf, matchedOn}
+use Rattle.request.specs.Meaning.{firstServing, factsOfDescriptor, decidedFor}
+use Rattle.request.specs.Promises.{DecidedOnDescriptor}
+use Rattle.request.proofs.StepLaws.{decidedBy}
+use Rattle.request.proofs.HeldLaws.{isWell, malformed-first, decided-on-body}
+use Rattle.request.proofs.PlaceLaws.{terminal-part, fay-part}
+use Rattle.request.proofs.GrantLaws.{matched-agree}
+
+-- What well-formed arguments say of the mode and the resource id.
+pub well-asked : (q : Asked) → isWell q ≡ true → (q .mode < 4) × (resourceOk (q .resource) ≡ true)
+unfolding wellFormed
+well-asked q e =
+    let last : Bool = eqb (length (q .revoked) % idSize) 0 in
+    let five : Bool = resourceOk (q .resource) && last in
+    let four : Bool = isTerminal (q .terminal) && five in
+    let three : Bool = isFay (q .fay) && four in
+    let two : Bool = eqb (length (q .id)) idSize && three in
+    let one : Bool = leb (q .mode) highestMode && two in
+    let a : one ≡ true = and-right (isVerdict (q .verdict)) one e in
+    let small : q .mode ≤ highestMode = leb-true (q .mode) highestMode (and-left (leb (q .mode) highestMode) two a) in
+    let b : two ≡ true = and-right (leb (q .mode) highestMode) two a in
+    let c : three ≡ true = and-right (eqb (length (q .id)) idSize) three b in
+    let d : four ≡ true = and-right (isFay (q .fay)) four c in
+    (omega arith, and-left (resourceOk (q .resource)) last (and-right (isTerminal (q .terminal)) five d))
+
+-- The encoding of an allowed descriptor is read, and what is read is the descriptor's.
+reading-encode : (d : Descriptor) → AreBytes (encode d) → Allowed d → reading (encode d) ≡ Read (fieldsOf (descriptorView 0 d))
+unfolding reading
+reading-encode d b o = ap readingOf (reads-exactly (encode d) b (descriptorView 0 d) .1 (d, o, refl, refl))
+
+-- The facts that are read of the encoding of a formed descriptor are the descriptor's.
+facts-agree : (d : Descriptor) → Formed d → factsOf (encode d) (fieldsOf (descriptorView 0 d)) ≡ factsOfDescriptor d
+facts-agree d q =
+    ap₂ (λ (f t : List ℕ). record { before = d .payload .notBefore; after = d .payload .notAfter; fay = f; terminal = t }) (fay-part d q) (terminal-part d q)
+
+-- `DecidedOnDescriptor`.
+pub decided-on-descriptor : DecidedOnDescriptor
+unfolding decidedFor
+decided-on-descriptor s q bs d h b o e =
+    decided-on-body s q bs (encode d) f h e (reading-encode d b o) ∙ ap (λ (x : Facts). decidedBy q true true x found) (facts-agree d (o .formed)) ∙ go (isWell q) refl
+  where
+    f : Fields
+    f = fieldsOf (descriptorView 0 d)
+
+    found : Matched
+    found = matchedOn (encode d) f (q .resource) (q .mode)
+
+    facts : Facts
+    facts = factsOfDescriptor d
+
+    mine : Matched
+    mine = firstServing (d .payload .grants) (q .mode) (pathOf (q .resource)) 0
+
+    go : (t : Bool) → isWell q ≡ t → decidedBy q true true facts found ≡ decidedBy q true true facts mine
+    go true w = let k = well-asked q w in ap (decidedBy q true true facts) (matched-agree d (q .resource) (q .mode) b (o .formed) (k .1) (k .0))
+    go false w = malformed-first q true true facts found _ w ∙ sym (malformed-first q true true facts mine _ w)

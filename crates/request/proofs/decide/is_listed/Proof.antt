@@ -1,0 +1,77 @@
+-- `is_listed` meets its contract. The invariant: whether the id is among the first i tells whether it is in the list. The measure: i. Assumes nothing.
+use mathlib.Core.Path.{_≡_, sym, _∙_}
+use Prim.Native.Nat.{_/_, _≤_}
+use native.Mathlib.Omega.{arith}
+use lib.ListN.{length}
+use borrow.Author.Needs.{needs}
+use Rattle.request.specs.Asked.{listedAmong, isListed}
+use Rattle.request.proofs.AskedLaws.{listed-begin, listed-none, listed-hit, listed-next}
+use Rattle.request.proofs.decide.is_listed.Statement.{statement}
+use Rattle.request.proofs.decide.is_listed.Tie as tie
+
+abbrev Inv-loop : tie.InvT-loop
+Inv-loop revoked id i₀ i = (i ≤ length revoked / 16) × (isListed revoked id ≡ listedAmong revoked id i)
+
+abbrev μ-loop : tie.MeasureT-loop
+μ-loop revoked id i₀ i = i
+
+loop-holds : tie.Need-loop-holds Inv-loop μ-loop
+loop-holds c = (omega arith, listed-begin _ _)
+
+sub-i : tie.Need-sub-i Inv-loop μ-loop
+sub-i c = search needs
+
+mul-at : tie.Need-mul-at Inv-loop μ-loop
+mul-at c = search needs
+
+add-same-bytes : tie.Need-add-same-bytes Inv-loop μ-loop
+add-same-bytes c = search needs
+
+sub-same-bytes : tie.Need-sub-same-bytes Inv-loop μ-loop
+sub-same-bytes c = search needs
+
+part-same-bytes-start : tie.Need-part-same-bytes-start Inv-loop μ-loop
+part-same-bytes-start c = search needs
+
+part-same-bytes-end : tie.Need-part-same-bytes-end Inv-loop μ-loop
+part-same-bytes-end c = search needs
+
+same-bytes-requires : tie.Need-same-bytes-requires Inv-loop μ-loop
+same-bytes-requires c κs = search needs
+
+returns : tie.Need-returns Inv-loop μ-loop
+returns c =
+    let t = c .before .before .before in
+    let l = t .before .loop in
+    sym (l .inv .1 ∙ listed-hit _ _ (l .i) (t .loop-test .taken) (c .before .same-bytes .ensures) (c .if1 .taken))
+
+loop-less : tie.Need-loop-less Inv-loop μ-loop
+loop-less c = search needs
+
+loop-again : tie.Need-loop-again Inv-loop μ-loop
+loop-again c =
+    let t = c .before .before .before in
+    let l = t .before .loop in
+    (omega arith, l .inv .1 ∙ listed-next _ _ (l .i) (t .loop-test .taken) (c .before .same-bytes .ensures) (c .if1 .left))
+
+returns-2 : tie.Need-returns-2 Inv-loop μ-loop
+returns-2 c = let l = c .before .loop in sym (l .inv .1 ∙ listed-none _ _ (l .i) (c .loop-test .left))
+
+pub is-listed-spec : {M : Type 1} → statement M
+is-listed-spec =
+    tie.close
+    (tie.spec
+    Inv-loop
+    μ-loop
+    loop-holds
+    sub-i
+    mul-at
+    add-same-bytes
+    sub-same-bytes
+    part-same-bytes-start
+    part-same-bytes-end
+    same-bytes-requires
+    returns
+    loop-less
+    loop-again
+    returns-2)

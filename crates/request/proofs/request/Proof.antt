@@ -1,0 +1,132 @@
+-- `request` meets its contract. Assumes nothing.
+use mathlib.Core.Path.{_≡_, sym, ap, _∙_}
+use mathlib.Core.Bool.{true}
+use Prim.Native.Nat.{_+_, _^_, _≤_, _<_}
+use native.Mathlib.Omega.{arith}
+use lib.ListN.{length}
+use borrow.Author.Tests.{not-true, not-false}
+use borrow.Author.Needs.{needs}
+use Rattle.image.specs.declared.Held.the-variants.{Body}
+use Rattle.image.specs.declared.Survey.the-variants.{Sound}
+use Rattle.image.specs.Check.{surveyOf}
+use Rattle.request.specs.Asked.{Asked, asked, wellFormed}
+use Rattle.request.proofs.AskedLaws.{formed-mode, formed-resource}
+use Rattle.request.proofs.DecideLaws.{decide-malformed, decide-unsound, decide-missing, decide-body}
+use Rattle.request.proofs.FitLaws.{held-reads, held-fits}
+use Rattle.request.proofs.request.Statement.{statement}
+use Rattle.request.proofs.request.Tie as tie
+
+-- the way back to the start
+abbrev at1 : tie.Else1 → tie.Start
+at1 c = c .before .before .before .before .before .before .before .before
+
+-- what is asked
+abbrev questions : tie.Start → Asked
+questions s =
+    let a = s .args in
+    asked (a .id .now) (a .fay .now) (a .terminal .now) (a .resource .now) (a .mode) (a .clock) (a .session) (a .revoked .now) (a .verdict) (a .window)
+
+-- the image is no longer than a number holds
+small : (k : tie.After-shared-slice-known) → length (k .before .args .image .now) < 2 ^ 64
+small k = omega arith
+
+-- the arguments are well formed
+formed : (c : tie.Else1)
+    → let a = at1 c .args in
+    wellFormed (a .id .now) (a .fay .now) (a .terminal .now) (a .resource .now) (a .mode) (a .revoked .now) (a .verdict) ≡ true
+formed c = sym (c .before .well-formed .ensures) ∙ not-false _ (c .if1 .left)
+
+-- what the survey found
+abbrev before-match : tie.After-held2 → tie.After-held
+before-match c = c .before .before .before
+
+surveyed : (c : tie.After-held2)
+    → let h = before-match c in
+    let a = at1 (h .before .before .before) .args in
+    Sound (h .held .given .0 .0) (h .held .given .0 .1 .0) (Body (c .held2 .given .0 .0) (c .held2 .given .0 .1 .0) (c .held2 .given .0 .1 .1 .0))
+    ≡ surveyOf (a .image .now) (a .id .now)
+surveyed c =
+    let h = before-match c in
+    sym (h .held .given .1 ∙ ap (Sound (h .held .given .0 .0) (h .held .given .0 .1 .0)) (c .held2 .given .1)) ∙ h .before .before .check .ensures
+
+-- the body lies in the image
+inside : (c : tie.After-held2)
+    → c .held2 .given .0 .0 + c .held2 .given .0 .1 .0 ≤ length (at1 (before-match c .before .before .before) .args .image .now)
+inside c = held-reads _ _ _ _ _ _ _ (sym (surveyed c)) .0
+
+well-formed-requires : tie.Need-well-formed-requires
+well-formed-requires c κs = search needs
+
+returns : tie.Need-returns
+returns c = decide-malformed _ _ (sym (c .before .well-formed .ensures) ∙ not-true _ (c .if1 .taken))
+
+check-requires : tie.Need-check-requires
+check-requires c κs = search needs
+
+enum-known-held : tie.Need-enum-known-held
+enum-known-held c = search needs
+
+enum-known-held-2 : tie.Need-enum-known-held-2
+enum-known-held-2 c = search needs
+
+add-on-body : tie.Need-add-on-body
+add-on-body c =
+    let e = before-match (c .before) .before .before .before in
+    omega (arith, inside (c .before), small (e .before .before .before .before .before .before .before))
+
+sub-on-body : tie.Need-sub-on-body
+sub-on-body c = search needs
+
+part-on-body-start : tie.Need-part-on-body-start
+part-on-body-start c = search needs
+
+part-on-body-end : tie.Need-part-on-body-end
+part-on-body-end c = omega (arith, inside (c .before))
+
+on-body-requires : tie.Need-on-body-requires
+on-body-requires c κs =
+    let h = c .before .before in
+    let w = formed (before-match h .before .before .before) in
+    (formed-resource _ _ _ _ _ _ _ w, formed-mode _ _ _ _ _ _ _ w, held-fits _ _ _ _ _ _ _ (sym (surveyed h)))
+
+enum-told : tie.Need-enum-told
+enum-told c = search needs
+
+enum-told-2 : tie.Need-enum-told-2
+enum-told-2 c = search needs
+
+returns-2 : tie.Need-returns-2
+returns-2 c =
+    let h = c .before .before .before in
+    let e = before-match h .before .before .before in
+    decide-body (at1 e .args .image .now) (questions (at1 e)) (formed e) (surveyed h) (c .on-body .ensures)
+
+returns-3 : tie.Need-returns-3
+returns-3 c =
+    let h = c .before .before .before in
+    let k = h .before .before in
+    decide-missing _ _ (formed (k .before))
+    (sym (h .held .given .1 ∙ ap (Sound (h .held .given .0 .0) (h .held .given .0 .1 .0)) (c .enum-told .given .1)) ∙ k .check .ensures)
+
+returns-4 : tie.Need-returns-4
+returns-4 c = let k = c .before .before in decide-unsound _ _ (formed (k .before)) (sym (c .enum-told2 .given .1) ∙ k .check .ensures)
+
+pub request-spec : {M : Type 1} → statement M
+request-spec =
+    tie.close
+    (tie.spec
+    well-formed-requires
+    returns
+    check-requires
+    enum-known-held
+    enum-known-held-2
+    add-on-body
+    sub-on-body
+    part-on-body-start
+    part-on-body-end
+    on-body-requires
+    enum-told
+    enum-told-2
+    returns-2
+    returns-3
+    returns-4)

@@ -1,0 +1,62 @@
+-- What a request asks, and which arguments are well formed. Document 01, "A request, in this order".
+use mathlib.Core.Bool.{Bool, true, false, _&&_}
+use mathlib.Core.List.{List}
+use Prim.Native.Nat.{ℕ, zero, suc, _*_, _/_, _%_}
+use lib.ListN.{length}
+use lib.Dec.{leb, eqb}
+use Rattle.cbor_item.specs.Bytes.{part, same}
+use Rattle.resource.specs.Identifier.{isFay, isTerminal}
+use Rattle.resource.specs.Text.{resourceOk}
+use Rattle.steps.specs.declared.Window.{Window}
+use Rattle.steps.specs.Key.{isVerdict}
+use Rattle.image.specs.Layout.{idSize}
+
+-- the arguments of a request but for the image: the descriptor's id, the fay, the terminal and the resource that ask; the mode; the clock and the host's session
+-- length, in seconds; the ids that are revoked, one after the other; the host's verdict on the signature, and the key's window
+pub record Asked : Type 0 where
+  pub id : List ℕ
+  pub fay : List ℕ
+  pub terminal : List ℕ
+  pub resource : List ℕ
+  pub mode : ℕ
+  pub clock : ℕ
+  pub session : ℕ
+  pub revoked : List ℕ
+  pub verdict : ℕ
+  pub window : Window
+
+-- the same, from the arguments in the order of the call
+abbrev pub asked : List ℕ → List ℕ → List ℕ → List ℕ → ℕ → ℕ → ℕ → List ℕ → ℕ → Window → Asked
+asked id fay terminal resource mode clock session revoked verdict window =
+    record {
+      id = id;
+      fay = fay;
+      terminal = terminal;
+      resource = resource;
+      mode = mode;
+      clock = clock;
+      session = session;
+      revoked = revoked;
+      verdict = verdict;
+      window = window;
+    }
+
+-- the highest mode number
+abbrev pub highestMode : ℕ
+highestMode = 3
+
+-- the arguments are well formed
+unfoldable pub wellFormed : List ℕ → List ℕ → List ℕ → List ℕ → ℕ → List ℕ → ℕ → Bool
+wellFormed id fay terminal resource mode revoked verdict =
+    isVerdict verdict
+    && (leb mode highestMode
+    && (eqb (length id) idSize && (isFay fay && (isTerminal terminal && (resourceOk resource && eqb (length revoked % idSize) 0)))))
+
+-- the id is one of the first n of the list
+unfoldable pub listedAmong : List ℕ → List ℕ → ℕ → Bool
+listedAmong revoked id zero = false
+listedAmong revoked id (suc n) = elim (same (part revoked (idSize * n) idSize) id) [ true ↦ true | false ↦ listedAmong revoked id n ]
+
+-- the id is in the list
+unfoldable pub isListed : List ℕ → List ℕ → Bool
+isListed revoked id = listedAmong revoked id (length revoked / idSize)

@@ -1,0 +1,148 @@
+-- The decision of a request: the steps in document 01's order. These definitions compute.
+use mathlib.Core.Bool.{Bool, true, false, not, cond, _&&_}
+use mathlib.Core.List.{List, [], _∷_}
+use Prim.Native.Nat.{ℕ, zero, suc, _+_, _-_, min}
+use lib.ListN.{take, drop}
+use lib.Dec.{leb, ltb, eqb}
+use Rattle.cbor_item.specs.Bytes.{part, same}
+use Rattle.cbor_item.specs.Reads.{got, refused}
+use Rattle.resource.specs.Text.{levelsMatch}
+use Rattle.descriptor.specs.declared.Fields.{Fields}
+use Rattle.descriptor.specs.Reader.{hasMode, GrantSeen, grantAt}
+use Rattle.steps.specs.Order.{Step, step, inOrder}
+use Rattle.steps.specs.Key.{bad, noKey, isThat, keyOpen}
+use Rattle.image.specs.declared.Held.the-variants.{Missing, Body}
+use Rattle.image.specs.declared.Survey.{Survey}
+use Rattle.image.specs.declared.Survey.the-variants.{Sound, Unsound}
+use Rattle.image.specs.Check.{surveyOf, isSound}
+use Rattle.request.specs.declared.Decision.{Decision}
+use Rattle.request.specs.declared.Decision.the-variants as answers
+use Rattle.request.specs.declared.search.Matched.{Matched}
+use Rattle.request.specs.declared.search.Matched.the-variants.{IsAt, Nothing}
+use Rattle.request.specs.Asked.{Asked, wellFormed, isListed}
+
+-- ---- the steps
+
+-- what the steps look at in a descriptor: not_before, not_after, the subject's fay id and the terminal id
+pub record Facts : Type 0 where
+  pub before : ℕ
+  pub after : ℕ
+  pub fay : List ℕ
+  pub terminal : List ℕ
+
+-- a grant serves the request
+abbrev pub isMatched : Matched → Bool
+isMatched (IsAt grant mask) = true
+isMatched Nothing = false
+
+-- the steps on a descriptor that was found, by its facts and the first grant that serves
+unfoldable pub laterSteps : Asked → Facts → Matched → List (Step Decision)
+laterSteps q x m =
+    step (not (isListed (q .revoked) (q .id))) answers.Revoked
+    ∷ step (leb (x .before) (q .clock)) answers.NotYetValid
+    ∷ step (ltb (q .clock) (x .after)) answers.Expired
+    ∷ step (same (x .fay) (q .fay)) answers.SubjectMismatch
+    ∷ step (same (x .terminal) (q .terminal)) answers.TerminalMismatch
+    ∷ step (isMatched m) answers.Insufficient
+    ∷ step (not (isThat (q .verdict) noKey) && keyOpen (q .window) (q .clock)) answers.KeyInvalid
+    ∷ step (not (isThat (q .verdict) bad)) answers.BadSignature
+    ∷ []
+
+-- all steps: the arguments, the image, that the id is held, and those
+unfoldable pub stepsBy : Asked → Bool → Bool → Facts → Matched → List (Step Decision)
+stepsBy q sound held x m =
+    step (wellFormed (q .id) (q .fay) (q .terminal) (q .resource) (q .mode) (q .revoked) (q .verdict)) answers.Malformed
+    ∷ step sound answers.BadImage
+    ∷ step held answers.NotFound
+    ∷ laterSteps q x m
+
+-- granted: the grant's place, its mask, and the session's end, the smaller of not_after and the clock and the session length together
+unfoldable pub grantedBy : Asked → Facts → Matched → Decision
+grantedBy q x (IsAt grant mask) = answers.Granted grant mask (min (x .after) (q .clock + q .session))
+grantedBy q x Nothing = answers.Insufficient
+
+-- ---- from the bytes of an image
+
+-- the facts of a body of which f was read
+abbrev pub factsOf : List ℕ → Fields → Facts
+factsOf b f = record { before = f .before; after = f .after; fay = part b (f .fay) 40; terminal = part b (f .terminal) 45 }
+
+-- a grant that was seen in b serves: it has the mode, no constraint pair, and its levels match those of the resource
+unfoldable pub serves : List ℕ → List ℕ → ℕ → GrantSeen → Bool
+serves b r mode g = hasMode (g .mask) mode && (eqb (g .pairs) 0 && levelsMatch (part b (g .pattern .start + 46) (g .pattern .len - 46)) r)
+
+-- a grant with its place and mask, or what the next ones have
+abbrev pub orNext : Bool → ℕ → ℕ → Matched → Matched
+orNext true i mask rest = IsAt i mask
+orNext false i mask rest = rest
+
+-- the first of the n grants from a place of b on that serves, of which i came before
+unfoldable pub firstFrom : List ℕ → List ℕ → ℕ → ℕ → ℕ → ℕ → Matched
+firstFrom b r mode zero at i = Nothing
+firstFrom b r mode (suc n) at i =
+    elim (grantAt b at) [ got g next ↦ orNext (serves b r mode g) i (g .mask) (firstFrom b r mode n next (i + 1)) | refused ↦ Nothing ]
+
+-- the first grant of a body that serves; none where the resource is another terminal's
+unfoldable pub matchedOn : List ℕ → Fields → List ℕ → ℕ → Matched
+matchedOn b f resource mode =
+    cond (same (part b (f .terminal) 45) (take 45 resource)) (firstFrom b (drop 46 resource) mode (f .grants) (f .first) 0) Nothing
+
+-- the decision on a body of which f was read
+unfoldable pub decidedOn : Asked → List ℕ → Fields → Decision
+decidedOn q b f =
+    let x = factsOf b f in
+    let m = matchedOn b f (q .resource) (q .mode) in
+    inOrder (laterSteps q x m) (grantedBy q x m)
+
+-- the id is held
+abbrev pub isHeld : Survey → Bool
+isHeld (Sound n end (Body at len f)) = true
+isHeld (Sound n end Missing) = false
+isHeld Unsound = false
+
+-- the facts of the body that was found
+abbrev pub factsIn : List ℕ → Survey → Facts
+factsIn s (Sound n end (Body at len f)) = factsOf (part s at len) f
+factsIn s (Sound n end Missing) = record { before = 0; after = 0; fay = []; terminal = [] }
+factsIn s Unsound = record { before = 0; after = 0; fay = []; terminal = [] }
+
+-- its first grant that serves
+abbrev pub matchedIn : List ℕ → Asked → Survey → Matched
+matchedIn s q (Sound n end (Body at len f)) = matchedOn (part s at len) f (q .resource) (q .mode)
+matchedIn s q (Sound n end Missing) = Nothing
+matchedIn s q Unsound = Nothing
+
+-- the steps of a request to the image s
+unfoldable pub stepsOf : List ℕ → Asked → List (Step Decision)
+stepsOf s q = let v = surveyOf s (q .id) in stepsBy q (isSound v) (isHeld v) (factsIn s v) (matchedIn s q v)
+
+-- the decision: the first failing step's refusal, or granted
+unfoldable pub decisionOf : List ℕ → Asked → Decision
+decisionOf s q = let v = surveyOf s (q .id) in inOrder (stepsOf s q) (grantedBy q (factsIn s v) (matchedIn s q v))
+
+-- ---- document 01's numbers
+
+-- the answer, and what is granted
+pub record Numbers : Type 0 where
+  pub answer : ℕ
+  pub grant : ℕ
+  pub mask : ℕ
+  pub sessionEnd : ℕ
+
+-- a refusal's other numbers are 0
+abbrev pub refusal : ℕ → Numbers
+refusal n = record { answer = n; grant = 0; mask = 0; sessionEnd = 0 }
+
+abbrev pub numbersOf : Decision → Numbers
+numbersOf (answers.Granted grant mask end) = record { answer = 0; grant = grant; mask = mask; sessionEnd = end }
+numbersOf answers.Malformed = refusal 15
+numbersOf answers.BadImage = refusal 16
+numbersOf answers.NotFound = refusal 7
+numbersOf answers.Revoked = refusal 8
+numbersOf answers.NotYetValid = refusal 9
+numbersOf answers.Expired = refusal 10
+numbersOf answers.SubjectMismatch = refusal 11
+numbersOf answers.TerminalMismatch = refusal 12
+numbersOf answers.Insufficient = refusal 13
+numbersOf answers.KeyInvalid = refusal 14
+numbersOf answers.BadSignature = refusal 4

@@ -1,0 +1,5 @@
+pub mod Asked
+pub mod Decision
+pub mod Meaning
+pub mod Stages
+pub mod Promises

@@ -1,0 +1,43 @@
+-- What a request is decided on, in document 01's words: the descriptor itself, with `resource`'s matching. Nothing here knows of bytes.
+use mathlib.Core.Bool.{Bool, true, _&&_}
+use mathlib.Core.List.{List, [], _∷_}
+use mathlib.Core.Option.{Option, none, some}
+use Prim.Native.Nat.{ℕ, _+_}
+use lib.ListN.{length}
+use lib.Dec.{eqb}
+use Rattle.resource.specs.Pattern.{Path, admits}
+use Rattle.resource.specs.Text.{pathOf, patternOf}
+use Rattle.descriptor.specs.Model.{Pair, Grant, Descriptor}
+use Rattle.descriptor.specs.Allowed.{isIn}
+use Rattle.descriptor.specs.View.{maskOf}
+use Rattle.steps.specs.Order.{inOrder}
+use Rattle.request.specs.declared.Decision.{Decision}
+use Rattle.request.specs.declared.search.Matched.{Matched}
+use Rattle.request.specs.declared.search.Matched.the-variants.{Nothing}
+use Rattle.request.specs.Asked.{Asked}
+use Rattle.request.specs.Decision.{Facts, orNext, stepsBy, grantedBy}
+
+-- how many constraint pairs a grant has
+abbrev pub pairCount : Option (List Pair) → ℕ
+pairCount none = 0
+pairCount (some ps) = length ps
+
+-- a grant serves: it has the mode, a matching pattern and no constraint pair
+abbrev pub grantServes : Grant → ℕ → Path → Bool
+grantServes g m x = isIn m (g .modes) && (admits (patternOf (g .pattern)) x && eqb (pairCount (g .constraints)) 0)
+
+-- the first grant that serves, with its place, counted from i, and the mask of its modes
+abbrev pub firstServing : List Grant → ℕ → Path → ℕ → Matched
+firstServing [] m x i = Nothing
+firstServing (g ∷ gs) m x i = orNext (grantServes g m x) i (maskOf (g .modes)) (firstServing gs m x (i + 1))
+
+-- what the steps look at
+abbrev pub factsOfDescriptor : Descriptor → Facts
+factsOfDescriptor d = record { before = d .payload .notBefore; after = d .payload .notAfter; fay = d .payload .fay; terminal = d .payload .terminal }
+
+-- the decision of a request in a sound image that holds the descriptor d under the id
+unfoldable pub decidedFor : Asked → Descriptor → Decision
+decidedFor q d =
+    let x = factsOfDescriptor d in
+    let m = firstServing (d .payload .grants) (q .mode) (pathOf (q .resource)) 0 in
+    inOrder (stepsBy q true true x m) (grantedBy q x m)

@@ -1,0 +1,158 @@
+// The steps of a request, one after the other.
+use crate::Decision;
+use crate::search::Matched;
+use buffer::same_bytes;
+use descriptor::Fields;
+use steps::Window;
+ghost use mathlib.Core.Path.{_≡_};
+ghost use mathlib.Core.Bool.{true};
+ghost use Prim.Native.Nat.{_+_, _≤_, min};
+ghost use lib.ListN.{length};
+ghost use Rattle.resource.specs.Text.{resourceOk};
+ghost use Rattle.request.specs.Asked.{asked, wellFormed, isListed};
+ghost use Rattle.request.specs.Decision.{matchedOn, decidedOn};
+ghost use Rattle.request.specs.Stages.{BodyFits, signedBy};
+
+// Whether the arguments are well formed.
+pub(crate) fn well_formed(
+    id: &[u8],
+    fay: &[u8],
+    terminal: &[u8],
+    resource: &[u8],
+    mode: u64,
+    revoked: &[u8],
+    verdict: u64,
+) -> bool
+    ensures { λ r. ⌜ r ≡ wellFormed (now (id .entry)) (now (fay .entry)) (now (terminal .entry)) (now (resource .entry)) mode (now (revoked .entry)) verdict ⌝ }
+{
+    if 2 < verdict {
+        return false;
+    }
+    if 3 < mode {
+        return false;
+    }
+    if id.len() != 16 {
+        return false;
+    }
+    if !resource::is_fay(fay) {
+        return false;
+    }
+    if !resource::is_terminal(terminal) {
+        return false;
+    }
+    if !resource::is_resource(resource) {
+        return false;
+    }
+    revoked.len() % 16 == 0
+}
+
+// Whether the id is in the list.
+fn is_listed(revoked: &[u8], id: &[u8]) -> bool
+    ensures { λ r. ⌜ r ≡ isListed (now (revoked .entry)) (now (id .entry)) ⌝ }
+{
+    let mut i = revoked.len() / 16;
+    while 0 < i {
+        i -= 1;
+        let at = 16 * i;
+        if same_bytes(&revoked[at..at + 16], id) {
+            return true;
+        }
+    }
+    false
+}
+
+// The smaller of not_after and the clock and the session length together, which may be more than a number holds.
+fn session_end(after: u64, clock: u64, session: u64) -> u64
+    ensures { λ r. ⌜ r ≡ min after (clock + session) ⌝ }
+{
+    if after <= clock {
+        return after;
+    }
+    if session < after - clock {
+        return clock + session;
+    }
+    after
+}
+
+// The first grant of the body that serves; none where the resource is another terminal's.
+fn match_grant(body: &[u8], fields: Fields, resource: &[u8], mode: u64) -> Matched
+    requires { ⌜ (resourceOk (now resource) ≡ true) × (mode ≤ 3) × (fields .terminal + 45 ≤ length (now body)) ⌝ }
+    ensures { λ r. ⌜ r ≡ matchedOn (now (body .entry)) fields (now (resource .entry)) mode ⌝ }
+{
+    let t = fields.terminal;
+    if !same_bytes(&body[t..t + 45], &resource[..45]) {
+        return Matched::Nothing;
+    }
+    crate::search::first_grant(body, fields.first, fields.grants, mode, &resource[46..])
+}
+
+// The key and the signature, where a grant serves.
+fn signed(
+    grant: u64,
+    mask: u64,
+    after: u64,
+    clock: u64,
+    session: u64,
+    verdict: u64,
+    window: Window,
+) -> Decision
+    ensures { λ r. ⌜ r ≡ signedBy grant mask after clock session verdict window ⌝ }
+{
+    if verdict == 2 {
+        return Decision::KeyInvalid;
+    }
+    if !steps::key_open(window, clock) {
+        return Decision::KeyInvalid;
+    }
+    if verdict == 1 {
+        return Decision::BadSignature;
+    }
+    Decision::Granted {
+        grant,
+        mask,
+        end: session_end(after, clock, session),
+    }
+}
+
+// The steps on a body that was found and of which the fields were read.
+pub(crate) fn on_body(
+    body: &[u8],
+    fields: Fields,
+    id: &[u8],
+    fay: &[u8],
+    terminal: &[u8],
+    resource: &[u8],
+    mode: u64,
+    clock: u64,
+    session: u64,
+    revoked: &[u8],
+    verdict: u64,
+    window: Window,
+) -> Decision
+    requires { ⌜ (resourceOk (now resource) ≡ true) × (mode ≤ 3) × BodyFits (now body) fields ⌝ }
+    ensures { λ r. ⌜ r ≡ decidedOn (asked (now (id .entry)) (now (fay .entry)) (now (terminal .entry)) (now (resource .entry)) mode clock session (now (revoked .entry)) verdict window) (now (body .entry)) fields ⌝ }
+{
+    if is_listed(revoked, id) {
+        return Decision::Revoked;
+    }
+    if clock < fields.before {
+        return Decision::NotYetValid;
+    }
+    if fields.after <= clock {
+        return Decision::Expired;
+    }
+    let f = fields.fay;
+    if !same_bytes(&body[f..f + 40], fay) {
+        return Decision::SubjectMismatch;
+    }
+    let t = fields.terminal;
+    if !same_bytes(&body[t..t + 45], terminal) {
+        return Decision::TerminalMismatch;
+    }
+    match match_grant(body, fields, resource, mode) {
+        Matched::IsAt { grant, mask } => {
+            signed(grant, mask, fields.after, clock, session, verdict, window)
+        }
+        Matched::Nothing => Decision::Insufficient,
+    }
+}

@@ -1,0 +1,75 @@
+// The decision of a request, as document 01 has it. Nothing is written. What is promised is in specs/Promises.antt.
+mod decide;
+mod search;
+
+use descriptor::Fields;
+use image::Held;
+use image::Survey;
+use steps::Window;
+ghost use mathlib.Core.Path.{_≡_};
+ghost use Prim.Native.Nat.{_+_, _≤_, _<_};
+ghost use Rattle.request.specs.Asked.{asked};
+ghost use Rattle.request.specs.Decision.{decisionOf};
+
+// What a request answers: granted, with the grant's place, its mask and the session's end; or the refusal of the first step that fails:
+// 15 malformed arguments, 16 bad image, 7 id not held, 8 revoked, 9 not yet valid, 10 expired, 11 another subject, 12 another
+// terminal, 13 no grant serves, 14 the key is not valid, 4 bad signature.
+pub enum Decision {
+    Granted { grant: u64, mask: u64, end: u64 },
+    Malformed,
+    BadImage,
+    NotFound,
+    Revoked,
+    NotYetValid,
+    Expired,
+    SubjectMismatch,
+    TerminalMismatch,
+    Insufficient,
+    KeyInvalid,
+    BadSignature,
+}
+
+// Decides a request for the descriptor with the id.
+pub fn request(
+    image: &[u8],
+    id: &[u8],
+    fay: &[u8],
+    terminal: &[u8],
+    resource: &[u8],
+    mode: u64,
+    clock: u64,
+    session: u64,
+    revoked: &[u8],
+    verdict: u64,
+    window: Window,
+) -> Decision
+    ensures { λ r. ⌜ r ≡ decisionOf (now (image .entry)) (asked (now (id .entry)) (now (fay .entry)) (now (terminal .entry)) (now (resource .entry)) mode clock session (now (revoked .entry)) verdict window) ⌝ }
+{
+    if !decide::well_formed(id, fay, terminal, resource, mode, revoked, verdict) {
+        return Decision::Malformed;
+    }
+    match image::check(image, id) {
+        Survey::Sound {
+            rows: _,
+            end: _,
+            held,
+        } => match held {
+            Held::Body { at, len, fields } => decide::on_body(
+                &image[at..at + len],
+                fields,
+                id,
+                fay,
+                terminal,
+                resource,
+                mode,
+                clock,
+                session,
+                revoked,
+                verdict,
+                window,
+            ),
+            Held::Missing => Decision::NotFound,
+        },
+        Survey::Unsound => Decision::BadImage,
+    }
+}

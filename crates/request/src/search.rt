@@ -1,0 +1,87 @@
+// The first grant that serves a request. Document 01: the search ends at the first grant that matches.
+use descriptor::GrantFields;
+use descriptor::GrantRead;
+use resource::Step;
+ghost use mathlib.Core.Path.{_≡_};
+ghost use Prim.Native.Nat.{_≤_};
+ghost use Rattle.resource.specs.Level.{isDeep as deep};
+ghost use Rattle.request.specs.Decision.{firstFrom};
+ghost use Rattle.request.specs.Stages.{eligible};
+
+// A grant's place, counted from 0, and its mask; or there is none.
+pub(crate) enum Matched {
+    IsAt { grant: u64, mask: u64 },
+    Nothing,
+}
+
+// Whether a grant has the mode and no constraint pair.
+fn is_eligible(mask: u64, pairs: u64, mode: u64) -> bool
+    requires { ⌜ mode ≤ 3 ⌝ }
+    ensures { λ r. ⌜ r ≡ eligible mask pairs mode ⌝ }
+{
+    if pairs != 0 {
+        return false;
+    }
+    match mode {
+        0 => mask % 2 == 1,
+        1 => mask / 2 % 2 == 1,
+        2 => mask / 4 % 2 == 1,
+        _ => mask / 8 % 2 == 1,
+    }
+}
+
+// Whether p is "**".
+fn is_deep(p: &[u8]) -> bool
+    ensures { λ o. ⌜ o ≡ deep (now (p .entry)) ⌝ }
+{
+    if p.len() != 2 {
+        return false;
+    }
+    (p[0] == b'*') & (p[1] == b'*')
+}
+
+// The first of the `count` grants from `first` on that serves: for each, its levels are compared with those of the resource, r.
+pub(crate) fn first_grant(s: &[u8], first: usize, count: u64, mode: u64, r: &[u8]) -> Matched
+    requires { ⌜ mode ≤ 3 ⌝ }
+    ensures { λ o. ⌜ o ≡ firstFrom (now (s .entry)) (now (r .entry)) mode count first 0 ⌝ }
+{
+    let mut i: u64 = 0;
+    let mut at = first;
+    'grants: loop {
+        if count <= i {
+            break 'grants Matched::Nothing;
+        }
+        let GrantRead::IsGrant { fields, next } = descriptor::read_grant(s, at) else {
+            break 'grants Matched::Nothing;
+        };
+        if is_eligible(fields.mask, fields.pairs, mode) {
+            let start = fields.pattern;
+            let end = start + fields.len;
+            let mut p = &s[start + 46..end];
+            let mut q = r;
+            'levels: loop {
+                if is_deep(p) {
+                    break 'grants Matched::IsAt {
+                        grant: i,
+                        mask: fields.mask,
+                    };
+                }
+                match resource::step_levels(p, q) {
+                    Step::Differ => break 'levels,
+                    Step::Finish => {
+                        break 'grants Matched::IsAt {
+                            grant: i,
+                            mask: fields.mask,
+                        };
+                    }
+                    Step::Next { p: a, r: b } => {
+                        p = &p[a + 1..];
+                        q = &q[b + 1..];
+                    }
+                }
+            }
+        }
+        at = next;
+        i += 1;
+    }
+}

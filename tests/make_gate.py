@@ -1,0 +1,481 @@
+#!/usr/bin/env python3
+"""Makes the stored test of gate_vectors: standard input (records, each a call on one image that stays from call to call) and the output that is expected.
+
+The descriptors are made by the same independent encoder as those of make_descriptors.py. The expected output is from the image, submission and request below,
+which are written from document 01 and know nothing of the Rattle code.
+Run: /usr/bin/python3 -B tests/make_gate.py crates/gate_vectors
+"""
+import re
+import sys
+
+from make_descriptors import FAY, NAME, T, U, UUID, encode, grant, payload, read, signature
+
+DAY = 86400
+LAST = 2**64 - 1
+
+
+# ---- an ordinary image, submission and request, by document 01
+
+
+def number(s, at, w):
+    return int.from_bytes(s[at : at + w], "big")
+
+
+def sound(s):
+    """The rows of a sound image, as (id, offset, length), and its end; or nothing."""
+    if len(s) < 8 or number(s, 0, 2) != 1 or number(s, 2, 2) != 1 or number(s, 4, 2) > 64 or number(s, 6, 2) != 0:
+        return None
+    n = number(s, 4, 2)
+    at, rows = 8 + 32 * n, []
+    if len(s) < at:
+        return None
+    for i in range(n):
+        row = s[8 + 32 * i : 40 + 32 * i]
+        offset, length = number(row, 16, 4), number(row, 20, 4)
+        if offset != at or at + length > len(s):
+            return None
+        body = s[at : at + length]
+        answer, f = read(body)
+        if answer != 0 or body[f["id"] : f["id"] + 16] != row[:16] or row[:16] in [r[0] for r in rows]:
+            return None
+        mask = 0
+        for g in f["grants"]:
+            mask |= g["mask"]
+        if row[24] != mask or row[25:] != bytes(7):
+            return None
+        rows.append((row[:16], at, length))
+        at += length
+    return rows, at
+
+
+def image_of(bodies, room=0, **change):
+    """The image of bodies, with some rule broken."""
+    n = len(bodies)
+    at, rows = 8 + 32 * n, b""
+    for i, b in enumerate(bodies):
+        f = read(b)[1] or {"id": 0, "grants": []}
+        mask = 0
+        for g in f["grants"]:
+            mask |= g["mask"]
+        rows += b[f["id"] : f["id"] + 16] + at.to_bytes(4, "big") + len(b).to_bytes(4, "big") + bytes([mask]) + bytes(7)
+        at += len(b)
+    s = bytearray(b"\x00\x01\x00\x01" + n.to_bytes(2, "big") + b"\x00\x00" + rows + b"".join(bodies) + bytes([0xEE]) * room)
+    for place, value in change.get("change", []):
+        s[place] = value
+    return bytes(s)
+
+
+def key_open(now, valid):
+    start, bounded, until = valid
+    return start <= now and (not bounded or now <= until)
+
+
+def submit(s, body, now, verdict, valid):
+    """The answer, and the image after."""
+    if verdict > 2:
+        return 15, s
+    held = sound(s)
+    if held is None:
+        return 16, s
+    rows, end = held
+    answer, f = read(body)
+    if answer:
+        return answer, s
+    if f["not_before"] > now + DAY:
+        return 2, s
+    if verdict == 2:
+        return 3, s
+    if not key_open(now, valid):
+        return 14, s
+    if verdict == 1:
+        return 4, s
+    ident = body[f["id"] : f["id"] + 16]
+    for i, at, n in rows:
+        if i == ident:
+            return (0 if s[at : at + n] == body else 5), s
+    if len(rows) == 64 or end + 32 + len(body) > len(s):
+        return 6, s
+    larger = image_of([s[at : at + n] for _, at, n in rows] + [body])
+    return 0, larger + s[len(larger) :]
+
+
+def find(s, ident):
+    if len(ident) != 16:
+        return "15"
+    held = sound(s)
+    if held is None:
+        return "16"
+    for i, at, n in held[0]:
+        if i == ident:
+            return f"0, at {at}, length {n}"
+    return "7"
+
+
+def matches(pattern, path):
+    pattern, path = pattern.split("/"), path.split("/")
+    if pattern[-1] == "**":
+        return len(path) >= len(pattern) and all(p in ("*", n) for p, n in zip(pattern[:-1], path))
+    return len(pattern) == len(path) and all(p in ("*", n) for p, n in zip(pattern, path))
+
+
+RESOURCE = re.compile(rf"terminal:{UUID}(/{NAME})+\Z")
+
+
+def request(s, q):
+    if (
+        q["verdict"] > 2
+        or q["mode"] > 3
+        or len(q["id"]) != 16
+        or not re.match(rf"fay:{UUID}\Z", q["fay"])
+        or not re.match(rf"terminal:{UUID}\Z", q["terminal"])
+        or len(q["resource"]) > 256
+        or not RESOURCE.match(q["resource"])
+        or len(q["revoked"]) % 16
+    ):
+        return "15"
+    held = sound(s)
+    if held is None:
+        return "16"
+    body = next((s[at : at + n] for i, at, n in held[0] if i == q["id"]), None)
+    if body is None:
+        return "7"
+    f = read(body)[1]
+    if q["id"] in [q["revoked"][i : i + 16] for i in range(0, len(q["revoked"]), 16)]:
+        return "8"
+    if q["now"] < f["not_before"]:
+        return "9"
+    if q["now"] >= f["not_after"]:
+        return "10"
+    if body[f["fay"] : f["fay"] + 40].decode() != q["fay"]:
+        return "11"
+    if body[f["terminal"] : f["terminal"] + 45].decode() != q["terminal"]:
+        return "12"
+    for i, g in enumerate(f["grants"]):
+        if g["mask"] >> q["mode"] & 1 and matches(g["pattern"][2].decode(), q["resource"]) and g["constraints"][1] == 0:
+            break
+    else:
+        return "13"
+    if q["verdict"] == 2 or not key_open(q["now"], q["valid"]):
+        return "14"
+    if q["verdict"] == 1:
+        return "4"
+    return f"0, grant {i}, mask {g['mask']}, session end {min(f['not_after'], q['now'] + q['session'])}"
+
+
+# ---- records
+
+
+class Run:
+    """Calls, with the image that they leave and what they write."""
+
+    def __init__(self):
+        self.image, self.store, self.out, self.into = b"", bytes(65536), [], []
+
+    def record(self, name, numbers, *parts):
+        parts = list(parts) + [b""] * (5 - len(parts))
+        for p in [name.encode(), b"".join(n.to_bytes(8, "big") for n in numbers)] + parts:
+            self.into.append(len(p).to_bytes(4, "big") + p)
+
+    def shown(self):
+        n = 7
+        for b in self.image:
+            n = n % 4294967291 * 257 + b
+        rows = number(self.image, 4, 2) if len(self.image) >= 6 else 0
+        return f"; {len(self.image)} bytes, rows {rows}, sum {n % 4294967291}"
+
+    def load(self, name, s):
+        self.record(name, [0], s)
+        self.store = self.image + self.store[len(self.image) :]
+        self.image = s
+        self.out.append(name + self.shown())
+
+    def lend(self, name, n):
+        self.record(name, [1, n])
+        self.store = self.image + self.store[len(self.image) :]
+        self.image = self.store[:n]
+        self.out.append(name + self.shown())
+
+    def new(self, name):
+        self.record(name, [2])
+        answer = 17 if len(self.image) < 8 else 0
+        if answer == 0:
+            self.image = bytes.fromhex("0001000100000000") + self.image[8:]
+        self.out.append(f"{name}: {answer}{self.shown()}")
+
+    def submit(self, name, body, now=2000, verdict=0, valid=(0, 0, 0)):
+        self.record(name, [3, now, verdict, *valid], body)
+        answer, self.image = submit(self.image, body, now, verdict, valid)
+        self.out.append(f"{name}: {answer}{self.shown()}")
+
+    def find(self, name, ident):
+        self.record(name, [4], ident)
+        self.out.append(f"{name}: {find(self.image, ident)}")
+
+    def request(self, name, **more):
+        q = dict(id=bytes(range(16)), fay=FAY, terminal=T, resource=T + "/a/b", mode=0, now=2000, session=100, revoked=b"", verdict=0, valid=(0, 0, 0))
+        q.update(more)
+        self.record(name, [5, q["mode"], q["now"], q["session"], q["verdict"], *q["valid"]], q["id"], q["fay"].encode(), q["terminal"].encode(), q["resource"].encode(), q["revoked"])
+        self.out.append(f"{name}: {request(self.image, q)}")
+
+
+def ident(i):
+    return i.to_bytes(2, "big") + bytes(13) + bytes([i % 251])
+
+
+def made(i, **more):
+    return encode(payload(descriptor_id=ident(i), **more))
+
+
+def images(r):
+    """New images, and each rule of the image broken once."""
+    base = encode()
+    other = encode(payload(descriptor_id=bytes(16), grants=[grant(["write"]), grant(["read", "configure"])]))
+    r.load("no byte is lent", b"")
+    r.new("new image in no byte")
+    r.submit("submission to no byte", base)
+    r.request("request to no byte")
+    r.load("7 bytes", b"\xff" * 7)
+    r.new("new image in 7 bytes")
+    r.load("8 bytes", b"\xff" * 8)
+    r.submit("submission to bytes that are no image", base)
+    r.new("new image in 8 bytes")
+    r.find("lookup in an empty image", ident(1))
+    r.submit("submission to an image of 8 bytes", base)
+    two = [base, other]
+    good = image_of(two, 40)
+    r.load("image of two bodies, and 40 bytes after", good)
+    r.find("lookup of the first", bytes(range(16)))
+    r.find("lookup of the second", bytes(16))
+    r.find("lookup of another", ident(9))
+    r.find("lookup of 15 bytes", bytes(15))
+    r.find("lookup of 17 bytes", bytes(17))
+    r.load("the image alone", image_of(two))
+    r.find("lookup in it", bytes(16))
+    end = len(image_of(two))
+    broken = [
+        ("image edition 0", [(1, 0)]),
+        ("image edition 2", [(1, 2)]),
+        ("image edition 257", [(0, 1)]),
+        ("mode edition 0", [(3, 0)]),
+        ("mode edition 2", [(3, 2)]),
+        ("a row less in the count", [(5, 1)]),
+        ("a row more in the count", [(5, 3)]),
+        ("65 rows in the count", [(5, 65)]),
+        ("256 rows more in the count", [(4, 1)]),
+        ("header not zero, first", [(6, 1)]),
+        ("header not zero, last", [(7, 1)]),
+        ("id of the first row", [(8, 1)]),
+        ("id of the second row, last byte", [(40 + 15, 1)]),
+        ("offset off by one", [(8 + 19, (8 + 64 + 1))]),
+        ("offset of the second off by a row", [(40 + 19, (number(good, 40 + 16, 4) + 32) % 256)]),
+        ("offset's highest byte", [(8 + 16, 1)]),
+        ("length one less", [(8 + 23, number(good, 8 + 20, 4) % 256 - 1)]),
+        ("length one more", [(40 + 23, number(good, 40 + 20, 4) % 256 + 1)]),
+        ("length's highest byte", [(8 + 20, 255)]),
+        ("mask without a mode", [(40 + 24, 1)]),
+        ("mask with a mode more", [(8 + 24, 3)]),
+        ("mask 0", [(8 + 24, 0)]),
+    ]
+    broken += [(f"row not zero, byte {i}", [(8 + i, 1)]) for i in range(25, 32)]
+    broken += [
+        ("first byte of a body", [(72, 0xA2)]),
+        ("last byte of a body's key", [(72 + 8, 0)]),
+        ("a byte after the image", [(end, 1)]),
+    ]
+    for name, change in broken:
+        r.load(name, image_of(two, 40, change=change))
+        r.find("lookup in it", bytes(range(16)))
+        r.submit("submission to it", made(5))
+        r.request("request to it")
+    r.load("the same body twice", image_of([base, base], 40))
+    r.find("lookup in it", bytes(range(16)))
+    r.load("two bodies with one id", image_of([base, encode(payload(not_after=2999))], 40))
+    r.find("lookup in it", bytes(range(16)))
+    r.load("a body with too long a period", image_of([encode(payload(not_after=2000 + 7776001))], 40))
+    r.find("lookup in it", bytes(range(16)))
+    for cut in (1, len(other), len(other) + 1, end - 8 - 64, end - 8 - 63, end - 7):
+        r.load(f"cut by {cut} bytes", image_of(two)[: end - cut])
+        r.find("lookup in it", bytes(range(16)))
+
+
+def submissions(r):
+    base = encode()
+    r.load("1,000 bytes", b"\xee" * 1000)
+    r.new("new image")
+    r.submit("first", base)
+    r.find("lookup of it", bytes(range(16)))
+    r.submit("the same bytes again", base)
+    r.submit("other bytes under the id", encode(payload(not_after=2999)))
+    r.submit("second", made(2))
+    r.find("lookup of the first", bytes(range(16)))
+    r.find("lookup of the second", ident(2))
+    r.submit("no room for a third", made(3))
+    # each step failing alone
+    fine = made(4, grants=[grant(["execute"], T + "/x")])
+    r.lend("1,500 bytes", 1500)
+    r.submit("verdict 3", fine, verdict=3)
+    r.submit("verdict 2^64 - 1", fine, verdict=LAST)
+    r.submit("no descriptor", b"")
+    r.submit("a descriptor cut by a byte", fine[:-1])
+    r.submit("period of 7,776,001", made(4, not_after=2000 + 7776001))
+    far = made(5, issued_at=0, not_before=5 * DAY, not_after=6 * DAY)
+    r.submit("begins one second too far ahead", far, now=4 * DAY - 1)
+    r.submit("no such key", fine, verdict=2)
+    r.submit("key not valid yet", fine, valid=(2001, 0, 0))
+    r.submit("key no longer valid", fine, valid=(0, 1, 1999))
+    r.submit("signature bad", fine, verdict=1)
+    # the earlier of two
+    r.submit("verdict 3, no descriptor", b"", verdict=3)
+    r.submit("no descriptor, no such key", b"", verdict=2)
+    r.submit("too far ahead, no such key", far, now=4 * DAY - 1, verdict=2)
+    r.submit("no such key, key not valid yet", fine, verdict=2, valid=(2001, 0, 0))
+    r.submit("key not valid yet, signature bad", fine, verdict=1, valid=(2001, 0, 0))
+    r.submit("signature bad, id held with other bytes", encode(payload(not_after=2999)), verdict=1)
+    r.submit("signature bad, id held with the same bytes", base, verdict=1)
+    r.load("no image", b"\x00" * 100)
+    r.submit("verdict 3, no image", fine, verdict=3)
+    r.submit("no image, no descriptor", b"")
+    r.submit("no image, no such key", fine, verdict=2)
+    # both sides of each line
+    r.load("3,000 bytes", b"\xdd" * 3000)
+    r.new("new image")
+    r.submit("not_before = now + 86,400", far, now=4 * DAY)
+    r.submit("key valid from now on", made(6), valid=(2000, 0, 0))
+    r.submit("key valid until now", made(7), valid=(0, 1, 2000))
+    r.submit("no valid_until, whatever stands for it", made(8), valid=(0, 0, 1))
+    r.submit("clock 0, not_before 86,400", made(9, issued_at=0, not_before=DAY, not_after=DAY + 1), now=0)
+    late = made(10, issued_at=0, not_before=LAST - 1, not_after=LAST)
+    r.submit("not_before 2^64 - 2, clock 2^64 - 1 - 86,401", late, now=LAST - 1 - DAY - 1)
+    r.submit("not_before 2^64 - 2, clock 2^64 - 2 - 86,400", late, now=LAST - 1 - DAY)
+    r.submit("clock 2^64 - 1, key valid until then", made(11), now=LAST, valid=(LAST, 1, LAST))
+    # exactly enough room, and one byte less
+    size = len(image_of([base]))
+    r.load("one byte too short", b"\x77" * (size - 1))
+    r.new("new image")
+    r.submit("no room", base)
+    r.lend("one byte more", size)
+    r.submit("room", base)
+    r.find("lookup of it", bytes(range(16)))
+    # every row
+    bodies = [made(100 + i, grants=[grant(["read", "write", "execute", "configure"][i % 4 : i % 4 + 1], T + f"/r/{i}")]) for i in range(65)]
+    r.load("30,000 bytes", b"\x55" * 30000)
+    r.new("new image")
+    for i in range(64):
+        r.submit(f"row {i + 1}", bodies[i])
+    r.submit("row 65", bodies[64])
+    r.submit("row 1 again", bodies[0])
+    r.submit("row 64 again", bodies[63])
+    r.submit("row 1 with other bytes", made(100))
+    for i in (0, 1, 31, 62, 63, 64):
+        r.find(f"lookup of row {i + 1}", ident(100 + i))
+    r.request("request to row 64", id=ident(163), resource=T + "/r/63", mode=3)
+    r.request("request to row 1", id=ident(100), resource=T + "/r/0")
+
+
+def requests(r):
+    many = [
+        grant(["write"], T + "/a/*"),
+        grant(["read"], T + "/a/b", constraints={"k": "v"}),
+        grant(["read", "execute"], T + "/a/b", constraints={}),
+        grant(["read"], T + "/a/*"),
+        grant(["configure"], T + "/**"),
+        grant(["execute"], T + "/" + "n" * 200 + "/*"),
+    ]
+    base = encode(payload(grants=many))
+    r.load("4,000 bytes", b"\xaa" * 4000)
+    r.new("new image")
+    r.submit("stored", base)
+    r.submit("another", made(2, subject_fay_id=FAY.replace("7e21", "7e22")))
+    # granted
+    r.request("the first grant without a constraint pair")
+    r.request("mode 1", mode=1)
+    r.request("mode 2", mode=2)
+    r.request("mode 3", mode=3)
+    r.request("a later grant", resource=T + "/a/c")
+    r.request("** takes three names", resource=T + "/x/y/z", mode=3)
+    r.request("the other descriptor", id=ident(2), fay=FAY.replace("7e21", "7e22"))
+    # each refusal alone
+    r.request("verdict 3", verdict=3)
+    r.request("mode 4", mode=4)
+    r.request("mode 2^64 - 1", mode=LAST)
+    r.request("id of 15 bytes", id=bytes(15))
+    r.request("id of 17 bytes", id=bytes(range(17)))
+    r.request("no fay id", fay="fay:x")
+    r.request("no terminal id", terminal="terminal:x")
+    r.request("resource without a level", resource=T)
+    r.request("resource with an empty level", resource=T + "/a//b")
+    r.request("resource with a wildcard", resource=T + "/a/*")
+    r.request("revocation list of 15 bytes", revoked=bytes(15))
+    r.request("id not held", id=ident(3))
+    r.request("revoked", revoked=bytes(range(16)))
+    r.request("revoked, second of three", revoked=bytes(16) + bytes(range(16)) + bytes(16))
+    r.request("revoked, last of two", revoked=bytes(16) + bytes(range(16)))
+    r.request("not revoked, the id stands across two", revoked=bytes(8) + bytes(range(16)) + bytes(8))
+    r.request("not yet valid", now=1999)
+    r.request("expired", now=3000)
+    r.request("another subject", fay=FAY.replace("7e21", "7e22"))
+    r.request("the subject's id in other letters", fay=FAY.replace("ab", "AB"))
+    r.request("another terminal", terminal=U)
+    r.request("resource of another terminal", resource=U + "/a/b")
+    r.request("no grant has the mode for it", resource=T + "/b", mode=1)
+    r.request("no grant matches", resource=T + "/a/b/c")
+    r.request("only a prefix of a name matches", resource=T + "/ab/b")
+    r.request("no such key", verdict=2)
+    r.request("key not valid yet", valid=(2001, 0, 0))
+    r.request("key no longer valid", valid=(0, 1, 1999))
+    r.request("signature bad", verdict=1)
+    # each adjacent pair
+    r.request("malformed, and id not held", id=ident(3), mode=4)
+    r.request("not held, and in the list", id=ident(3), revoked=ident(3))
+    r.request("revoked, and not yet valid", revoked=bytes(range(16)), now=1999)
+    r.request("revoked and expired", revoked=bytes(range(16)), now=3000)
+    r.request("not yet valid, and another subject", now=1999, fay=FAY.replace("7e21", "7e22"))
+    r.request("expired and wrong subject", now=3000, fay=FAY.replace("7e21", "7e22"))
+    r.request("another subject, and another terminal", fay=FAY.replace("7e21", "7e22"), terminal=U)
+    r.request("another terminal, and no grant", terminal=U, resource=U + "/a/b")
+    r.request("no grant, and no such key", resource=T + "/a/b/c", verdict=2)
+    r.request("key not valid, and signature bad", valid=(2001, 0, 0), verdict=1)
+    # both sides of each line
+    r.request("now = not_before", now=2000)
+    r.request("now = not_after - 1", now=2999)
+    r.request("now = not_after", now=3000)
+    r.request("key valid from now on", valid=(2000, 0, 0))
+    r.request("key valid until now", valid=(0, 1, 2000))
+    r.request("no valid_until, whatever stands for it", valid=(0, 0, 1))
+    long = T + "/" + "n" * 200 + "/"
+    r.request("resource of 256 bytes", resource=long + "m" * (256 - len(long)), mode=2)
+    r.request("resource of 257 bytes", resource=long + "m" * (257 - len(long)), mode=2)
+    # the session's end
+    r.request("session of 0", session=0)
+    r.request("session one second before not_after", session=999)
+    r.request("session up to not_after", session=1000)
+    r.request("session one second past not_after", session=1001)
+    r.request("session of 2^64 - 1", session=LAST)
+    r.load("4,000 bytes", b"\xaa" * 4000)
+    r.new("new image")
+    r.submit("stored, up to 2^64 - 1", encode(payload(issued_at=0, not_before=LAST - 10, not_after=LAST)), now=LAST - 10)
+    r.request("clock 2^64 - 2, session of 1", now=LAST - 1, session=1)
+    r.request("clock 2^64 - 2, session of 2^64 - 1", now=LAST - 1, session=LAST)
+    r.request("clock 2^64 - 3, session of 1", now=LAST - 2, session=1)
+    r.request("clock 2^64 - 1", now=LAST, session=0)
+    # order in the image
+    r.load("no image", b"\x00" * 100)
+    r.request("no image, malformed", mode=4)
+    r.request("no image, id not held", id=ident(3))
+
+
+def main():
+    r = Run()
+    images(r)
+    submissions(r)
+    requests(r)
+    folder = sys.argv[1]
+    stdin = b"".join(r.into)
+    assert len(r.out) < 1000 and len(stdin) < 1 << 20, (len(r.out), len(stdin))
+    with open(f"{folder}/stdin", "wb") as f:
+        f.write(stdin)
+    with open(f"{folder}/stdout", "w") as f:
+        f.write("".join(line + "\n" for line in r.out))
+
+
+main()

@@ -1,5 +1,5 @@
 -- The promises of specs/Promises.antt, each from its law. Assumes nothing.
-use Rattle.submission.specs.Promises.{DoneExactly, RefusedExactly, RefusalKeeps, RepeatKeeps, StoredLast, StoredFound, OthersFound, FullExactly, EditionsRefused}
+use Rattle.submission.specs.Promises.{DoneExactly, RefusedExactly, RefusalKeeps, RepeatKeeps, StoredLast, StoredFound, OthersFound, DuplicateExactly, FullExactly, EditionsRefused}
 use Rattle.submission.proofs.StepLaws as order
 use Rattle.submission.proofs.StoredLaws as stored
 
@@ -23,6 +23,9 @@ stored-found = stored.stored-found
 
 pub others-found : OthersFound
 others-found = stored.others-found
+
+pub duplicate-exactly : DuplicateExactly
+duplicate-exactly = stored.duplicate-exactly
 
 pub full-exactly : FullExactly
 full-exactly = stored.full-exactly

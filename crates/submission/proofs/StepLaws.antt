@@ -108,6 +108,29 @@ full-fails d b clock verdict window e =
     (not-here _ _ x refl
     (not-here _ _ x refl e)))))))))
 
+-- Where the refusal of the first of two last steps is answered, that step fails.
+first-here : (t u : Bool) → inOrder (step t answers.Duplicate ∷ step u answers.Full ∷ []) answers.Done ≡ answers.Duplicate → t ≡ false
+unfolding inOrder orElse
+first-here true true e = absurd (apart answers.Done answers.Duplicate refl e)
+first-here true false e = absurd (apart answers.Full answers.Duplicate refl e)
+first-here false u e = refl
+
+-- The answer 5 says that the body is held with other bytes.
+pub duplicate-fails : (d b : List ℕ) (clock verdict : ℕ) (window : Window) → submitted d b clock verdict window ≡ answers.Duplicate
+    → agrees d b (surveyOf d (idOf b)) ≡ false
+unfolding submitted steps stepsBy
+duplicate-fails d b clock verdict window e =
+    let x : Submission = answers.Duplicate in
+    first-here _ _
+    (not-here _ _ x refl
+    (not-here _ _ x refl
+    (not-here _ _ x refl
+    (not-here _ _ x refl
+    (not-here _ _ x refl
+    (not-here _ _ x refl
+    (not-here _ _ x refl
+    (not-here _ _ x refl e))))))))
+
 -- An image that is not sound is answered with 16, where the verdict is one of the three.
 pub unsound-refused : (d b : List ℕ) (clock verdict : ℕ) (window : Window) → verdict ≤ 2 → surveyOf d (idOf b) ≡ Unsound
     → submitted d b clock verdict window ≡ answers.BadImage

@@ -3,7 +3,7 @@ use mathlib.Core.Path.{_≡_, refl, sym, ap, _∙_, subst}
 use mathlib.Core.Logic.{_↔_, _⊎_, inl, inr, ⊎-elim}
 use mathlib.Core.Bool.{Bool, true, false, _&&_, _||_, false≢true}
 use mathlib.Core.List.{List, [], _∷_, _++_}
-use mathlib.Core.Option.{some}
+use mathlib.Core.Option.{none, some}
 use Prim.Native.Nat.{ℕ, _+_, _≤_, _<_}
 use native.Mathlib.Omega.{arith}
 use lib.ListN.{length, drop}
@@ -18,7 +18,7 @@ use Rattle.image.specs.declared.Held.the-variants.{Missing, Body}
 use Rattle.image.specs.declared.Survey.{Survey}
 use Rattle.image.specs.declared.Survey.the-variants.{Sound}
 use Rattle.image.specs.Layout.{rowSize, mostRows}
-use Rattle.image.specs.Image.{idOf, imageOf, hasId, Holds}
+use Rattle.image.specs.Image.{idOf, imageOf, hasId, Holds, bodyWith}
 use Rattle.image.specs.Check.{surveyOf, findOf, bodyFound}
 use Rattle.image.proofs.RowLaws.{id-length}
 use Rattle.image.proofs.ListLaws.{same-true, true-same, with-new, with-other}
@@ -27,11 +27,11 @@ use Rattle.image.proofs.SurveyLaws.{survey-complete}
 use Rattle.image.proofs.Promises.{bodies-once, lookup-exactly, editions-known}
 use Rattle.submission.specs.declared.Submission.the-variants as answers
 use Rattle.submission.specs.Submission.{isHeld, agrees, hasRoom, submitted, numberOf, afterOf}
-use Rattle.submission.specs.Promises.{RefusalKeeps, RepeatKeeps, StoredLast, StoredFound, OthersFound, FullExactly, EditionsRefused}
+use Rattle.submission.specs.Promises.{RefusalKeeps, RepeatKeeps, StoredLast, StoredFound, OthersFound, DuplicateExactly, FullExactly, EditionsRefused}
 use Rattle.submission.proofs.ChoiceLaws.{kept-or-done, refused-keeps}
 use Rattle.submission.proofs.GrowLaws.{length-more, bodies-more}
 use Rattle.submission.proofs.SubmitLaws.{after-held, after-new}
-use Rattle.submission.proofs.StepLaws.{done-passed, full-fails, unsound-refused}
+use Rattle.submission.proofs.StepLaws.{done-passed, duplicate-fails, full-fails, unsound-refused}
 
 -- ---- what the survey finds
 
@@ -130,6 +130,38 @@ full-exactly d b clock verdict window bs h new way = ⊎-elim done full way
           λ f. absurd (omega (arith, ap numberOf (sym e ∙ f))),
           λ f. absurd (⊎-elim (λ x. omega (arith, r .0)) (λ x. omega (arith, r .1, length-more bs b)) f),
         )
+
+-- What two equal options hold is equal.
+some-same : (x y : List ℕ) → some x ≡ some y → x ≡ y
+some-same x y e = cc
+
+-- An option that holds something is not empty.
+none-some : (x : List ℕ) → none ≡ some x → ⊥
+none-some x e = let z : _≡_ {A = ℕ} 0 1 = cc in omega arith
+
+-- Where the body c is held under the id, the survey tells whether it is b.
+agrees-body : (d b : List ℕ) (bs : List (List ℕ)) (c : List ℕ) → Holds d bs → bodyWith (idOf b) bs ≡ some c → agrees d b (surveyOf d (idOf b)) ≡ same c b
+agrees-body d b bs c h k = let w = survey-complete d (idOf b) bs h in ap (agrees d b) (w .1) ∙ go (w .0) (w .2)
+  where
+    go : (x : Held) → HeldIs d (idOf b) bs x → agrees d b (Sound (length bs) (length (imageOf bs)) x) ≡ same c b
+    go Missing i = absurd (none-some c (sym (i .0) ∙ k))
+    go (Body at len f) i = ap (λ (y : List ℕ). same y b) (some-same (part d at len) c (sym (i .which) ∙ k))
+
+-- `DuplicateExactly`.
+pub duplicate-exactly : DuplicateExactly
+duplicate-exactly d b clock verdict window bs c h k way = ⊎-elim done other way
+  where
+    tells : agrees d b (surveyOf d (idOf b)) ≡ same c b
+    tells = agrees-body d b bs c h k
+
+    other : submitted d b clock verdict window ≡ answers.Duplicate → (submitted d b clock verdict window ≡ answers.Duplicate) ↔ (c ≡ b → ⊥)
+    other e = (λ f x. false≢true (sym (duplicate-fails d b clock verdict window e) ∙ tells ∙ true-same c b x), λ f. e)
+
+    done : submitted d b clock verdict window ≡ answers.Done → (submitted d b clock verdict window ≡ answers.Duplicate) ↔ (c ≡ b → ⊥)
+    done e = (
+      λ f. absurd (omega (arith, ap numberOf (sym e ∙ f))),
+      λ f. absurd (f (same-true c b (sym tells ∙ done-passed d b clock verdict window e .same-bytes))),
+    )
 
 -- ---- what a lookup then finds
 

@@ -53,6 +53,12 @@ abbrev pub OthersFound : Type 0
 OthersFound = (d b : List ℕ) (clock verdict : ℕ) (window : Window) (bs : List (List ℕ)) (id : List ℕ) → Holds d bs → length id ≡ idSize → same (idOf b) id ≡ false
     → bodyFound (afterOf d b clock verdict window) (findOf (afterOf d b clock verdict window) id) ≡ bodyFound d (findOf d id)
 
+-- where the steps before it pass and the body c is held under the id, 5 is answered exactly when c is other bytes
+abbrev pub DuplicateExactly : Type 0
+DuplicateExactly = (d b : List ℕ) (clock verdict : ℕ) (window : Window) (bs : List (List ℕ)) (c : List ℕ) → Holds d bs → bodyWith (idOf b) bs ≡ some c
+    → (submitted d b clock verdict window ≡ answers.Done) ⊎ (submitted d b clock verdict window ≡ answers.Duplicate)
+    → (submitted d b clock verdict window ≡ answers.Duplicate) ↔ (c ≡ b → ⊥)
+
 -- where the steps before it pass and the id is new, 6 is answered exactly when 64 rows are held or the larger image exceeds the buffer
 abbrev pub FullExactly : Type 0
 FullExactly = (d b : List ℕ) (clock verdict : ℕ) (window : Window) (bs : List (List ℕ)) → Holds d bs → hasId (idOf b) bs ≡ false

@@ -1,0 +1,14 @@
+/* Text files that have one entry a line: key files and revocation files. */
+#ifndef HOST_LINES_H
+#define HOST_LINES_H
+
+#include <stdbool.h>
+
+/* Takes one line, which it may change, of the file with the path; answers what is wrong with it, or null. */
+typedef const char *line_taker(void *taker, const char *path, char *line);
+
+/* Hands each line to the taker, but for those of blanks only and those that begin with #; answers false at the first that is wrong, and has
+ * told the file, the line and what is wrong. */
+bool lines_read(const char *path, line_taker *take, void *taker);
+
+#endif

@@ -1,0 +1,188 @@
+#!/usr/bin/env bash
+# Runs the example host end to end, prints what it says, and checks each end status and each line that decides; ends with 1 at the first
+# answer that is not what must come.
+#
+#   demo.sh [BUILD-FOLDER]     CAP_LIB names the library where it isn't ../../target/staticlib/libcap.a
+set -euo pipefail
+
+here=$(cd "$(dirname "$0")" && pwd)
+cap_lib=$(realpath -m "${CAP_LIB:-$here/../../target/staticlib/libcap.a}")
+build=${1:-$here/../../target/host}
+mkdir -p "$build"
+build=$(cd "$build" && pwd)
+make --silent --no-print-directory -C "$here" BUILD="$build" CAP_LIB="$cap_lib"
+
+# A fresh folder in which everything happens.
+rm -rf "$build/demo"
+mkdir "$build/demo"
+cd "$build/demo"
+"$build/issue" .
+
+# The clock, which stands where it is set, and the names that the descriptors have.
+start=1767225600
+hour=3600
+day=86400
+terminal=terminal:01927b34-7e21-7c4d-a89f-0123456789ab
+other_terminal=terminal:01927b34-7e21-7c4d-a89f-ffffffffffff
+device=$terminal/device
+student=fay:01927b34-7e21-7c4d-a89f-1234567890ab
+staff=fay:01927b34-7e21-7c4d-a89f-fedcba098765
+id=01927b34-7e21-7c4d-a89f-0000000000
+checked=0
+
+# Prints a heading.
+heading() {
+    printf '\n== %s\n' "$*"
+}
+
+# Ends the run: what came is not what must come.
+mismatch() {
+    printf '\nMISMATCH: %s\n' "$*"
+    exit 1
+}
+
+# must STATUS LINE... -- ARGUMENT...: runs the host, and it must end with the status and print each of the lines.
+must() {
+    local status=$1 came=0 output line lines=()
+    shift
+    while [ "$1" != -- ]; do
+        lines+=("$1")
+        shift
+    done
+    shift
+    printf '\n$ host %s\n' "$*" | fold -s -w 140 | sed 's/^[^$]/      &/; s/ $//'
+    output=$("$build/host" "$@" 2>&1) || came=$?
+    printf '%s\n' "$output" | sed 's/^/  /'
+    printf '  [ends with %s]\n' "$came"
+    [ "$came" = "$status" ] || mismatch "it must end with $status"
+    for line in "${lines[@]}"; do
+        grep -qxF -e "$line" <<<"$output" || mismatch "this line must come: $line"
+    done
+    checked=$((checked + 1))
+}
+
+# unchanged FILE COPY: a refusal has left the file as it was.
+unchanged() {
+    cmp -s "$1" "$2" || mismatch "$1 must be unchanged"
+    printf '  [%s is unchanged]\n' "$1"
+}
+
+heading 'A new image'
+must 0 'new image: 8192 bytes, no descriptor' -- new image 8192
+must 1 'refused: output too short (17)' -- new tiny 7
+must 2 'error: cannot make a new image: image: the file is there already' -- new image 8192
+
+heading 'What the student has got from the lab'
+must 0 "descriptor ${id}01" \
+    '  grant 1' "    pattern: \"$device/furnace/temperature\"" '    modes: read' \
+    '    constraint: "time_window" = "08:00-18:00"' -- show student.cbor
+
+heading 'Submissions that are taken'
+must 0 "stored: descriptor ${id}01" '  key: "lab-2026" of issuer "Lab Office" for ed25519: signature good' \
+    -- submit image keys.txt student.cbor $start
+cp image image.before
+must 0 "held already: descriptor ${id}01" -- submit image keys.txt student.cbor $start
+unchanged image image.before
+must 0 "stored: descriptor ${id}02" '  key: "staff-2026" of issuer "Lab Office" for ecdsa-p256-sha256: signature good' \
+    -- submit image keys.txt staff.cbor $start
+must 0 "stored: descriptor ${id}03" -- submit image keys.txt expired.cbor $start
+must 0 "stored: descriptor ${id}04" -- submit image keys.txt future.cbor $start
+must 0 "stored: descriptor ${id}09" -- submit image keys.txt guest.cbor $start
+
+heading 'Submissions that are refused, each of which leaves the image as it was'
+cp image image.before
+must 1 'refused: E_DUPLICATE_DESCRIPTOR_ID (5)' '  step: 3, deduplication check' -- submit image keys.txt student-other.cbor $start
+must 1 'refused: E_UNKNOWN_ISSUER (3)' '  step: 2, signature validation' \
+    '  key: "lab-2026" of issuer "Another Lab" for ed25519: no such key' -- submit image keys.txt stranger.cbor $start
+must 1 'refused: E_INVALID_SIGNATURE (4)' '  key: "lab-2026" of issuer "Lab Office" for ed25519: signature bad' \
+    -- submit image keys.txt forged.cbor $start
+must 1 'refused: E_INVALID_SIGNATURE (4)' '  key: "staff-2026" of issuer "Lab Office" for ecdsa-p256-sha256: signature bad' \
+    -- submit image keys.txt forged-staff.cbor $start
+must 1 'refused: E_VERIFICATION_KEY_INVALID (14)' -- submit image keys.txt guest.cbor $((start + 2 * day))
+must 1 'refused: E_VALIDITY_OUT_OF_RANGE (2)' '  step: 1, structural validation' -- submit image keys.txt ahead.cbor $start
+must 1 'refused: E_VALIDITY_OUT_OF_RANGE (2)' -- submit image keys.txt long.cbor $start
+head -c 500 student.cbor >cut.cbor
+must 1 'refused: E_INVALID_STRUCTURE (1)' '  step: 1, structural validation' -- submit image keys.txt cut.cbor $start
+unchanged image image.before
+
+heading 'A file that is not the image, and an image that has no room'
+cp keys.txt not-image
+must 1 'refused: bad image (16)' '  step: before all steps: the image' -- submit not-image keys.txt student.cbor $start
+unchanged not-image keys.txt
+must 0 'new image: 256 bytes, no descriptor' -- new small 256
+must 1 'refused: E_STORAGE_FULL (6)' '  step: 4, storage' -- submit small keys.txt student.cbor $start
+
+# ask STATUS LINE... -- ID-END FAY TERMINAL RESOURCE MODE NOW [REVOKED-FILE]: a request to the image for a session of at most an hour.
+ask() {
+    local expected=()
+    while [ "$1" != -- ]; do
+        expected+=("$1")
+        shift
+    done
+    shift
+    local id_end=$1 fay=$2 at=$3 resource=$4 mode=$5 now=$6
+    shift 6
+    must "${expected[@]}" -- request image keys.txt "$id$id_end" "$fay" "$at" "$resource" "$mode" "$now" $hour "$@"
+}
+
+heading 'Requests that are granted'
+ask 0 "granted: read of \"$device/furnace/temperature\"" '  grant 1' "    pattern: \"$device/furnace/temperature\"" '    modes: read' \
+    "  session end: $((start + 2 * hour)) (2026-01-01 02:00:00 UTC)" \
+    -- 01 "$student" "$terminal" "$device/furnace/temperature" read $((start + hour))
+ask 0 '  grant 0' "    pattern: \"$device/camera/*\"" -- 01 "$student" "$terminal" "$device/camera/front" read $start
+ask 0 '  grant 0' '    modes: read, write, configure' \
+    -- 02 "$staff" "$terminal" "$device/furnace/zone-2/limit" configure $((start + hour))
+ask 0 "  session end: $((start + 30 * day)) (2026-01-31 00:00:00 UTC)" \
+    -- 01 "$student" "$terminal" "$device/camera/front" read $((start + 30 * day - 1))
+
+heading 'Requests that are refused'
+ask 1 'refused: E_AUTHORIZATION_INSUFFICIENT (13)' '  step: 6, resource and mode match' \
+    -- 01 "$student" "$terminal" "$device/furnace/temperature" write $((start + hour))
+ask 1 'refused: E_AUTHORIZATION_INSUFFICIENT (13)' -- 01 "$student" "$terminal" "$device/door/main" execute $((start + hour))
+printf '# revoked by the lab\n%s\n' "${id}01" >revoked.txt
+ask 1 'refused: E_DESCRIPTOR_REVOKED (8)' '  step: 2, revocation status' \
+    -- 01 "$student" "$terminal" "$device/furnace/temperature" read $((start + hour)) revoked.txt
+ask 1 'refused: E_DESCRIPTOR_EXPIRED (10)' '  step: 3, validity period' \
+    -- 03 "$student" "$terminal" "$device/furnace/temperature" read $start
+ask 1 'refused: E_DESCRIPTOR_EXPIRED (10)' -- 01 "$student" "$terminal" "$device/camera/front" read $((start + 30 * day))
+ask 1 'refused: E_DESCRIPTOR_NOT_YET_VALID (9)' '  step: 3, validity period' \
+    -- 04 "$student" "$terminal" "$device/furnace/temperature" read $start
+ask 1 'refused: E_SUBJECT_MISMATCH (11)' '  step: 4, subject match' \
+    -- 02 "$student" "$terminal" "$device/furnace/temperature" read $start
+ask 1 'refused: E_TERMINAL_MISMATCH (12)' '  step: 5, terminal match' \
+    -- 01 "$student" "$other_terminal" "$device/furnace/temperature" read $start
+ask 1 'refused: E_DESCRIPTOR_NOT_FOUND (7)' '  step: 1, credential existence' \
+    -- 99 "$student" "$terminal" "$device/furnace/temperature" read $start
+ask 1 'refused: malformed arguments (15)' '  step: before all steps: arguments' \
+    -- 01 fay:nobody "$terminal" "$device/furnace/temperature" read $start
+ask 1 'refused: malformed arguments (15)' -- 01 "$student" "$terminal" "$device//temperature" read $start
+ask 1 'refused: E_VERIFICATION_KEY_INVALID (14)' '  step: 7, signature validation' \
+    -- 09 "$student" "$terminal" "$device/furnace/temperature" read $((start + 2 * day))
+grep -v lab-2026 keys.txt >fewer-keys.txt
+must 1 'refused: E_VERIFICATION_KEY_INVALID (14)' '  key: "lab-2026" of issuer "Lab Office" for ed25519: no such key' \
+    -- request image fewer-keys.txt "${id}01" "$student" "$terminal" "$device/camera/front" read $start $hour
+
+heading 'A stored descriptor that someone has changed on the disk'
+must 0 'new image: 2048 bytes, no descriptor' -- new changed 2048
+must 0 "stored: descriptor ${id}01" -- submit changed keys.txt student.cbor $start
+printf '\377' | dd of=changed bs=1 seek=$((8 + 32 + $(wc -c <student.cbor) - 1)) conv=notrunc status=none
+must 1 'refused: E_INVALID_SIGNATURE (4)' '  step: 7, signature validation' \
+    -- request changed keys.txt "${id}01" "$student" "$terminal" "$device/furnace/temperature" read $start $hour
+
+heading 'Narrowing a child under its parent'
+must 0 'accepted: every moment, path and mode that the child admits, the parent admits' -- narrow parent.cbor child-inside.cbor
+must 1 'refused: grant not covered (20)' "  child's grant 1" "    pattern: \"$device/camera/**\"" '  escapes in mode: write' \
+    '  levels: 2 (the fewest names that its "**" takes in a path that escapes)' -- narrow parent.cbor child-escapes.cbor
+must 1 'refused: period not inside (18)' '  step: 4, period' -- narrow parent.cbor child-later.cbor
+must 1 'refused: constraint present (19)' '  step: 3, constraints' -- narrow parent.cbor student.cbor
+must 1 "refused: parent doesn't read (21)" '  step: 1, reading of the parent' -- narrow cut.cbor child-inside.cbor
+must 1 'refused: E_INVALID_STRUCTURE (1)' '  step: 2, reading of the child' -- narrow parent.cbor cut.cbor
+
+heading 'Errors of files and arguments'
+must 2 'error: cannot open: missing.cbor: No such file or directory' -- show missing.cbor
+must 2 'error: bad argument: MODE: look' \
+    -- request image keys.txt "${id}01" "$student" "$terminal" "$device/camera/front" look $start $hour
+cat keys.txt keys.txt >twice.txt
+must 2 'error: twice.txt: line 6: an earlier line has the same issuer, key id and algorithm' -- submit image twice.txt student.cbor $start
+
+printf '\n%s answers, each as it must be.\n' "$checked"

@@ -1,13 +1,39 @@
 # The commands of README.md.
 
-.PHONY: test example
+SHELL := bash
+CARGO := cargo --offline
 
-# proves every crate of crates.txt from nothing, tries the must-fail edits, runs the programs
+.PHONY: test lib example match bench header differential
+
+# proves every crate of crates.txt from nothing, tries the must-fail edits, runs the programs, and compares the library with ordinary Rust
 test:
-	rt ci
+	tests/gate
 
-# proves and builds the matching tool, and answers the lines of document 01
-example:
+# the static library for hosts
+lib:
+	rt staticlib cap
+
+# a host over the library, run end to end
+example: lib
+	dpkg -s libssl-dev > /dev/null 2>&1 || apt-get install -y libssl-dev
+	examples/host/demo.sh
+
+# the matching tool, over the lines of document 01
+match:
 	rt check match_tool
 	cat crates/match_tool/stdin
 	target/bin/match_tool < crates/match_tool/stdin
+
+# the header in C99 and in C++, without a warning
+header:
+	cc -std=c99 -Wall -Wextra -pedantic -Werror -fsyntax-only -x c include/cap.h
+	c++ -Wall -Wextra -pedantic -Werror -fsyntax-only -x c++ include/cap.h
+
+# the library compared with the ordinary Rust implementation, and that with the stored vectors
+differential: lib
+	cd bindings/reference && $(CARGO) test --release
+	cd bindings/rust && $(CARGO) test --release
+
+# the library timed beside the ordinary Rust implementation
+bench: lib
+	cd bindings/rust && $(CARGO) run --release --example bench

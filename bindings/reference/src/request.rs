@@ -1,0 +1,140 @@
+//! The decision on a request.
+
+use crate::answer::{
+    AUTHORIZATION_INSUFFICIENT, BAD_IMAGE, DESCRIPTOR_EXPIRED, DESCRIPTOR_NOT_FOUND,
+    DESCRIPTOR_NOT_YET_VALID, DESCRIPTOR_REVOKED, DONE, INVALID_SIGNATURE, MALFORMED_ARGUMENTS,
+    SUBJECT_MISMATCH, TERMINAL_MISMATCH, VERDICT_BAD, VERDICT_NO_KEY, VERIFICATION_KEY_INVALID,
+};
+use crate::descriptor::{Grant, Reading};
+use crate::image::Image;
+use crate::resource::{is_fay_id, is_resource_id, is_terminal_id, pattern_matches};
+use crate::submission::key_is_open;
+
+/// The texts and numbers of a request.
+#[derive(Clone, Copy, Debug, Default, PartialEq, Eq)]
+pub struct Request<'a> {
+    /// The descriptor id.
+    pub id: &'a [u8],
+    /// The fay id of the one who asks.
+    pub fay: &'a [u8],
+    /// The id of this terminal.
+    pub terminal: &'a [u8],
+    /// The resource id.
+    pub resource: &'a [u8],
+    /// The mode's number.
+    pub mode: u64,
+    /// The clock, in seconds.
+    pub now: u64,
+    /// The longest session that the host allows, in seconds.
+    pub session_length: u64,
+    /// The revocation list: ids of 16 bytes each.
+    pub revoked: &'a [u8],
+    /// The host's verdict: 0 signature good, 1 bad, 2 no such key.
+    pub verdict: u64,
+    /// The first moment of the key's window.
+    pub valid_from: u64,
+    /// 0 where the key has no last moment.
+    pub has_valid_until: u64,
+    /// The last moment of the key's window.
+    pub valid_until: u64,
+}
+
+/// What a request answers.
+#[derive(Clone, Copy, Debug, Default, PartialEq, Eq)]
+pub struct Decision {
+    /// 0, or the number of the first step that fails.
+    pub answer: u64,
+    /// The place of the first grant that serves.
+    pub grant: u64,
+    /// The modes of that grant.
+    pub mask: u64,
+    /// The smaller of not_after and now + session_length.
+    pub session_end: u64,
+}
+
+/// Decides a request for the stored descriptor with the id.
+pub fn request(image: &[u8], with: &Request) -> Decision {
+    decide(image, with).unwrap_or_else(|answer| Decision {
+        answer,
+        ..Decision::default()
+    })
+}
+
+/// The decision that grants the request, or the number of the first step that fails.
+fn decide(image: &[u8], with: &Request) -> Result<Decision, u64> {
+    if !is_well_formed(with) {
+        return Err(MALFORMED_ARGUMENTS);
+    }
+    let image = Image::of(image).ok_or(BAD_IMAGE)?;
+    let held = image.find(with.id).ok_or(DESCRIPTOR_NOT_FOUND)?.reading;
+    check_descriptor(&held, with)?;
+    let (place, grant) = serving_grant(&held, with).ok_or(AUTHORIZATION_INSUFFICIENT)?;
+    check_key(with)?;
+    Ok(Decision {
+        answer: DONE,
+        grant: place as u64,
+        mask: grant.mask,
+        session_end: session_end(held.numbers.not_after, with),
+    })
+}
+
+/// Whether each argument has its form.
+fn is_well_formed(with: &Request) -> bool {
+    with.verdict <= VERDICT_NO_KEY
+        && with.mode <= 3
+        && with.id.len() == 16
+        && is_fay_id(with.fay)
+        && is_terminal_id(with.terminal)
+        && is_resource_id(with.resource)
+        && with.revoked.chunks_exact(16).remainder().is_empty()
+}
+
+/// The steps from the revocation list to the terminal.
+fn check_descriptor(held: &Reading, with: &Request) -> Result<(), u64> {
+    if with.revoked.chunks(16).any(|id| id == with.id) {
+        Err(DESCRIPTOR_REVOKED)
+    } else if with.now < held.numbers.not_before {
+        Err(DESCRIPTOR_NOT_YET_VALID)
+    } else if with.now >= held.numbers.not_after {
+        Err(DESCRIPTOR_EXPIRED)
+    } else if held.fay() != with.fay {
+        Err(SUBJECT_MISMATCH)
+    } else if held.terminal() != with.terminal {
+        Err(TERMINAL_MISMATCH)
+    } else {
+        Ok(())
+    }
+}
+
+/// The first grant with the mode, a matching pattern and no constraint pair, and its place.
+fn serving_grant(held: &Reading, with: &Request) -> Option<(usize, Grant)> {
+    held.grants().enumerate().find(|(_, grant)| {
+        grant.mask >> with.mode & 1 == 1
+            && grant.constraint_pairs == 0
+            && pattern_matches(held.pattern(grant), with.resource)
+    })
+}
+
+/// The steps on the key and the signature.
+fn check_key(with: &Request) -> Result<(), u64> {
+    let open = key_is_open(
+        with.now,
+        with.valid_from,
+        with.has_valid_until,
+        with.valid_until,
+    );
+    if with.verdict == VERDICT_NO_KEY || !open {
+        Err(VERIFICATION_KEY_INVALID)
+    } else if with.verdict == VERDICT_BAD {
+        Err(INVALID_SIGNATURE)
+    } else {
+        Ok(())
+    }
+}
+
+/// The smaller of not_after and now + session_length, as whole numbers: a sum past 2^64 - 1 is never the smaller.
+fn session_end(not_after: u64, with: &Request) -> u64 {
+    with.now
+        .checked_add(with.session_length)
+        .map_or(not_after, |end| end.min(not_after))
+}

@@ -1,0 +1,89 @@
+//! Submission of a descriptor to an image.
+
+use crate::answer::{
+    BAD_IMAGE, DONE, DUPLICATE_DESCRIPTOR_ID, INVALID_SIGNATURE, MALFORMED_ARGUMENTS, STORAGE_FULL,
+    UNKNOWN_ISSUER, VALIDITY_OUT_OF_RANGE, VERDICT_BAD, VERDICT_NO_KEY, VERIFICATION_KEY_INVALID,
+};
+use crate::descriptor::{read, Descriptor};
+use crate::image::{append, Image, MOST_ROWS, ROW};
+
+/// How far ahead of the clock a period may begin: a day.
+const LONGEST_WAIT: u64 = 86_400;
+
+/// The numbers of a submission.
+#[derive(Clone, Copy, Debug, Default, PartialEq, Eq)]
+pub struct Submission {
+    /// The clock, in seconds.
+    pub now: u64,
+    /// The host's verdict: 0 signature good, 1 bad, 2 no such key.
+    pub verdict: u64,
+    /// The first moment of the key's window.
+    pub valid_from: u64,
+    /// 0 where the key has no last moment.
+    pub has_valid_until: u64,
+    /// The last moment of the key's window.
+    pub valid_until: u64,
+}
+
+/// Submits a descriptor to the image: 0, or the number of the first step that fails.
+pub fn submit(image: &mut [u8], descriptor: &[u8], with: &Submission) -> u64 {
+    match try_submit(image, descriptor, with) {
+        Ok(()) => DONE,
+        Err(answer) => answer,
+    }
+}
+
+/// Submits a descriptor, or says which step fails.
+fn try_submit(bytes: &mut [u8], body: &[u8], with: &Submission) -> Result<(), u64> {
+    if with.verdict > VERDICT_NO_KEY {
+        return Err(MALFORMED_ARGUMENTS);
+    }
+    let image = Image::of(bytes).ok_or(BAD_IMAGE)?;
+    let reading = read(body)?;
+    check_clock_and_key(&reading.numbers, with)?;
+    if let Some(row) = image.find(reading.id()) {
+        let same = row.body == body;
+        return same.then_some(()).ok_or(DUPLICATE_DESCRIPTOR_ID);
+    }
+    let (rows, end) = (image.rows.len(), image.end);
+    if rows == MOST_ROWS || bytes.len() - end < ROW + body.len() {
+        return Err(STORAGE_FULL);
+    }
+    append(bytes, rows, end, reading.id(), reading.numbers.mask, body);
+    Ok(())
+}
+
+/// The steps between reading and the table of contents.
+fn check_clock_and_key(descriptor: &Descriptor, with: &Submission) -> Result<(), u64> {
+    if begins_too_late(descriptor.not_before, with.now) {
+        Err(VALIDITY_OUT_OF_RANGE)
+    } else if with.verdict == VERDICT_NO_KEY {
+        Err(UNKNOWN_ISSUER)
+    } else if !key_is_open(
+        with.now,
+        with.valid_from,
+        with.has_valid_until,
+        with.valid_until,
+    ) {
+        Err(VERIFICATION_KEY_INVALID)
+    } else if with.verdict == VERDICT_BAD {
+        Err(INVALID_SIGNATURE)
+    } else {
+        Ok(())
+    }
+}
+
+/// Whether not_before > now + 86,400, as whole numbers.
+fn begins_too_late(not_before: u64, now: u64) -> bool {
+    u128::from(not_before) > u128::from(now) + u128::from(LONGEST_WAIT)
+}
+
+/// Whether the clock is inside the key's window, both of whose ends belong to it.
+pub(crate) fn key_is_open(
+    now: u64,
+    valid_from: u64,
+    has_valid_until: u64,
+    valid_until: u64,
+) -> bool {
+    valid_from <= now && (has_valid_until == 0 || now <= valid_until)
+}

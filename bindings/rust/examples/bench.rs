@@ -1,0 +1,248 @@
+//! Times the library against the ordinary implementation, both in one run: `cargo run --release --example bench`.
+//!
+//! Each time is that of the best of several rounds; the rounds of the two take turns. The ratio says how many times as long
+//! the library takes. A submission is timed with the copying of the image that it changes.
+
+use std::hint::black_box;
+use std::time::{Duration, Instant};
+
+use encoder::{grant, image, Model, Row, FAY, TERMINAL};
+use reference::{Request, Submission};
+
+#[allow(dead_code)]
+#[path = "../tests/support/encoder.rs"]
+mod encoder;
+
+/// How many rounds there are.
+const ROUNDS: usize = 60;
+/// How long a round lasts at least.
+const ROUND: Duration = Duration::from_millis(2);
+
+fn main() {
+    println!("ratio: the library's time divided by ordinary Rust's\n");
+    line("case", "library", "ordinary Rust", "ratio");
+    for grants in [1, 15, 256] {
+        reading(grants);
+    }
+    for rows in [1, 64] {
+        request(rows);
+    }
+    for levels in [10, 100] {
+        matching(levels);
+    }
+    for grants in [1, 16, 256] {
+        let bytes = rooms(grants).bytes();
+        narrowing(&format!("narrowing, grants {grants}"), &bytes, &bytes);
+    }
+    let (parent, child) = slow_to_narrow();
+    narrowing(
+        "narrowing, grants 256, worst case",
+        &parent.bytes(),
+        &child.bytes(),
+    );
+    for rows in [1, 63] {
+        submission(rows);
+    }
+}
+
+/// Prints a line of the table.
+fn line(case: &str, library: &str, ordinary: &str, ratio: &str) {
+    println!("{case:<36} {library:>14} {ordinary:>14} {ratio:>7}");
+}
+
+/// Reading of a descriptor with so many grants.
+fn reading(grants: usize) {
+    let bytes = rooms(grants).bytes();
+    let (library, ordinary) = race(
+        || cap::numbers::descriptor_read(black_box(&bytes)).answer,
+        || reference::descriptor_read(black_box(&bytes)).answer,
+    );
+    let speed = |seconds: f64| format!("{:.0} MB/s", bytes.len() as f64 / seconds / 1e6);
+    let case = format!("reading, {} bytes", bytes.len());
+    line(
+        &case,
+        &speed(library),
+        &speed(ordinary),
+        &ratio(library, ordinary),
+    );
+}
+
+/// A request for the last of so many rows.
+fn request(rows: u64) {
+    let models: Vec<Model> = (0..rows).map(|number| rooms(1).numbered(number)).collect();
+    let held = image(&models.iter().map(Row::of).collect::<Vec<_>>());
+    let resource = format!("{TERMINAL}/lab/room-000/camera/front");
+    let asked = Request {
+        id: &models[models.len() - 1].id,
+        fay: FAY.as_bytes(),
+        terminal: TERMINAL.as_bytes(),
+        resource: resource.as_bytes(),
+        now: 2500,
+        session_length: 100,
+        ..Request::default()
+    };
+    race_and_print(
+        &format!("request, rows {rows}"),
+        || {
+            let (a, image) = (black_box(&asked), black_box(&held));
+            cap::numbers::request(
+                image,
+                a.id,
+                a.fay,
+                a.terminal,
+                a.resource,
+                a.mode,
+                a.now,
+                a.session_length,
+                a.revoked,
+                a.verdict,
+                a.valid_from,
+                a.has_valid_until,
+                a.valid_until,
+            )
+            .answer
+        },
+        || reference::request(black_box(&held), black_box(&asked)).answer,
+    );
+}
+
+/// A match of so many levels.
+fn matching(levels: usize) {
+    let path = format!("{TERMINAL}/{}", vec!["n"; levels].join("/"));
+    let pattern = format!("{TERMINAL}/{}/*", vec!["n"; levels - 1].join("/"));
+    let (pattern, path) = (pattern.as_bytes(), path.as_bytes());
+    race_and_print(
+        &format!("matching, levels {levels}"),
+        || 1 - cap::numbers::matching(black_box(pattern), black_box(path)).yes,
+        || 1 - reference::matching(black_box(pattern), black_box(path)).yes,
+    );
+}
+
+/// Narrowing of a child that the parent covers.
+fn narrowing(case: &str, parent: &[u8], child: &[u8]) {
+    race_and_print(
+        case,
+        || cap::numbers::narrow(black_box(parent), black_box(child)).answer,
+        || reference::narrow(black_box(parent), black_box(child)).answer,
+    );
+}
+
+/// Submission of one more body to so many rows.
+fn submission(rows: u64) {
+    let held: Vec<Row> = (0..rows)
+        .map(|number| Row::of(&rooms(1).numbered(number)))
+        .collect();
+    let body = rooms(1).numbered(rows).bytes();
+    let before = [image(&held), vec![0; 32 + body.len()]].concat();
+    let mut copy = before.clone();
+    let mut other = before.clone();
+    let with = Submission {
+        now: 2000,
+        ..Submission::default()
+    };
+    race_and_print(
+        &format!("submission, rows {rows}"),
+        || {
+            copy.copy_from_slice(&before);
+            cap::numbers::submit(black_box(&mut copy), black_box(&body), with.now, 0, 0, 0, 0)
+        },
+        || {
+            other.copy_from_slice(&before);
+            reference::submit(black_box(&mut other), black_box(&body), black_box(&with))
+        },
+    );
+}
+
+/// A descriptor with a grant for the cameras of each of so many rooms.
+fn rooms(count: usize) -> Model {
+    Model::with(
+        (0..count)
+            .map(|room| grant(&["read"], &format!("lab/room-{room:03}/camera/*")))
+            .collect(),
+    )
+}
+
+/// A parent and a child of 256 grants, of which each grant of the parent matches each of the child up to the last level, where only the last does.
+fn slow_to_narrow() -> (Model, Model) {
+    let stars = vec!["*"; 14].join("/");
+    let start = |number: usize| {
+        (0..8)
+            .map(|bit| ["n/", "*/"][number >> bit & 1])
+            .collect::<String>()
+    };
+    let mut parent: Vec<String> = (0..255)
+        .map(|number| format!("{}{stars}/{number:03}", start(number)))
+        .collect();
+    parent.push(format!("{}{stars}/*", start(255)));
+    let names = vec!["n"; 22].join("/");
+    let child: Vec<String> = (0..256)
+        .map(|number| format!("{names}/x{number:02x}"))
+        .collect();
+    let model = |patterns: Vec<String>| {
+        Model::with(
+            patterns
+                .iter()
+                .map(|levels| grant(&["read"], levels))
+                .collect(),
+        )
+    };
+    (model(parent), model(child))
+}
+
+/// Times the two and prints the time of a call.
+fn race_and_print(case: &str, library: impl FnMut() -> u64, ordinary: impl FnMut() -> u64) {
+    let (library, ordinary) = race(library, ordinary);
+    line(
+        case,
+        &shown(library),
+        &shown(ordinary),
+        &ratio(library, ordinary),
+    );
+}
+
+/// The seconds that a call of each takes in its best round; each call must answer 0.
+fn race(mut library: impl FnMut() -> u64, mut ordinary: impl FnMut() -> u64) -> (f64, f64) {
+    assert_eq!((library(), ordinary()), (0, 0));
+    let calls = (
+        calls_of_a_round(&mut library),
+        calls_of_a_round(&mut ordinary),
+    );
+    let mut best = (f64::INFINITY, f64::INFINITY);
+    for _ in 0..ROUNDS {
+        best.0 = best.0.min(time(&mut library, calls.0));
+        best.1 = best.1.min(time(&mut ordinary, calls.1));
+    }
+    best
+}
+
+/// How many calls fill a round.
+fn calls_of_a_round(call: &mut impl FnMut() -> u64) -> u32 {
+    let mut calls = 1;
+    while time(call, calls) * f64::from(calls) < ROUND.as_secs_f64() {
+        calls *= 2;
+    }
+    calls
+}
+
+/// The seconds of a call, measured over so many.
+fn time(call: &mut impl FnMut() -> u64, calls: u32) -> f64 {
+    let start = Instant::now();
+    for _ in 0..calls {
+        black_box(call());
+    }
+    start.elapsed().as_secs_f64() / f64::from(calls)
+}
+
+/// A time with its unit.
+fn shown(seconds: f64) -> String {
+    match seconds {
+        s if s < 1e-6 => format!("{:.0} ns", s * 1e9),
+        s if s < 1e-3 => format!("{:.2} µs", s * 1e6),
+        s => format!("{:.2} ms", s * 1e3),
+    }
+}
+
+/// The ratio of two times.
+fn ratio(library: f64, ordinary: f64) -> String {
+    format!("{:.2}", library / ordinary)
+}

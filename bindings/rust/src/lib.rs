@@ -1,0 +1,219 @@
+//! A safe wrapper of `libcap.a`, the proved gate of the Control Authority Protocol.
+//!
+//! The functions here are the calls of `include/cap.h` with slices in and `Result` or `Option` out: numbers that an answer
+//! doesn't have can't be looked at. [`numbers`] has the same calls with the numbers as the library gives them.
+//! What a caller in C has to see to, that no pointer is null and that a mutable slice overlaps no other, holds of every
+//! Rust slice. The library keeps nothing between calls.
+
+mod answer;
+pub mod numbers;
+
+use std::iter::FusedIterator;
+
+pub use answer::Answer;
+
+/// The modes, by their numbers.
+#[derive(Clone, Copy, Debug, PartialEq, Eq)]
+pub enum Mode {
+    /// Number 0, mask 1.
+    Read,
+    /// Number 1, mask 2.
+    Write,
+    /// Number 2, mask 4.
+    Execute,
+    /// Number 3, mask 8.
+    Configure,
+}
+
+/// The host's verdict on a signature.
+#[derive(Clone, Copy, Debug, PartialEq, Eq)]
+pub enum Verdict {
+    /// Number 0: the signature is good.
+    Good,
+    /// Number 1: the signature is bad.
+    Bad,
+    /// Number 2: there is no key under that id for that issuer and algorithm.
+    NoSuchKey,
+}
+
+/// What the host knows of the key and the signature.
+#[derive(Clone, Copy, Debug, PartialEq, Eq)]
+pub struct Key {
+    /// The verdict on the signature over the payload part.
+    pub verdict: Verdict,
+    /// The first moment at which the key is valid, in seconds.
+    pub valid_from: u64,
+    /// The last moment at which the key is valid, if there is one.
+    pub valid_until: Option<u64>,
+}
+
+/// A request for a resource.
+#[derive(Clone, Copy, Debug, PartialEq, Eq)]
+pub struct Request<'a> {
+    /// The id of the stored descriptor.
+    pub id: &'a [u8; 16],
+    /// The fay id of the one who asks.
+    pub fay: &'a [u8],
+    /// The id of this terminal.
+    pub terminal: &'a [u8],
+    /// The resource id.
+    pub resource: &'a [u8],
+    /// The mode that is asked for.
+    pub mode: Mode,
+    /// The clock, in seconds.
+    pub now: u64,
+    /// The longest session that the host allows, in seconds.
+    pub session_length: u64,
+    /// The ids of the revoked descriptors.
+    pub revoked: &'a [[u8; 16]],
+    /// The key and the signature.
+    pub key: Key,
+}
+
+/// Why a child is not accepted under a parent.
+#[derive(Clone, Copy, Debug, PartialEq, Eq)]
+pub enum Refusal {
+    /// A path escapes by the child's grant at a place in a mode, and its "**" takes so many names at the fewest.
+    Escape {
+        /// The place of the first grant by which a path escapes.
+        grant: u64,
+        /// The lowest mode in which one does.
+        mode: Mode,
+        /// The fewest names that the grant's "**" takes in one.
+        levels: u64,
+    },
+    /// An earlier step fails.
+    Other(Answer),
+}
+
+/// Reads the item at the place.
+pub fn item_read(bytes: &[u8], place: u64) -> Result<numbers::Item, Answer> {
+    let item = numbers::item_read(bytes, place);
+    done(item.answer).map(|()| item)
+}
+
+/// Reads the bytes as a descriptor.
+pub fn descriptor_read(bytes: &[u8]) -> Result<numbers::Descriptor, Answer> {
+    let descriptor = numbers::descriptor_read(bytes);
+    done(descriptor.answer).map(|()| descriptor)
+}
+
+/// Reads the grant with the index of a descriptor, or none past the last grant and where the bytes don't read.
+pub fn grant_at(bytes: &[u8], index: u64) -> Option<numbers::Grant> {
+    let grant = numbers::grant_at(bytes, index);
+    (grant.found == 1).then_some(grant)
+}
+
+/// Walks the grants of a descriptor in their order; each step reads the descriptor anew.
+pub fn grants(bytes: &[u8]) -> Grants<'_> {
+    Grants { bytes, next: 0 }
+}
+
+/// Says whether a pattern matches a resource id.
+pub fn matching(pattern: &[u8], resource: &[u8]) -> Result<bool, Answer> {
+    let matching = numbers::matching(pattern, resource);
+    done(matching.answer).map(|()| matching.yes == 1)
+}
+
+/// Makes a new image of no bodies.
+pub fn image_new(image: &mut [u8]) -> Result<(), Answer> {
+    done(numbers::image_new(image))
+}
+
+/// Looks for the body with the id in the image and hands it back as the part of the image where it lies.
+pub fn image_find<'a>(image: &'a [u8], id: &[u8; 16]) -> Result<&'a [u8], Answer> {
+    let stored = numbers::image_find(image, id);
+    done(stored.answer).map(|()| part(image, stored.body_at, stored.body_len))
+}
+
+/// Submits a descriptor to the image, which then holds it.
+pub fn submit(image: &mut [u8], descriptor: &[u8], now: u64, key: &Key) -> Result<(), Answer> {
+    done(numbers::submit(
+        image,
+        descriptor,
+        now,
+        key.verdict as u64,
+        key.valid_from,
+        u64::from(key.valid_until.is_some()),
+        key.valid_until.unwrap_or(0),
+    ))
+}
+
+/// Decides a request for the stored descriptor with the id.
+pub fn request(image: &[u8], with: &Request) -> Result<numbers::Decision, Answer> {
+    let decision = numbers::request(
+        image,
+        with.id,
+        with.fay,
+        with.terminal,
+        with.resource,
+        with.mode as u64,
+        with.now,
+        with.session_length,
+        with.revoked.as_flattened(),
+        with.key.verdict as u64,
+        with.key.valid_from,
+        u64::from(with.key.valid_until.is_some()),
+        with.key.valid_until.unwrap_or(0),
+    );
+    done(decision.answer).map(|()| decision)
+}
+
+/// Narrows the child descriptor under the parent.
+pub fn narrow(parent: &[u8], child: &[u8]) -> Result<(), Refusal> {
+    let narrowing = numbers::narrow(parent, child);
+    done(narrowing.answer).map_err(|answer| match (answer, Mode::of(narrowing.mode)) {
+        (Answer::GrantNotCovered, Some(mode)) => Refusal::Escape {
+            grant: narrowing.grant,
+            mode,
+            levels: narrowing.levels,
+        },
+        _ => Refusal::Other(answer),
+    })
+}
+
+/// The part of the bytes at a place that a call has answered with; empty if it doesn't lie inside them.
+pub fn part(bytes: &[u8], at: u64, length: u64) -> &[u8] {
+    let inside = || {
+        let at = usize::try_from(at).ok()?;
+        bytes.get(at..)?.get(..usize::try_from(length).ok()?)
+    };
+    inside().unwrap_or_default()
+}
+
+/// The grants of a descriptor, one after another.
+#[derive(Clone, Debug)]
+pub struct Grants<'a> {
+    bytes: &'a [u8],
+    next: u64,
+}
+
+impl Iterator for Grants<'_> {
+    type Item = numbers::Grant;
+
+    fn next(&mut self) -> Option<numbers::Grant> {
+        let grant = grant_at(self.bytes, self.next)?;
+        self.next += 1;
+        Some(grant)
+    }
+}
+
+impl FusedIterator for Grants<'_> {}
+
+impl Mode {
+    /// The mode with the number.
+    pub fn of(number: u64) -> Option<Mode> {
+        [Mode::Read, Mode::Write, Mode::Execute, Mode::Configure]
+            .into_iter()
+            .find(|&mode| mode as u64 == number)
+    }
+}
+
+/// Ok for 0, else the answer with the number.
+fn done(number: u64) -> Result<(), Answer> {
+    match Answer::of(number) {
+        Some(Answer::Done) => Ok(()),
+        Some(answer) => Err(answer),
+        None => unreachable!("the library answers with the numbers of the table alone"),
+    }
+}

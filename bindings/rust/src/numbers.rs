@@ -1,0 +1,314 @@
+//! The calls of `include/cap.h` with slices in and the numbers out as the library gives them.
+//!
+//! The safety of each call: a Rust slice passes as its pointer, which is never null, and its length, and the library touches no
+//! byte outside them; `&mut` overlaps no other slice; and the library keeps no pointer when a call has ended.
+
+/// What reading an item answers.
+#[derive(Clone, Copy, Debug, PartialEq, Eq)]
+#[repr(C)]
+pub struct Item {
+    /// 0 or 1.
+    pub answer: u64,
+    /// CBOR's major type: 0 unsigned, 2 byte string, 3 text, 4 array, 5 map.
+    pub kind: u64,
+    /// The value, the length of a string, or the count of an array or a map.
+    pub number: u64,
+    /// Where a string's content starts; 0 where there is no string.
+    pub content_at: u64,
+    /// How many bytes a string's content has.
+    pub content_len: u64,
+    /// The place after the item; of an array or a map, after its head.
+    pub next: u64,
+}
+
+/// What reading a descriptor answers.
+#[derive(Clone, Copy, Debug, PartialEq, Eq)]
+#[repr(C)]
+pub struct Descriptor {
+    /// 0, 1 or 2.
+    pub answer: u64,
+    /// Where the payload starts, which the signature covers.
+    pub payload_at: u64,
+    /// How many bytes the payload has.
+    pub payload_len: u64,
+    /// When the descriptor was issued, in seconds.
+    pub issued_at: u64,
+    /// The first moment of validity, in seconds.
+    pub not_before: u64,
+    /// The moment at which validity has ended, in seconds.
+    pub not_after: u64,
+    /// Where the descriptor id starts, 16 bytes.
+    pub id_at: u64,
+    /// Where the issuer id starts.
+    pub issuer_at: u64,
+    /// How many bytes the issuer id has.
+    pub issuer_len: u64,
+    /// Where the grantor id starts; 0 where it is absent.
+    pub grantor_at: u64,
+    /// How many bytes the grantor id has; 0 where it is absent.
+    pub grantor_len: u64,
+    /// Where the subject's fay id starts, 40 bytes.
+    pub fay_at: u64,
+    /// Where the terminal id starts, 45 bytes.
+    pub terminal_at: u64,
+    /// How many grants there are.
+    pub grants: u64,
+    /// The place of the metadata map's head; 0 where it is absent.
+    pub metadata_at: u64,
+    /// How many pairs the metadata has.
+    pub metadata_pairs: u64,
+    /// How many constraint pairs all grants have.
+    pub constraint_pairs: u64,
+    /// The union of the grants' masks.
+    pub mask: u64,
+    /// Where the key id starts.
+    pub key_id_at: u64,
+    /// How many bytes the key id has.
+    pub key_id_len: u64,
+    /// 0 for ed25519 and 1 for ecdsa-p256-sha256.
+    pub algorithm: u64,
+    /// Where the signature starts.
+    pub signature_at: u64,
+    /// How many bytes the signature has.
+    pub signature_len: u64,
+}
+
+/// What looking for a grant answers.
+#[derive(Clone, Copy, Debug, PartialEq, Eq)]
+#[repr(C)]
+pub struct Grant {
+    /// 1, or 0 and zeros where there is no such grant.
+    pub found: u64,
+    /// Where the pattern starts.
+    pub pattern_at: u64,
+    /// How many bytes the pattern has.
+    pub pattern_len: u64,
+    /// The modes, as 1, 2, 4 and 8.
+    pub mask: u64,
+    /// The place of the head of the array of modes.
+    pub modes_at: u64,
+    /// The place of the constraints map's head; 0 where it is absent.
+    pub constraints_at: u64,
+    /// How many pairs the constraints have.
+    pub constraint_pairs: u64,
+}
+
+/// What matching answers.
+#[derive(Clone, Copy, Debug, PartialEq, Eq)]
+#[repr(C)]
+pub struct Matching {
+    /// 0 or 15.
+    pub answer: u64,
+    /// 1 where the pattern matches the resource id, else 0.
+    pub yes: u64,
+}
+
+/// What looking for a body answers.
+#[derive(Clone, Copy, Debug, PartialEq, Eq)]
+#[repr(C)]
+pub struct Stored {
+    /// 0, 15, 16 or 7, the first of these that applies.
+    pub answer: u64,
+    /// Where the body lies in the image.
+    pub body_at: u64,
+    /// How many bytes the body has.
+    pub body_len: u64,
+}
+
+/// What a request answers.
+#[derive(Clone, Copy, Debug, PartialEq, Eq)]
+#[repr(C)]
+pub struct Decision {
+    /// 0, or the number of the first step that fails.
+    pub answer: u64,
+    /// The place of the first grant that serves.
+    pub grant: u64,
+    /// The modes of that grant.
+    pub mask: u64,
+    /// The smaller of not_after and now + session_length, in seconds.
+    pub session_end: u64,
+}
+
+/// What narrowing answers.
+#[derive(Clone, Copy, Debug, PartialEq, Eq)]
+#[repr(C)]
+pub struct Narrowing {
+    /// 0, 21, 1, 2, 19, 18 or 20, the first of these that applies.
+    pub answer: u64,
+    /// With 20: the child's first grant by which a path escapes.
+    pub grant: u64,
+    /// With 20: the lowest mode in which one does.
+    pub mode: u64,
+    /// With 20: the fewest names that the grant's "**" takes in one.
+    pub levels: u64,
+}
+
+extern "C" {
+    fn cap_item_read(bytes: *const u8, bytes_len: usize, place: u64) -> Item;
+    fn cap_descriptor_read(bytes: *const u8, bytes_len: usize) -> Descriptor;
+    fn cap_grant_at(bytes: *const u8, bytes_len: usize, index: u64) -> Grant;
+    fn cap_match(
+        pattern: *const u8,
+        pattern_len: usize,
+        resource: *const u8,
+        resource_len: usize,
+    ) -> Matching;
+    fn cap_image_new(image: *mut u8, image_len: usize) -> u64;
+    fn cap_image_find(image: *const u8, image_len: usize, id: *const u8, id_len: usize) -> Stored;
+    fn cap_submit(
+        image: *mut u8,
+        image_len: usize,
+        descriptor: *const u8,
+        descriptor_len: usize,
+        now: u64,
+        verdict: u64,
+        valid_from: u64,
+        has_valid_until: u64,
+        valid_until: u64,
+    ) -> u64;
+    fn cap_request(
+        image: *const u8,
+        image_len: usize,
+        id: *const u8,
+        id_len: usize,
+        fay: *const u8,
+        fay_len: usize,
+        terminal: *const u8,
+        terminal_len: usize,
+        resource: *const u8,
+        resource_len: usize,
+        mode: u64,
+        now: u64,
+        session_length: u64,
+        revoked: *const u8,
+        revoked_len: usize,
+        verdict: u64,
+        valid_from: u64,
+        has_valid_until: u64,
+        valid_until: u64,
+    ) -> Decision;
+    fn cap_narrow(
+        parent: *const u8,
+        parent_len: usize,
+        child: *const u8,
+        child_len: usize,
+    ) -> Narrowing;
+}
+
+/// Reads the item at the place.
+pub fn item_read(bytes: &[u8], place: u64) -> Item {
+    // SAFETY: as said at the top.
+    unsafe { cap_item_read(bytes.as_ptr(), bytes.len(), place) }
+}
+
+/// Reads the bytes as a descriptor.
+pub fn descriptor_read(bytes: &[u8]) -> Descriptor {
+    // SAFETY: as said at the top.
+    unsafe { cap_descriptor_read(bytes.as_ptr(), bytes.len()) }
+}
+
+/// Reads the grant with the index of a descriptor.
+pub fn grant_at(bytes: &[u8], index: u64) -> Grant {
+    // SAFETY: as said at the top.
+    unsafe { cap_grant_at(bytes.as_ptr(), bytes.len(), index) }
+}
+
+/// Matches a pattern and a resource id.
+pub fn matching(pattern: &[u8], resource: &[u8]) -> Matching {
+    // SAFETY: as said at the top.
+    unsafe {
+        cap_match(
+            pattern.as_ptr(),
+            pattern.len(),
+            resource.as_ptr(),
+            resource.len(),
+        )
+    }
+}
+
+/// Makes a new image of no bodies: 0 or 17.
+pub fn image_new(image: &mut [u8]) -> u64 {
+    // SAFETY: as said at the top.
+    unsafe { cap_image_new(image.as_mut_ptr(), image.len()) }
+}
+
+/// Looks for the body with the id in the image.
+pub fn image_find(image: &[u8], id: &[u8]) -> Stored {
+    // SAFETY: as said at the top.
+    unsafe { cap_image_find(image.as_ptr(), image.len(), id.as_ptr(), id.len()) }
+}
+
+/// Submits a descriptor to the image: 0, or the number of the first step that fails.
+pub fn submit(
+    image: &mut [u8],
+    descriptor: &[u8],
+    now: u64,
+    verdict: u64,
+    valid_from: u64,
+    has_valid_until: u64,
+    valid_until: u64,
+) -> u64 {
+    // SAFETY: as said at the top.
+    unsafe {
+        cap_submit(
+            image.as_mut_ptr(),
+            image.len(),
+            descriptor.as_ptr(),
+            descriptor.len(),
+            now,
+            verdict,
+            valid_from,
+            has_valid_until,
+            valid_until,
+        )
+    }
+}
+
+/// Decides a request for the stored descriptor with the id; `revoked` is a list of ids of 16 bytes.
+#[allow(clippy::too_many_arguments)]
+pub fn request(
+    image: &[u8],
+    id: &[u8],
+    fay: &[u8],
+    terminal: &[u8],
+    resource: &[u8],
+    mode: u64,
+    now: u64,
+    session_length: u64,
+    revoked: &[u8],
+    verdict: u64,
+    valid_from: u64,
+    has_valid_until: u64,
+    valid_until: u64,
+) -> Decision {
+    // SAFETY: as said at the top.
+    unsafe {
+        cap_request(
+            image.as_ptr(),
+            image.len(),
+            id.as_ptr(),
+            id.len(),
+            fay.as_ptr(),
+            fay.len(),
+            terminal.as_ptr(),
+            terminal.len(),
+            resource.as_ptr(),
+            resource.len(),
+            mode,
+            now,
+            session_length,
+            revoked.as_ptr(),
+            revoked.len(),
+            verdict,
+            valid_from,
+            has_valid_until,
+            valid_until,
+        )
+    }
+}
+
+/// Narrows the child descriptor under the parent.
+pub fn narrow(parent: &[u8], child: &[u8]) -> Narrowing {
+    // SAFETY: as said at the top.
+    unsafe { cap_narrow(parent.as_ptr(), parent.len(), child.as_ptr(), child.len()) }
+}

@@ -1,0 +1,10 @@
+//! The cases that both implementations are run on, a file for each subject.
+
+pub mod changes;
+pub mod descriptors;
+pub mod images;
+pub mod items;
+pub mod narrowing;
+pub mod paths;
+pub mod requests;
+pub mod submissions;

@@ -1,0 +1,333 @@
+//! Requests: each step failing alone and in pairs and threes, each limit, and random patterns and paths.
+
+use reference::Request;
+
+use super::changes::set;
+use super::images::some_rows;
+use super::paths::{any_levels, any_name};
+use crate::compare::Compare;
+use crate::encoder::{
+    grant, image, modes_of, Grant, Model, Row, FAY, MODES, OTHER_TERMINAL, TERMINAL,
+};
+use crate::random::Random;
+
+/// All cases of requests.
+pub fn run(compare: &mut Compare, random: &mut Random, rounds: usize) {
+    let changes = changes();
+    for first in &changes {
+        for second in &changes {
+            let mut asked = Asked::fine();
+            first(&mut asked);
+            second(&mut asked);
+            asked.run(compare);
+        }
+    }
+    for _ in 0..rounds {
+        let mut asked = Asked::fine();
+        for _ in 0..3 {
+            random.pick(&changes)(&mut asked);
+        }
+        asked.run(compare);
+    }
+    texts(compare);
+    clocks(compare);
+    revocation_lists(compare, random);
+    for _ in 0..2 * rounds {
+        random_request(compare, random);
+    }
+}
+
+/// The arguments of a request.
+#[derive(Clone)]
+struct Asked {
+    image: Vec<u8>,
+    id: Vec<u8>,
+    fay: Vec<u8>,
+    terminal: Vec<u8>,
+    resource: Vec<u8>,
+    revoked: Vec<u8>,
+    mode: u64,
+    now: u64,
+    session_length: u64,
+    verdict: u64,
+    valid_from: u64,
+    has_valid_until: u64,
+    valid_until: u64,
+}
+
+impl Asked {
+    /// A request that is granted.
+    fn fine() -> Asked {
+        let constrained = Grant {
+            constraints: Some(vec![("k".into(), "v".into())]),
+            ..grant(&["read", "configure"], "a/*")
+        };
+        let empty = Grant {
+            constraints: Some(Vec::new()),
+            ..grant(&["read", "execute"], "a/b")
+        };
+        let model = Model::with(vec![
+            grant(&["write"], "a/*"),
+            constrained,
+            empty,
+            grant(&["read"], "**"),
+        ])
+        .numbered(30);
+        let mut rows = some_rows();
+        rows.insert(1, Row::of(&model));
+        Asked::of(&model, image(&rows))
+    }
+
+    /// A request for a descriptor.
+    fn of(model: &Model, image: Vec<u8>) -> Asked {
+        Asked {
+            image,
+            id: model.id.clone(),
+            fay: model.fay.clone().into(),
+            terminal: model.terminal.clone().into(),
+            resource: format!("{}/a/b", model.terminal).into(),
+            revoked: vec![0xee; 32],
+            mode: 0,
+            now: model.not_before,
+            session_length: 100,
+            verdict: 0,
+            valid_from: 0,
+            has_valid_until: 0,
+            valid_until: 0,
+        }
+    }
+
+    fn run(&self, compare: &mut Compare) {
+        let Asked {
+            mode,
+            now,
+            session_length,
+            verdict,
+            valid_from,
+            has_valid_until,
+            valid_until,
+            ..
+        } = *self;
+        let request = Request {
+            id: &self.id,
+            fay: &self.fay,
+            terminal: &self.terminal,
+            resource: &self.resource,
+            revoked: &self.revoked,
+            mode,
+            now,
+            session_length,
+            verdict,
+            valid_from,
+            has_valid_until,
+            valid_until,
+        };
+        compare.request(&self.image, &request);
+    }
+}
+
+/// A change of a request.
+type Change = fn(&mut Asked);
+
+/// Changes by which each step fails or just passes.
+fn changes() -> Vec<Change> {
+    let mut all: Vec<Change> = vec![|_| {}];
+    all.extend(malformed());
+    all.extend(later_steps());
+    all
+}
+
+/// Changes that malform an argument or the image.
+fn malformed() -> Vec<Change> {
+    vec![
+        |a| a.verdict = 3,
+        |a| a.verdict = u64::MAX,
+        |a| a.mode = 4,
+        |a| a.mode = 64,
+        |a| a.mode = u64::MAX,
+        |a| a.id.truncate(15),
+        |a| a.id.push(0),
+        |a| a.id.clear(),
+        |a| set(&mut a.fay, 4, b'g'),
+        |a| a.fay.truncate(39),
+        |a| a.fay.push(b'0'),
+        |a| a.fay = TERMINAL.into(),
+        |a| set(&mut a.terminal, 20, b'_'),
+        |a| a.terminal = FAY.into(),
+        |a| a.terminal.extend(b"/a"),
+        |a| a.resource.extend(b"/"),
+        |a| a.resource.extend(b"/*"),
+        |a| a.resource.truncate(45),
+        |a| a.resource.resize(256, b'x'),
+        |a| a.resource.resize(257, b'x'),
+        |a| a.revoked.push(0),
+        |a| a.revoked.truncate(31),
+        |a| set(&mut a.image, 3, 2),
+        |a| a.image.truncate(8 + 32 * 4),
+        |a| a.image.clear(),
+    ]
+}
+
+/// Changes by which a step after those on the arguments and the image fails or just passes.
+fn later_steps() -> Vec<Change> {
+    vec![
+        |a| a.id = vec![0x99; 16],
+        |a| a.id = some_rows()[2].id.clone(),
+        |a| a.revoked = a.id.clone(),
+        |a| a.revoked.extend(a.id.clone()),
+        |a| a.revoked = [&[1; 8], &a.id[..], &[1; 8]].concat(),
+        |a| a.revoked.clear(),
+        |a| a.now = 0,
+        |a| a.now = 1999,
+        |a| a.now = 2000,
+        |a| a.now = 2999,
+        |a| a.now = 3000,
+        |a| a.now = u64::MAX,
+        |a| a.fay = FAY.replace("7e21", "7e22").into(),
+        |a| a.fay = FAY.replace("ab", "AB").into(),
+        |a| a.terminal = OTHER_TERMINAL.into(),
+        |a| a.resource = format!("{OTHER_TERMINAL}/a/b").into(),
+        |a| a.resource = format!("{TERMINAL}/a/b/c").into(),
+        |a| a.resource = format!("{TERMINAL}/ab").into(),
+        |a| a.mode = 1,
+        |a| a.mode = 2,
+        |a| a.mode = 3,
+        |a| a.verdict = 1,
+        |a| a.verdict = 2,
+        |a| a.valid_from = a.now,
+        |a| a.valid_from = a.now.saturating_add(1),
+        |a| (a.has_valid_until, a.valid_until) = (1, a.now),
+        |a| (a.has_valid_until, a.valid_until) = (1, a.now.saturating_sub(1)),
+        |a| (a.has_valid_until, a.valid_until) = (u64::MAX, 0),
+        |a| (a.has_valid_until, a.valid_until) = (0, 1),
+        |a| a.session_length = 0,
+        |a| a.session_length = 1001,
+        |a| a.session_length = u64::MAX,
+    ]
+}
+
+/// Each text with each byte changed, and of each length.
+fn texts(compare: &mut Compare) {
+    let fields: [fn(&mut Asked) -> &mut Vec<u8>; 5] = [
+        |a| &mut a.id,
+        |a| &mut a.fay,
+        |a| &mut a.terminal,
+        |a| &mut a.resource,
+        |a| &mut a.revoked,
+    ];
+    for field in fields {
+        let length = field(&mut Asked::fine()).len();
+        for at in 0..length {
+            for byte in [b'0', b'a', b'F', b'g', b'/', b'-', b'*', b':', 0, 0xff] {
+                let mut asked = Asked::fine();
+                field(&mut asked)[at] = byte;
+                asked.run(compare);
+            }
+        }
+        for new in 0..length + 20 {
+            let mut asked = Asked::fine();
+            field(&mut asked).resize(new, b'0');
+            asked.run(compare);
+        }
+    }
+}
+
+/// Periods, clocks, session lengths and key windows at their ends.
+fn clocks(compare: &mut Compare) {
+    let periods = [
+        (0, 1),
+        (0, 7_776_000),
+        (2000, 3000),
+        (u64::MAX - 10, u64::MAX),
+        (u64::MAX - 1, u64::MAX),
+        (1 << 63, (1 << 63) + 5),
+    ];
+    for (not_before, not_after) in periods {
+        let model = Model {
+            issued_at: 0,
+            not_before,
+            not_after,
+            ..Model::plain()
+        };
+        let bytes = image(&[Row::of(&model)]);
+        let near = [not_before, not_after];
+        let moments = near
+            .iter()
+            .flat_map(|&at| [at.wrapping_sub(1), at, at.wrapping_add(1)])
+            .chain([0, u64::MAX]);
+        for now in moments {
+            let left = not_after.wrapping_sub(now);
+            for session_length in [
+                0,
+                1,
+                left.wrapping_sub(1),
+                left,
+                left.wrapping_add(1),
+                u64::MAX - now,
+                (u64::MAX - now).wrapping_add(1),
+                u64::MAX,
+            ] {
+                for (valid_from, has_valid_until, valid_until) in [
+                    (0, 0, 0),
+                    (now, 1, now),
+                    (now.wrapping_add(1), 0, 0),
+                    (0, 2, now.wrapping_sub(1)),
+                ] {
+                    let asked = Asked {
+                        now,
+                        session_length,
+                        valid_from,
+                        has_valid_until,
+                        valid_until,
+                        ..Asked::of(&model, bytes.clone())
+                    };
+                    asked.run(compare);
+                }
+            }
+        }
+    }
+}
+
+/// Lists with the id at each place, at no place, and across two places.
+fn revocation_lists(compare: &mut Compare, random: &mut Random) {
+    for length in [0, 1, 2, 3, 10, 100] {
+        let others = random.bytes(16 * length);
+        for at in 0..=others.len().min(64) {
+            let mut asked = Asked::fine();
+            asked.revoked = [&others[..at], &asked.id, &others[at..]].concat();
+            asked.run(compare);
+            asked.revoked.truncate(16 * length);
+            asked.run(compare);
+        }
+    }
+}
+
+/// A descriptor of random grants, and a request that one of them often serves.
+fn random_request(compare: &mut Compare, random: &mut Random) {
+    let grants = (0..random.between(1, 8)).map(|_| Grant {
+        constraints: random
+            .once_in(4)
+            .then(|| vec![("k".to_string(), "v".to_string()); random.below(2)]),
+        ..grant(&modes_of(random.between(1, 15)), &any_levels(random, 4))
+    });
+    let model = Model::with(grants.collect());
+    let mut asked = Asked::of(&model, image(&[Row::of(&model)]));
+    asked.mode = random.below(MODES.len()) as u64;
+    asked.now = 1990 + random.below(1020) as u64;
+    asked.session_length = random.edge();
+    asked.verdict = if random.once_in(10) { 1 } else { 0 };
+    let levels = random.pick(&model.grants).pattern[46..].to_string();
+    let names = levels.split('/').map(|level| {
+        if level.starts_with('*') {
+            any_name(random)
+        } else {
+            level.to_string()
+        }
+    });
+    let mut resource = format!("{TERMINAL}/{}", names.collect::<Vec<_>>().join("/"));
+    if random.once_in(4) {
+        resource += &format!("/{}", any_name(random));
+    }
+    asked.resource = resource.into();
+    asked.run(compare);
+}

@@ -1,0 +1,119 @@
+//! Compares the proved library with the ordinary implementation on many inputs: answers, all numbers, and whole buffers.
+//!
+//! A run can be repeated: CAP_SEED is the seed of all random inputs and CAP_ROUNDS how many of them there are.
+//! `cargo test --release -- --nocapture` shows how often each answer was given.
+
+mod cases;
+#[path = "support/compare.rs"]
+mod compare;
+#[path = "support/encoder.rs"]
+mod encoder;
+#[path = "support/gate.rs"]
+mod gate;
+#[path = "support/random.rs"]
+mod random;
+
+use compare::Compare;
+use gate::{Library, Ordinary, Slip, Wrong, SLIPS};
+use random::Random;
+
+/// The cases of a subject.
+type Cases = fn(&mut Compare, &mut Random, usize);
+
+/// A number from the environment, or else the usual one.
+fn setting(name: &str, usual: u64) -> u64 {
+    match std::env::var(name) {
+        Ok(text) => text
+            .parse()
+            .unwrap_or_else(|_| panic!("{name} is no number")),
+        Err(_) => usual,
+    }
+}
+
+/// Runs a subject over the library and the ordinary implementation, and asks that the answers were given that must occur.
+fn agree(subject: &str, cases: Cases, call: &'static str, answers: &[u64]) {
+    let (seed, rounds) = (setting("CAP_SEED", 1), setting("CAP_ROUNDS", 2000));
+    println!("{subject}: CAP_SEED={seed} CAP_ROUNDS={rounds}");
+    let mut compare = Compare::new(&Library, &Ordinary);
+    cases(&mut compare, &mut Random::new(seed), rounds as usize);
+    println!("{subject}: {}", compare.summary());
+    assert_eq!(compare.differences(), 0, "{}", compare.notes());
+    for &answer in answers {
+        assert!(
+            compare.count(call, answer) > 0,
+            "{call} never answered {answer}"
+        );
+    }
+}
+
+#[test]
+fn items() {
+    agree("items", cases::items::run, "item_read", &[0, 1]);
+}
+
+#[test]
+fn descriptors() {
+    agree(
+        "descriptors",
+        cases::descriptors::run,
+        "descriptor_read",
+        &[0, 1, 2],
+    );
+}
+
+#[test]
+fn paths() {
+    agree("paths", cases::paths::run, "matching", &[0, 15]);
+}
+
+#[test]
+fn images() {
+    agree("images", cases::images::run, "image_find", &[0, 7, 15, 16]);
+}
+
+#[test]
+fn submissions() {
+    let answers = [0, 1, 2, 3, 4, 5, 6, 14, 15, 16];
+    agree("submissions", cases::submissions::run, "submit", &answers);
+}
+
+#[test]
+fn requests() {
+    let answers = [0, 4, 7, 8, 9, 10, 11, 12, 13, 14, 15, 16];
+    agree("requests", cases::requests::run, "request", &answers);
+}
+
+#[test]
+fn narrowing() {
+    agree(
+        "narrowing",
+        cases::narrowing::run,
+        "narrow",
+        &[0, 1, 2, 18, 19, 20, 21],
+    );
+}
+
+/// The cases that must show a slip.
+fn cases_for(slip: Slip) -> Cases {
+    match slip {
+        Slip::EmptyStringAtZero | Slip::LongerHeadRead => cases::items::run,
+        Slip::PeriodOneShort | Slip::LastGrantRepeated => cases::descriptors::run,
+        Slip::MatchingByPrefix => cases::paths::run,
+        Slip::NewImageCleared | Slip::EditionNotRead => cases::images::run,
+        Slip::DuplicateAccepted | Slip::TailCleared | Slip::AheadWraps => cases::submissions::run,
+        Slip::KeyNeverEnds | Slip::SessionNotCut | Slip::SessionWraps => cases::requests::run,
+        Slip::RevokedIgnored | Slip::ExpiryLate => cases::requests::run,
+        Slip::HighestMode | Slip::LevelsAlwaysOne => cases::narrowing::run,
+    }
+}
+
+#[test]
+fn slips_are_noticed() {
+    for slip in SLIPS {
+        let wrong = Wrong(slip);
+        let mut compare = Compare::new(&Library, &wrong);
+        cases_for(slip)(&mut compare, &mut Random::new(setting("CAP_SEED", 1)), 50);
+        println!("{slip:?}: {} differences", compare.differences());
+        assert!(compare.differences() > 0, "{slip:?} was not noticed");
+    }
+}

@@ -1,0 +1,185 @@
+//! The shapes of the wrapper say what the numbers of the library say.
+
+#[allow(dead_code)]
+#[path = "support/encoder.rs"]
+mod encoder;
+
+use cap::{numbers, Answer, Key, Mode, Refusal, Request, Verdict};
+use encoder::{grant, Model, FAY, MODES, TERMINAL};
+
+const GOOD: Key = Key {
+    verdict: Verdict::Good,
+    valid_from: 0,
+    valid_until: None,
+};
+
+#[test]
+fn answers_have_the_numbers_of_the_table() {
+    for number in 0..22 {
+        assert_eq!(Answer::of(number).map(Answer::number), Some(number));
+    }
+    assert_eq!(Answer::of(22), None);
+    assert_eq!(Answer::of(u64::MAX), None);
+    assert_eq!(Answer::ParentUnread.number(), 21);
+    assert_eq!(
+        Answer::InvalidStructure.to_string(),
+        "E_INVALID_STRUCTURE (1)"
+    );
+}
+
+#[test]
+fn items_and_descriptors() {
+    assert_eq!(
+        cap::item_read(&[0x18, 0x18], 0).map(|item| item.number),
+        Ok(24)
+    );
+    assert_eq!(
+        cap::item_read(&[0x18, 0x17], 0),
+        Err(Answer::InvalidStructure)
+    );
+    assert_eq!(cap::item_read(&[], 0), Err(Answer::InvalidStructure));
+    let bytes = Model::full().bytes();
+    let descriptor = cap::descriptor_read(&bytes).expect("it reads");
+    assert_eq!(descriptor, numbers::descriptor_read(&bytes));
+    assert_eq!(
+        cap::part(&bytes, descriptor.key_id_at, descriptor.key_id_len),
+        b"k1"
+    );
+    assert_eq!(cap::part(&bytes, u64::MAX, 1), b"");
+    assert_eq!(cap::part(&bytes, 1, u64::MAX), b"");
+    let long = Model {
+        not_after: u64::MAX,
+        ..Model::full()
+    };
+    assert_eq!(
+        cap::descriptor_read(&long.bytes()),
+        Err(Answer::ValidityOutOfRange)
+    );
+}
+
+#[test]
+fn grants_are_walked_and_end() {
+    let model = Model::full();
+    let bytes = model.bytes();
+    let mut grants = cap::grants(&bytes);
+    for expected in &model.grants {
+        let grant = grants.next().expect("a grant");
+        assert_eq!(
+            cap::part(&bytes, grant.pattern_at, grant.pattern_len),
+            expected.pattern.as_bytes()
+        );
+    }
+    assert_eq!([grants.next(), grants.next()], [None, None]);
+    assert_eq!(cap::grants(&bytes[1..]).count(), 0);
+    assert_eq!(cap::grant_at(&bytes, 3), None);
+}
+
+#[test]
+fn matching_answers_yes_no_or_malformed() {
+    let under = |levels: &str| format!("{TERMINAL}/{levels}").into_bytes();
+    assert_eq!(cap::matching(&under("d/*"), &under("d/a")), Ok(true));
+    assert_eq!(cap::matching(&under("d/*"), &under("d/a/b")), Ok(false));
+    assert_eq!(
+        cap::matching(&under("d*"), &under("d")),
+        Err(Answer::MalformedArguments)
+    );
+    assert_eq!(cap::matching(&[], &[]), Err(Answer::MalformedArguments));
+}
+
+#[test]
+fn a_body_is_stored_found_and_asked_for() {
+    let model = Model::plain();
+    let (body, id) = (
+        model.bytes(),
+        model.id.clone().try_into().expect("16 bytes"),
+    );
+    let mut image = vec![0; 1000];
+    assert_eq!(
+        cap::submit(&mut image, &body, 2000, &GOOD),
+        Err(Answer::BadImage)
+    );
+    assert_eq!(cap::image_new(&mut image[..7]), Err(Answer::OutputTooShort));
+    assert_eq!(cap::image_new(&mut image), Ok(()));
+    assert_eq!(
+        cap::image_find(&image, &id),
+        Err(Answer::DescriptorNotFound)
+    );
+    let late = Key {
+        valid_until: Some(1999),
+        ..GOOD
+    };
+    assert_eq!(
+        cap::submit(&mut image, &body, 2000, &late),
+        Err(Answer::VerificationKeyInvalid)
+    );
+    let unknown = Key {
+        verdict: Verdict::NoSuchKey,
+        ..GOOD
+    };
+    assert_eq!(
+        cap::submit(&mut image, &body, 2000, &unknown),
+        Err(Answer::UnknownIssuer)
+    );
+    assert_eq!(cap::submit(&mut image, &body, 2000, &GOOD), Ok(()));
+    assert_eq!(cap::image_find(&image, &id), Ok(&body[..]));
+    let resource = format!("{TERMINAL}/a/b");
+    let asked = Request {
+        id: &id,
+        fay: FAY.as_bytes(),
+        terminal: TERMINAL.as_bytes(),
+        resource: resource.as_bytes(),
+        mode: Mode::Read,
+        now: 2500,
+        session_length: 1000,
+        revoked: &[],
+        key: GOOD,
+    };
+    let granted = numbers::Decision {
+        answer: 0,
+        grant: 0,
+        mask: 1,
+        session_end: 3000,
+    };
+    assert_eq!(cap::request(&image, &asked), Ok(granted));
+    let write = Request {
+        mode: Mode::Write,
+        ..asked
+    };
+    assert_eq!(
+        cap::request(&image, &write),
+        Err(Answer::AuthorizationInsufficient)
+    );
+    let revoked = Request {
+        revoked: &[[9; 16], id],
+        ..asked
+    };
+    assert_eq!(
+        cap::request(&image, &revoked),
+        Err(Answer::DescriptorRevoked)
+    );
+    let forged = Request {
+        key: Key {
+            verdict: Verdict::Bad,
+            ..GOOD
+        },
+        ..asked
+    };
+    assert_eq!(cap::request(&image, &forged), Err(Answer::InvalidSignature));
+}
+
+#[test]
+fn narrowing_accepts_or_says_why_not() {
+    let parent = Model::with(vec![grant(&["read"], "a/*")]).bytes();
+    let child = Model::with(vec![grant(&MODES[..1], "a/b"), grant(&MODES[..1], "a/**")]).bytes();
+    let escape = Refusal::Escape {
+        grant: 1,
+        mode: Mode::Read,
+        levels: 2,
+    };
+    assert_eq!(cap::narrow(&parent, &child), Err(escape));
+    assert_eq!(cap::narrow(&parent, &parent), Ok(()));
+    assert_eq!(
+        cap::narrow(&[], &child),
+        Err(Refusal::Other(Answer::ParentUnread))
+    );
+}

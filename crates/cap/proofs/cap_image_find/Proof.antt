@@ -4,13 +4,12 @@ use Rattle.image.specs.declared.Finding.{Finding}
 use Rattle.image.specs.Check.{numbersOf}
 use Rattle.cap.specs.declared.StoredNumbers.{StoredNumbers}
 use Rattle.cap.specs.Numbers.{storedNumbers}
-use Rattle.cap.proofs.HandLaws.{handed}
 use borrow.Author.Needs.{needs}
 use Rattle.cap.proofs.cap_image_find.Statement.{statement}
 use Rattle.cap.proofs.cap_image_find.Tie as tie
 use Rattle.cap.proofs.cap_image_find.Reads as reads
 use Rattle.cap.proofs.cap_image_find.Lts as lts
-use Rattle.cap.proofs.stored.Reads as stored-reads
+use Rattle.cap.proofs.numbers.of_finding.Reads as of-finding-reads
 use Rattle.image.proofs.find.Reads as find-reads
 
 -- The numbers of a lookup.
@@ -20,56 +19,11 @@ shown v = storedNumbers (numbersOf v)
 find-requires : tie.Need-find-requires
 find-requires c κs = search needs
 
-enum-known-at : tie.Need-enum-known-at
-enum-known-at c = search needs
-
-stored-requires : tie.Need-stored-requires
-stored-requires c κs = search needs
-
-enum-told : tie.Need-enum-told
-enum-told c = search needs
-
-stored-requires-2 : tie.Need-stored-requires-2
-stored-requires-2 c κs = search needs
-
-enum-told-2 : tie.Need-enum-told-2
-enum-told-2 c = search needs
-
-stored-requires-3 : tie.Need-stored-requires-3
-stored-requires-3 c κs = search needs
-
-enum-told-3 : tie.Need-enum-told-3
-enum-told-3 c = search needs
-
-stored-requires-4 : tie.Need-stored-requires-4
-stored-requires-4 c κs = search needs
+of-finding-requires : tie.Need-of-finding-requires
+of-finding-requires c κs = search needs
 
 returns : tie.Need-returns
-returns c = c .stored .ensures ∙ handed shown (c .before .before .before .before .find .ensures) (c .before .before .at .given .1)
-
-returns-2 : tie.Need-returns-2
-returns-2 c = c .stored2 .ensures ∙ handed shown (c .before .before .before .find .ensures) (c .before .enum-told .given .1)
-
-returns-3 : tie.Need-returns-3
-returns-3 c = c .stored3 .ensures ∙ handed shown (c .before .before .before .find .ensures) (c .before .enum-told2 .given .1)
-
-returns-4 : tie.Need-returns-4
-returns-4 c = c .stored4 .ensures ∙ handed shown (c .before .before .before .find .ensures) (c .before .enum-told3 .given .1)
+returns c = c .of-finding .ensures ∙ ap shown (c .before .find .ensures)
 
 pub cap-image-find-spec : {M : Type 1} → statement M
-cap-image-find-spec =
-    tie.close
-    (tie.spec
-    find-requires
-    enum-known-at
-    stored-requires
-    enum-told
-    stored-requires-2
-    enum-told-2
-    stored-requires-3
-    enum-told-3
-    stored-requires-4
-    returns
-    returns-2
-    returns-3
-    returns-4)
+cap-image-find-spec = tie.close (tie.spec find-requires of-finding-requires returns)

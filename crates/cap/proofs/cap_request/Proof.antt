@@ -1,14 +1,28 @@
 -- `cap_request` meets its contract. Assumes nothing.
-use mathlib.Core.Path.{_∙_}
-use Rattle.cap.proofs.HandLaws.{request-handed}
+use mathlib.Core.Path.{_≡_, ap, _∙_}
+use mathlib.Core.List.{List}
+use Prim.Native.Nat.{ℕ}
+use Rattle.steps.specs.declared.Window.{Window}
+use Rattle.request.specs.declared.Decision.{Decision}
+use Rattle.request.specs.Asked.{asked}
+use Rattle.request.specs.Decision.{decisionOf, numbersOf}
+use Rattle.cap.specs.Numbers.{decisionNumbers}
 use borrow.Author.Needs.{needs}
 use Rattle.cap.proofs.cap_request.Statement.{statement}
 use Rattle.cap.proofs.cap_request.Tie as tie
 use Rattle.cap.proofs.cap_request.Reads as reads
 use Rattle.cap.proofs.cap_request.Lts as lts
-use Rattle.cap.proofs.refused.Reads as refused-reads
-use Rattle.cap.proofs.window.Reads as window-reads
+use Rattle.cap.proofs.numbers.of_decision.Reads as of-decision-reads
+use Rattle.cap.proofs.numbers.window.Reads as window-reads
 use Rattle.request.proofs.request.Reads as request-reads
+
+-- The numbers of a request with the key's window w′.
+shown-asked : (s id fay terminal resource : List ℕ) (mode clock session : ℕ) (revoked : List ℕ) (verdict : ℕ) (w w′ : Window) (r : Decision) → w ≡ w′
+    → r ≡ decisionOf s (asked id fay terminal resource mode clock session revoked verdict w)
+    → decisionNumbers (numbersOf r) ≡ decisionNumbers (numbersOf (decisionOf s (asked id fay terminal resource mode clock session revoked verdict w′)))
+shown-asked s id fay terminal resource mode clock session revoked verdict w w′ r e k =
+    ap (λ (x : Decision). decisionNumbers (numbersOf x)) k
+    ∙ ap (λ (x : Window). decisionNumbers (numbersOf (decisionOf s (asked id fay terminal resource mode clock session revoked verdict x)))) e
 
 window-requires : tie.Need-window-requires
 window-requires c κs = search needs
@@ -16,149 +30,12 @@ window-requires c κs = search needs
 request-requires : tie.Need-request-requires
 request-requires c κs = search needs
 
-enum-known-grant : tie.Need-enum-known-grant
-enum-known-grant c = search needs
-
-enum-told : tie.Need-enum-told
-enum-told c = search needs
-
-refused-requires : tie.Need-refused-requires
-refused-requires c κs = search needs
-
-enum-told-2 : tie.Need-enum-told-2
-enum-told-2 c = search needs
-
-refused-requires-2 : tie.Need-refused-requires-2
-refused-requires-2 c κs = search needs
-
-enum-told-3 : tie.Need-enum-told-3
-enum-told-3 c = search needs
-
-refused-requires-3 : tie.Need-refused-requires-3
-refused-requires-3 c κs = search needs
-
-enum-told-4 : tie.Need-enum-told-4
-enum-told-4 c = search needs
-
-refused-requires-4 : tie.Need-refused-requires-4
-refused-requires-4 c κs = search needs
-
-enum-told-5 : tie.Need-enum-told-5
-enum-told-5 c = search needs
-
-refused-requires-5 : tie.Need-refused-requires-5
-refused-requires-5 c κs = search needs
-
-enum-told-6 : tie.Need-enum-told-6
-enum-told-6 c = search needs
-
-refused-requires-6 : tie.Need-refused-requires-6
-refused-requires-6 c κs = search needs
-
-enum-told-7 : tie.Need-enum-told-7
-enum-told-7 c = search needs
-
-refused-requires-7 : tie.Need-refused-requires-7
-refused-requires-7 c κs = search needs
-
-enum-told-8 : tie.Need-enum-told-8
-enum-told-8 c = search needs
-
-refused-requires-8 : tie.Need-refused-requires-8
-refused-requires-8 c κs = search needs
-
-enum-told-9 : tie.Need-enum-told-9
-enum-told-9 c = search needs
-
-refused-requires-9 : tie.Need-refused-requires-9
-refused-requires-9 c κs = search needs
-
-enum-told-10 : tie.Need-enum-told-10
-enum-told-10 c = search needs
-
-refused-requires-10 : tie.Need-refused-requires-10
-refused-requires-10 c κs = search needs
-
-enum-told-11 : tie.Need-enum-told-11
-enum-told-11 c = search needs
-
-refused-requires-11 : tie.Need-refused-requires-11
-refused-requires-11 c κs = search needs
+of-decision-requires : tie.Need-of-decision-requires
+of-decision-requires c κs = search needs
 
 returns : tie.Need-returns
-returns c = let w = c .before .before .before in request-handed _ _ _ _ _ _ _ _ _ _ _ _ _ _ (w .before .window .ensures) (w .request .ensures) (c .before .grant .given .1)
-
-returns-2 : tie.Need-returns-2
-returns-2 c = let w = c .before .before .before in c .refused .ensures ∙ request-handed _ _ _ _ _ _ _ _ _ _ _ _ _ _ (w .before .window .ensures) (w .request .ensures) (c .before .enum-told .given .1)
-
-returns-3 : tie.Need-returns-3
-returns-3 c = let w = c .before .before .before in c .refused2 .ensures ∙ request-handed _ _ _ _ _ _ _ _ _ _ _ _ _ _ (w .before .window .ensures) (w .request .ensures) (c .before .enum-told2 .given .1)
-
-returns-4 : tie.Need-returns-4
-returns-4 c = let w = c .before .before .before in c .refused3 .ensures ∙ request-handed _ _ _ _ _ _ _ _ _ _ _ _ _ _ (w .before .window .ensures) (w .request .ensures) (c .before .enum-told3 .given .1)
-
-returns-5 : tie.Need-returns-5
-returns-5 c = let w = c .before .before .before in c .refused4 .ensures ∙ request-handed _ _ _ _ _ _ _ _ _ _ _ _ _ _ (w .before .window .ensures) (w .request .ensures) (c .before .enum-told4 .given .1)
-
-returns-6 : tie.Need-returns-6
-returns-6 c = let w = c .before .before .before in c .refused5 .ensures ∙ request-handed _ _ _ _ _ _ _ _ _ _ _ _ _ _ (w .before .window .ensures) (w .request .ensures) (c .before .enum-told5 .given .1)
-
-returns-7 : tie.Need-returns-7
-returns-7 c = let w = c .before .before .before in c .refused6 .ensures ∙ request-handed _ _ _ _ _ _ _ _ _ _ _ _ _ _ (w .before .window .ensures) (w .request .ensures) (c .before .enum-told6 .given .1)
-
-returns-8 : tie.Need-returns-8
-returns-8 c = let w = c .before .before .before in c .refused7 .ensures ∙ request-handed _ _ _ _ _ _ _ _ _ _ _ _ _ _ (w .before .window .ensures) (w .request .ensures) (c .before .enum-told7 .given .1)
-
-returns-9 : tie.Need-returns-9
-returns-9 c = let w = c .before .before .before in c .refused8 .ensures ∙ request-handed _ _ _ _ _ _ _ _ _ _ _ _ _ _ (w .before .window .ensures) (w .request .ensures) (c .before .enum-told8 .given .1)
-
-returns-10 : tie.Need-returns-10
-returns-10 c = let w = c .before .before .before in c .refused9 .ensures ∙ request-handed _ _ _ _ _ _ _ _ _ _ _ _ _ _ (w .before .window .ensures) (w .request .ensures) (c .before .enum-told9 .given .1)
-
-returns-11 : tie.Need-returns-11
-returns-11 c = let w = c .before .before .before in c .refused10 .ensures ∙ request-handed _ _ _ _ _ _ _ _ _ _ _ _ _ _ (w .before .window .ensures) (w .request .ensures) (c .before .enum-told10 .given .1)
-
-returns-12 : tie.Need-returns-12
-returns-12 c = let w = c .before .before .before in c .refused11 .ensures ∙ request-handed _ _ _ _ _ _ _ _ _ _ _ _ _ _ (w .before .window .ensures) (w .request .ensures) (c .before .enum-told11 .given .1)
+returns c = c .of-decision .ensures ∙ shown-asked _ _ _ _ _ _ _ _ _ _ _ _ _ (c .before .before .window .ensures) (c .before .request .ensures)
 
 pub cap-request-spec : {M : Type 1} → statement M
 cap-request-spec =
-    tie.close
-    (tie.spec
-    window-requires
-    request-requires
-    enum-known-grant
-    enum-told
-    refused-requires
-    enum-told-2
-    refused-requires-2
-    enum-told-3
-    refused-requires-3
-    enum-told-4
-    refused-requires-4
-    enum-told-5
-    refused-requires-5
-    enum-told-6
-    refused-requires-6
-    enum-told-7
-    refused-requires-7
-    enum-told-8
-    refused-requires-8
-    enum-told-9
-    refused-requires-9
-    enum-told-10
-    refused-requires-10
-    enum-told-11
-    refused-requires-11
-    returns
-    returns-2
-    returns-3
-    returns-4
-    returns-5
-    returns-6
-    returns-7
-    returns-8
-    returns-9
-    returns-10
-    returns-11
-    returns-12)
+    tie.close (tie.spec window-requires request-requires of-decision-requires returns)

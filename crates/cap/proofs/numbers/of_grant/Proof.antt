@@ -1,0 +1,30 @@
+-- `of_grant` meets its contract. Assumes nothing.
+use mathlib.Core.Path.{_≡_, sym, ap, _∙_}
+use Rattle.descriptor.specs.declared.GrantRead.{GrantRead}
+use Rattle.descriptor.specs.Answer.{grantRead}
+use Rattle.cap.specs.declared.GrantNumbers.{GrantNumbers}
+use Rattle.cap.specs.Numbers.{grantNumbers}
+use borrow.Author.Needs.{needs}
+use Rattle.cap.proofs.numbers.of_grant.Statement.{statement}
+use Rattle.cap.proofs.numbers.of_grant.Tie as tie
+use Rattle.cap.proofs.numbers.of_grant.Reads as reads
+use Rattle.cap.proofs.numbers.of_grant.Lts as lts
+
+-- The numbers of a grant.
+abbrev shown : GrantRead → GrantNumbers
+shown v = grantNumbers (grantRead v)
+
+enum-known-grant : tie.Need-enum-known-grant
+enum-known-grant c = search needs
+
+enum-told : tie.Need-enum-told
+enum-told c = search needs
+
+returns : tie.Need-returns
+returns c = sym (ap shown (c .before .grant .given .1))
+
+returns-2 : tie.Need-returns-2
+returns-2 c = sym (ap shown (c .enum-told .given .1))
+
+pub of-grant-spec : {M : Type 1} → statement M
+of-grant-spec = tie.close (tie.spec enum-known-grant enum-told returns returns-2)

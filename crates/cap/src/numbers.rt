@@ -1,0 +1,314 @@
+// The numbers of each answer.
+use crate::DecisionNumbers;
+use crate::DescriptorNumbers;
+use crate::GrantNumbers;
+use crate::ItemNumbers;
+use crate::MatchingNumbers;
+use crate::NarrowingNumbers;
+use crate::StoredNumbers;
+use cbor_item::Item;
+use descriptor::Fields;
+use descriptor::GrantRead;
+use descriptor::Reading;
+use image::Finding;
+use image::Made;
+use narrowing::Narrowing;
+use request::Decision;
+use resource::Matching;
+use steps::Window;
+use submission::Submission;
+ghost use mathlib.Core.Path.{_≡_};
+ghost use Rattle.cbor_item.specs.Item as items;
+ghost use Rattle.resource.specs.Text as texts;
+ghost use Rattle.descriptor.specs.Answer as descriptors;
+ghost use Rattle.image.specs.Check as images;
+ghost use Rattle.image.specs.Fresh as fresh;
+ghost use Rattle.submission.specs.Submission as submissions;
+ghost use Rattle.request.specs.Decision as requests;
+ghost use Rattle.narrowing.specs.Narrow as narrowings;
+ghost use Rattle.cap.specs.Numbers.{itemNumbers, descriptorNumbers, fieldNumbers, noFields, grantNumbers, matchingNumbers, storedNumbers, decisionNumbers, narrowingNumbers, windowOf};
+
+// The key's window.
+pub(crate) fn window(from: u64, has_until: u64, until: u64) -> Window
+    ensures { λ r. ⌜ r ≡ windowOf from «has_until» until ⌝ }
+{
+    Window {
+        from,
+        bounded: has_until != 0,
+        until,
+    }
+}
+
+// An item's.
+pub(crate) fn of_item(item: Item) -> ItemNumbers
+    ensures { λ r. ⌜ r ≡ itemNumbers (items.numbersOf item) ⌝ }
+{
+    match item {
+        Item::Unsigned { value, next } => numbered(0, value, 0, 0, next),
+        Item::Bytes { start, len, next } => numbered(2, len as u64, start, len, next),
+        Item::Text { start, len, next } => numbered(3, len as u64, start, len, next),
+        Item::Array { count, next } => numbered(4, count, 0, 0, next),
+        Item::Map { count, next } => numbered(5, count, 0, 0, next),
+        Item::Malformed => ItemNumbers {
+            answer: 1,
+            kind: 0,
+            number: 0,
+            content_at: 0,
+            content_len: 0,
+            next: 0,
+        },
+    }
+}
+
+// Those of an item that was read.
+fn numbered(kind: u64, number: u64, at: usize, len: usize, next: usize) -> ItemNumbers
+    ensures { λ r. ⌜ r ≡ itemNumbers (record { answer = 0; kind = kind; number = number; contentAt = at; contentLen = len; next = next }) ⌝ }
+{
+    ItemNumbers {
+        answer: 0,
+        kind,
+        number,
+        content_at: at as u64,
+        content_len: len as u64,
+        next: next as u64,
+    }
+}
+
+// A descriptor's.
+pub(crate) fn of_reading(reading: Reading) -> DescriptorNumbers
+    ensures { λ r. ⌜ r ≡ descriptorNumbers reading ⌝ }
+{
+    match reading {
+        Reading::Read(fields) => of_fields(fields),
+        Reading::Structure => no_descriptor(1),
+        Reading::Validity => no_descriptor(2),
+    }
+}
+
+// Those of what was read.
+fn of_fields(f: Fields) -> DescriptorNumbers
+    ensures { λ r. ⌜ r ≡ fieldNumbers f ⌝ }
+{
+    let payload = f.payload;
+    let issuer = f.issuer;
+    let grantor = f.grantor;
+    let key = f.key;
+    let signature = f.signature;
+    DescriptorNumbers {
+        answer: 0,
+        payload_at: payload.at as u64,
+        payload_len: payload.len as u64,
+        issued_at: f.issued,
+        not_before: f.before,
+        not_after: f.after,
+        id_at: f.id as u64,
+        issuer_at: issuer.at as u64,
+        issuer_len: issuer.len as u64,
+        grantor_at: grantor.at as u64,
+        grantor_len: grantor.len as u64,
+        fay_at: f.fay as u64,
+        terminal_at: f.terminal as u64,
+        grants: f.grants,
+        metadata_at: f.metadata as u64,
+        metadata_pairs: f.pairs,
+        constraint_pairs: f.constraints,
+        mask: f.mask,
+        key_id_at: key.at as u64,
+        key_id_len: key.len as u64,
+        algorithm: f.algorithm,
+        signature_at: signature.at as u64,
+        signature_len: signature.len as u64,
+    }
+}
+
+// Those of a refusal.
+fn no_descriptor(answer: u64) -> DescriptorNumbers
+    ensures { λ r. ⌜ r ≡ noFields answer ⌝ }
+{
+    DescriptorNumbers {
+        answer,
+        payload_at: 0,
+        payload_len: 0,
+        issued_at: 0,
+        not_before: 0,
+        not_after: 0,
+        id_at: 0,
+        issuer_at: 0,
+        issuer_len: 0,
+        grantor_at: 0,
+        grantor_len: 0,
+        fay_at: 0,
+        terminal_at: 0,
+        grants: 0,
+        metadata_at: 0,
+        metadata_pairs: 0,
+        constraint_pairs: 0,
+        mask: 0,
+        key_id_at: 0,
+        key_id_len: 0,
+        algorithm: 0,
+        signature_at: 0,
+        signature_len: 0,
+    }
+}
+
+// A grant's; zeros where there is none.
+pub(crate) fn of_grant(grant: GrantRead) -> GrantNumbers
+    ensures { λ r. ⌜ r ≡ grantNumbers (descriptors.grantRead grant) ⌝ }
+{
+    match grant {
+        GrantRead::IsGrant { fields, next: _ } => GrantNumbers {
+            found: 1,
+            pattern_at: fields.pattern as u64,
+            pattern_len: fields.len as u64,
+            mask: fields.mask,
+            modes_at: fields.modes as u64,
+            constraints_at: fields.constraints as u64,
+            constraint_pairs: fields.pairs,
+        },
+        GrantRead::NoGrant => GrantNumbers {
+            found: 0,
+            pattern_at: 0,
+            pattern_len: 0,
+            mask: 0,
+            modes_at: 0,
+            constraints_at: 0,
+            constraint_pairs: 0,
+        },
+    }
+}
+
+// A matching's.
+pub(crate) fn of_matching(answer: Matching) -> MatchingNumbers
+    ensures { λ r. ⌜ r ≡ matchingNumbers (texts.numbersOf answer) ⌝ }
+{
+    match answer {
+        Matching::Yes => MatchingNumbers { answer: 0, yes: 1 },
+        Matching::No => MatchingNumbers { answer: 0, yes: 0 },
+        Matching::Malformed => MatchingNumbers { answer: 15, yes: 0 },
+    }
+}
+
+// A new image's.
+pub(crate) fn of_made(answer: Made) -> u64
+    ensures { λ r. ⌜ r ≡ fresh.numberOf answer ⌝ }
+{
+    match answer {
+        Made::Done => 0,
+        Made::TooShort => 17,
+    }
+}
+
+// A lookup's.
+pub(crate) fn of_finding(finding: Finding) -> StoredNumbers
+    ensures { λ r. ⌜ r ≡ storedNumbers (images.numbersOf finding) ⌝ }
+{
+    match finding {
+        Finding::Found { at, len } => stored(0, at, len),
+        Finding::BadId => stored(15, 0, 0),
+        Finding::BadImage => stored(16, 0, 0),
+        Finding::NotHeld => stored(7, 0, 0),
+    }
+}
+
+// The answer, and where the body lies.
+fn stored(answer: u64, at: usize, len: usize) -> StoredNumbers
+    ensures { λ r. ⌜ r ≡ storedNumbers (record { answer = answer; at = at; len = len }) ⌝ }
+{
+    StoredNumbers {
+        answer,
+        body_at: at as u64,
+        body_len: len as u64,
+    }
+}
+
+// A submission's.
+pub(crate) fn of_submission(answer: Submission) -> u64
+    ensures { λ r. ⌜ r ≡ submissions.numberOf answer ⌝ }
+{
+    match answer {
+        Submission::Done => 0,
+        Submission::Malformed => 15,
+        Submission::BadImage => 16,
+        Submission::Structure => 1,
+        Submission::Validity => 2,
+        Submission::UnknownIssuer => 3,
+        Submission::KeyInvalid => 14,
+        Submission::BadSignature => 4,
+        Submission::Duplicate => 5,
+        Submission::Full => 6,
+    }
+}
+
+// A request's.
+pub(crate) fn of_decision(decision: Decision) -> DecisionNumbers
+    ensures { λ r. ⌜ r ≡ decisionNumbers (requests.numbersOf decision) ⌝ }
+{
+    match decision {
+        Decision::Granted { grant, mask, end } => DecisionNumbers {
+            answer: 0,
+            grant,
+            mask,
+            session_end: end,
+        },
+        Decision::Malformed => refused(15),
+        Decision::BadImage => refused(16),
+        Decision::NotFound => refused(7),
+        Decision::Revoked => refused(8),
+        Decision::NotYetValid => refused(9),
+        Decision::Expired => refused(10),
+        Decision::SubjectMismatch => refused(11),
+        Decision::TerminalMismatch => refused(12),
+        Decision::Insufficient => refused(13),
+        Decision::KeyInvalid => refused(14),
+        Decision::BadSignature => refused(4),
+    }
+}
+
+// Those of a refused request.
+fn refused(answer: u64) -> DecisionNumbers
+    ensures { λ r. ⌜ r ≡ decisionNumbers (requests.refusal answer) ⌝ }
+{
+    DecisionNumbers {
+        answer,
+        grant: 0,
+        mask: 0,
+        session_end: 0,
+    }
+}
+
+// A narrowing's.
+pub(crate) fn of_narrowing(answer: Narrowing) -> NarrowingNumbers
+    ensures { λ r. ⌜ r ≡ narrowingNumbers (narrowings.numbersOf answer) ⌝ }
+{
+    match answer {
+        Narrowing::Accepted => narrowed(0),
+        Narrowing::NoParent => narrowed(21),
+        Narrowing::Structure => narrowed(1),
+        Narrowing::Validity => narrowed(2),
+        Narrowing::Constrained => narrowed(19),
+        Narrowing::Period => narrowed(18),
+        Narrowing::NotCovered {
+            grant,
+            mode,
+            levels,
+        } => NarrowingNumbers {
+            answer: 20,
+            grant,
+            mode,
+            levels,
+        },
+    }
+}
+
+// Those of an answer other than 20.
+fn narrowed(answer: u64) -> NarrowingNumbers
+    ensures { λ r. ⌜ r ≡ narrowingNumbers (narrowings.plain answer) ⌝ }
+{
+    NarrowingNumbers {
+        answer,
+        grant: 0,
+        mode: 0,
+        levels: 0,
+    }
+}

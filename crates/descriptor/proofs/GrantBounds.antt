@@ -53,6 +53,12 @@ unfolding bind
 holds-bind P P₂ (got r n) k h f = f r n h
 holds-bind P P₂ refused k h f = tt
 
+-- a reader of which nothing is needed, and then another
+pub holds-then : {R Q : Type 0} (P : Q → ℕ → Type 0) (o : Got R) (k : R → ℕ → Got Q) → ((r : R) (n : ℕ) → Holds P (k r n)) → Holds P (bind o k)
+unfolding bind
+holds-then P (got r n) k f = f r n
+holds-then P refused k f = tt
+
 -- a test and then a reader
 pub holds-guard : {R : Type 0} (P : R → ℕ → Type 0) (b : Bool) (o : Got R) → (T b → Holds P o) → Holds P (guard b o)
 unfolding guard
@@ -225,7 +231,8 @@ modes-bounds s at =
 -- what is known of a grant's fields
 pub record GrantIn (s : List ℕ) (at : ℕ) (g : GrantSeen) (n : ℕ) : Type 0 where
   pub after : at ≤ n
-  pub pattern : g .pattern .start + 46 ≤ length s
+  pub long : 46 ≤ g .pattern .len
+  pub fits : g .pattern .start + g .pattern .len ≤ length s
   pub few : g .pairs ≤ 8
 
 -- a pattern lies within s and has at least 46 bytes
@@ -251,7 +258,7 @@ grant-bounds s at =
     (λ pairs k l.
     holds-bind (WordTo s (k + length kResourcePattern) 46) (GrantIn s at) _ _ (holds-guard (WordTo s (k + length kResourcePattern) 46) _ _ (λ t. pattern-to s (k + length kResourcePattern)))
     (λ pattern p q. holds-guard (GrantIn s at) _ _
-    (λ t. record { after = omega (arith, i, q .0 .after, q .0 .ends); pattern = omega (arith, q .0 .ends, q .0 .fits, q .1); few = l .1 })))))
+    (λ t. record { after = omega (arith, i, q .0 .after, q .0 .ends); long = q .1; fits = omega (arith, q .0 .ends, q .0 .fits); few = l .1 })))))
 
 -- what is known of the sum after one more grant: it has at most 8 pairs more
 abbrev MoreIn : Sum → ℕ → Sum → ℕ → Type 0
@@ -280,7 +287,7 @@ grants-bounds s at =
     (holds-many (λ sum k. m ≤ k) (moreAt s (g .pattern .start))
     (λ sum k l. holds-map (MoreIn sum k) (λ (more : Sum) (n : ℕ). m ≤ n) (moreAt s (g .pattern .start) sum k) (more-bounds s (g .pattern .start) sum k) (λ more p q. omega (arith, q .0, l)))
     (c - 1) _ m (omega arith))
-    (λ sum k l. (omega (arith, i .2, j .after, l), omega (arith, j .pattern)))))
+    (λ sum k l. (omega (arith, i .2, j .after, l), omega (arith, j .long, j .fits)))))
 
 -- ---- what the code's proofs use
 
@@ -335,7 +342,12 @@ count-room s at major lo hi e = let b = held (CountTo at lo hi) (count-bounds s 
 
 -- the pattern of a grant that was read lies within s, and its pairs are few
 pub grant-room : {g : GrantSeen} {n : ℕ} (s : List ℕ) (at : ℕ) → got g n ≡ grantAt s at → (g .pattern .start + 46 ≤ length s) × (g .pairs ≤ 8)
-grant-room s at e = let b = held (GrantIn s at) (grant-bounds s at) e in (b .pattern, b .few)
+grant-room s at e = let b = held (GrantIn s at) (grant-bounds s at) e in (omega (arith, b .long, b .fits), b .few)
+
+-- that pattern has at least 46 bytes, and ends within s
+pub pattern-room : {g : GrantSeen} {n : ℕ} (s : List ℕ) (at : ℕ) → got g n ≡ grantAt s at
+    → (46 ≤ g .pattern .len) × (g .pattern .start + g .pattern .len ≤ length s)
+pattern-room s at e = let b = held (GrantIn s at) (grant-bounds s at) e in (b .long, b .fits)
 
 -- one more grant that was read adds few pairs
 pub more-room : {more : Sum} {n : ℕ} (s : List ℕ) (first : ℕ) (sum : Sum) (at : ℕ) → got more n ≡ moreAt s first sum at → more .pairs ≤ sum .pairs + 8

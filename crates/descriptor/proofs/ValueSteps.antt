@@ -1,13 +1,14 @@
 -- The ways out of the readers of single values, and where what they read lies. Assumes nothing.
 use mathlib.Core.Path.{_≡_, refl, sym, ap, _∙_}
+use mathlib.Core.Logic.{_↔_}
 use mathlib.Core.Bool.{Bool, true, false, not, _&&_, false≢true}
 use mathlib.Core.List.{List, [], _∷_}
 use Prim.Native.Nat.{ℕ, zero, suc, _+_, _-_, _≤_, _<_}
 use native.Mathlib.Nat.{add-sub-cancel-left}
 use native.Mathlib.Omega.{arith}
 use lib.ListN.{length, take, drop}
-use lib.Dec.{T, eqb}
-use mir.Facts.{and-yes, yes-and}
+use lib.Dec.{T, leb, eqb, leb→le, le→leb, eqb→eq}
+use mir.Facts.{and-yes, yes-and, yes-eqb}
 use Rattle.cbor_item.specs.Bytes.{part, hasAt}
 use Rattle.cbor_item.specs.Reads.{Got, got, refused, guard}
 use Rattle.cbor_item.specs.Utf8.{isUtf8}
@@ -18,10 +19,27 @@ use Rattle.resource.specs.Text.{patternOk}
 use Rattle.descriptor.specs.Value.{within, countAt, textAt, wordAt, bytesAt}
 use Rattle.descriptor.specs.Answer.{wordOk}
 use Rattle.descriptor.proofs.Truth.{T-true, T-false}
-use Rattle.descriptor.proofs.ValueLaws.{within-test, count-test}
 use Rattle.descriptor.proofs.GrantBounds.{held, SpanTo, span-to, text-bounds}
 
 -- ---- tests
+
+-- the test of limits holds exactly of a number between them
+pub within-test : (lo hi n : ℕ) → T (within lo hi n) ↔ ((lo ≤ n) × (n ≤ hi))
+unfolding within
+within-test lo hi n = (
+  λ t. let p = and-yes (leb lo n) (leb n hi) t in (leb→le lo n (p .0), leb→le n hi (p .1)),
+  λ p. yes-and (leb lo n) (leb n hi) (le→leb lo n (p .0)) (le→leb n hi (p .1)),
+)
+
+-- the test of a head holds exactly where its major type is the given one and its number is between the limits
+pub count-test : (m major lo hi n : ℕ) → T (eqb m major && within lo hi n) ↔ ((m ≡ major) × (lo ≤ n) × (n ≤ hi))
+count-test m major lo hi n = (
+  λ t.
+      let p = and-yes (eqb m major) (within lo hi n) t in
+      let l = within-test lo hi n .0 (p .1) in
+      (eqb→eq m major (p .0), l .0, l .1),
+  λ p. yes-and (eqb m major) (within lo hi n) (yes-eqb (p .0)) (within-test lo hi n .1 (p .1, p .2)),
+)
 
 -- a test that cannot hold does not
 no-T : (b : Bool) → (T b → ⊥) → T (not b)
@@ -45,6 +63,11 @@ key-end s at (x ∷ k) top t a l = omega (arith, has-fits s at (x ∷ k) (omega 
 pub lent : (s : List ℕ) (start len : ℕ) → take ((start + len) - start) (drop start s) ≡ part s start len
 unfolding part
 lent s start len = rw add-sub-cancel-left
+
+-- what the code lends of a pattern below its terminal id is its part there
+pub lent-levels : (s : List ℕ) (start len : ℕ) → take ((start + len) - (start + 46)) (drop (start + 46) s) ≡ part s (start + 46) (len - 46)
+unfolding part
+lent-levels s start len = let e : (start + len) - (start + 46) ≡ len - 46 = omega arith in ap (λ (k : ℕ). take k (drop (start + 46) s)) e
 
 -- ---- returns of the readers of single values
 

@@ -1,4 +1,4 @@
--- What is promised of descriptors, and nothing else. Each statement `NameOfIt` is proved in proofs/Promises.antt as `name-of-it`.
+-- What is promised of descriptors, and nothing else. Each statement `NameOfIt` is proved in descriptor_laws/proofs/Promises.antt as `name-of-it`.
 use mathlib.Core.Path.{_≡_}
 use mathlib.Core.Logic.{_↔_}
 use mathlib.Core.Bool.{Bool, true, false, _&&_}

@@ -13,19 +13,19 @@ use Rattle.cbor_item.specs.Bytes.{AreBytes, Has}
 use Rattle.cbor_item.specs.Reads.{got, refused, encOpt, encAll}
 use Rattle.cbor_item.specs.Encoding.{head}
 use Rattle.cbor_item.specs.Head.{headOf, headAt}
-use Rattle.cbor_item.proofs.BytesLaws.{has-left, has-right, all-has}
+use Rattle.cbor_item.proofs.BytesLaws.{has-left, has-right}
 use Rattle.cbor_item.proofs.ReadsLaws.{complete, stopped, took, failed}
 use Rattle.cbor_item.proofs.HeadLaws.{heads-exact}
 use Rattle.descriptor.specs.Keys.{kGrants, kMetadata, kIssuedAt}
-use Rattle.descriptor.specs.Model.{Pair, Grant, Payload, Descriptor, encPairs, encGrant, encGrants, encodePayload, encode}
+use Rattle.descriptor.specs.Model.{Pair, Grant, Payload, Descriptor, encPairs, encGrant, encGrants, encode}
 use Rattle.descriptor.specs.Allowed.{Formed}
 use Rattle.descriptor.specs.Value.{within, countAt}
 use Rattle.descriptor.specs.Reader.{grantAt, beforePayload}
 use Rattle.descriptor.specs.View.{keysOf, grantsView}
 use Rattle.descriptor.specs.Promises.{grantPlace}
-use Rattle.descriptor.proofs.PieceLaws.{encFront}
-use Rattle.descriptor.proofs.PayloadLaws.{frontOf, pieces-encode}
-use Rattle.descriptor.proofs.DescriptorLaws.{halves-encode}
+use Rattle.descriptor_laws.proofs.payload.PieceLaws.{encFront}
+use Rattle.descriptor_laws.proofs.payload.PayloadLaws.{frontOf, pieces-encode}
+use Rattle.descriptor_laws.proofs.places.SeenLaws.{payload-here}
 
 -- ---- where no grant is read
 
@@ -103,12 +103,6 @@ last-place d q =
       length-append kGrants (head 4 (length gs) ++ encAll encGrant gs),
       length-append (head 4 (length gs)) (encAll encGrant gs),
     )
-
--- the payload stands behind fixed bytes
-payload-here : (d : Descriptor) → Has (encode d) (0 + length beforePayload) (encodePayload (d .payload))
-payload-here d =
-    let s : List ℕ = encode d in
-    has-right s 0 beforePayload _ (has-left s 0 (beforePayload ++ encodePayload (d .payload)) _ (subst (Has s 0) (sym (halves-encode d)) (all-has s)))
 
 -- there stands "metadata" or "issued_at"
 behind-grants : (d : Descriptor)

@@ -11,7 +11,7 @@ use Rattle.descriptor.specs.Allowed.{Formed, Allowed}
 use Rattle.descriptor.specs.Reader.{grantAt}
 use Rattle.descriptor.specs.View.{descriptorView}
 use Rattle.descriptor.specs.Promises.{grantPlace}
-use Rattle.descriptor.proofs.Promises.{reads-exactly, grants-walk}
+use Rattle.descriptor_laws.proofs.Promises.{reads-exactly, grants-walk}
 use Rattle.grant_reader.specs.Walk.{startOf, placeAfter, placeFrom}
 use Rattle.grant_reader.specs.Promises.{ReaderPlaces, EachInTurn, NonePast, NoneUnread}
 use Rattle.grant_reader.proofs.WalkLaws.{start-read, start-unread, after-got, from-both, none-stays, nth-at}

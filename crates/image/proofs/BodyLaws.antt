@@ -8,18 +8,17 @@ use lib.ListN.{length}
 use lib.Bits.{or-lt}
 use lib.Dec.{T, leb, eqb, lit<}
 use borrow.Author.Tests.{leb-true}
-use Rattle.cbor_item.specs.Reads.{Got, got, refused, bind}
+use Rattle.cbor_item.specs.Reads.{Got, got, refused}
 use Rattle.cbor_item.proofs.Tests.{by-cond, and-left}
 use Rattle.resource.specs.Identifier.{isFay, isTerminal}
 use Rattle.descriptor.specs.declared.Fields.{Fields}
-use Rattle.descriptor.specs.declared.Reading.{Reading}
 use Rattle.descriptor.specs.declared.Reading.the-variants.{Read}
 use Rattle.descriptor.specs.Keys.{kModes, kGrants, kTerminalId, kDescriptorId, kSubjectFayId}
 use Rattle.descriptor.specs.Allowed.{longest, longestPeriod}
 use Rattle.descriptor.specs.Value.{bytesAt, within}
 use Rattle.descriptor.specs.Reader.{modesAt, modeAt, GrantSeen, grantAt, Sum, moreAt, GrantsSeen, grantsAt, Opening, openingAt, Closing, closingAt, PayloadSeen, payloadAt, Seen, descriptorAt, beforePayload, Answer, read, structure, validity, whole, readOf}
 use Rattle.descriptor.specs.Answer.{fieldsOf, readingOf}
-use Rattle.descriptor.proofs.GrantBounds.{Holds, holds-of, holds-bind, holds-guard, holds-many, SpanTo, span-to, CountTo, count-bounds, WordTo, word-bounds}
+use Rattle.descriptor.proofs.GrantBounds.{Holds, holds-of, holds-bind, holds-then, holds-guard, holds-many, SpanTo, span-to, CountTo, count-bounds, WordTo, word-bounds}
 use Rattle.descriptor.proofs.ModeSteps.{mode-small}
 use Rattle.descriptor.proofs.WordLaws.{terminal-length, fay-length}
 use Rattle.image.specs.Image.{reading}
@@ -32,12 +31,6 @@ unfolding modesAt
 modes-small s at =
     holds-bind (CountTo at 1 4) (λ mask n. mask < 16) _ _ (count-bounds s at 4 1 4)
     (λ c n i. holds-many (λ mask k. mask < 16) (modeAt s) (λ mask k h. holds-of (λ m p. m < 16) (modeAt s mask k) (λ m p e. mode-small s mask k m p h e)) c 0 n (lit< tt))
-
--- a reader of which nothing is needed, and then another
-holds-then : {R Q : Type 0} (P : Q → ℕ → Type 0) (o : Got R) (k : R → ℕ → Got Q) → ((r : R) (n : ℕ) → Holds P (k r n)) → Holds P (bind o k)
-unfolding bind
-holds-then P (got r n) k f = f r n
-holds-then P refused k f = tt
 
 -- of a grant
 grant-small : (s : List ℕ) (at : ℕ) → Holds (λ g n. g .mask < 16) (grantAt s at)

@@ -1,6 +1,6 @@
 -- The check of one row says that the row and its body stand, both ways (specs/Check.antt). Assumes nothing.
 use mathlib.Core.Path.{_≡_, refl, sym, ap, _∙_}
-use mathlib.Core.Bool.{Bool, true, false, _&&_, _||_}
+use mathlib.Core.Bool.{Bool, true, false, _&&_, _||_, or-false}
 use mathlib.Core.List.{List, [], _∷_, _++_}
 use Prim.Native.Nat.{ℕ, suc, _+_, _≤_, _<_}
 use native.Mathlib.Omega.{arith}
@@ -21,7 +21,7 @@ use Rattle.image.specs.Check.{rowId, rowOffset, rowLength, idAmong, rowF
 use Rattle.image.proofs.BodyLaws.{BodyIn, read-in}
 use Rattle.image.proofs.StepLaws.{RowOk, row-is, among-suc, hit-suc}
 use Rattle.image.proofs.RowLaws.{id-read, modes-read, part-part, RowSays, row-says, says-row}
-use Rattle.image.proofs.ListLaws.{same-true, true-same, or-false, or-true, has-snoc}
+use Rattle.image.proofs.ListLaws.{same-true, true-same, or-true, has-snoc}
 
 -- ---- the bodies before
 

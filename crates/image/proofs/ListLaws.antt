@@ -1,6 +1,6 @@
 -- Laws of lists of bodies (specs/Image.antt): which ids they have, which body has an id, and one body more. Assumes nothing.
 use mathlib.Core.Path.{_≡_, refl, sym, ap, _∙_, subst}
-use mathlib.Core.Bool.{Bool, true, false, _||_, false≢true}
+use mathlib.Core.Bool.{Bool, true, false, _||_, false≢true, or-false}
 use mathlib.Core.List.{List, [], _∷_, _++_, append-assoc, append-nil}
 use mathlib.Core.Option.{Option, some}
 use Prim.Native.Nat.{ℕ, _*_, _≤_}
@@ -30,11 +30,6 @@ true-same x y e = T-true (same x y) .0 (rw e (same-refl y))
 pub or-assoc : (a b c : Bool) → (a || (b || c)) ≡ ((a || b) || c)
 or-assoc true b c = refl
 or-assoc false b c = refl
-
--- A test or false is the test.
-pub or-false : (a : Bool) → (a || false) ≡ a
-or-false true = refl
-or-false false = refl
 
 -- A test or true is true.
 pub or-true : (a : Bool) → (a || true) ≡ true

@@ -1,43 +1,17 @@
 -- The mask that is read of a descriptor has a mode's bit exactly where a grant names the mode. Assumes nothing.
-use mathlib.Core.Path.{_≡_, refl, sym, ap, _∙_}
-use mathlib.Core.Bool.{Bool, true, false, _&&_, _||_, Bool·beq}
+use mathlib.Core.Path.{_≡_, sym, ap, _∙_}
+use mathlib.Core.Bool.{Bool, _||_, or-false, Bool·beq}
 use mathlib.Core.List.{List, [], _∷_}
-use Prim.Native.Nat.{ℕ, zero, suc, _+_, _^_, _<_}
-use native.Mathlib.Omega.{arith}
-use native.Mathlib.Decide.{decLe}
+use Prim.Native.Nat.{ℕ, _<_}
 use lib.Bits.{bitOr, or-lt}
-use lib.Dec.{T, eqb}
-use mir.Facts.{and-yes}
-use Rattle.cbor_item.specs.Reads.{AllFrom}
+use lib.Dec.{T}
 use Rattle.descriptor.specs.Model.{Grant}
-use Rattle.descriptor.specs.Allowed.{isIn, ModeOk, seenWith, ModesOk, GrantOk, All}
+use Rattle.descriptor.specs.Allowed.{isIn, GrantOk, All}
 use Rattle.descriptor.specs.Reader.{hasMode, Sum}
-use Rattle.descriptor.specs.View.{maskFrom, maskOf, sumFrom, grantsView}
-use Rattle.descriptor.proofs.ModeLaws.{Marks, no-marks, add-mark}
+use Rattle.descriptor.specs.View.{maskOf, sumFrom, grantsView}
+use Rattle.descriptor_laws.proofs.values.ModeLaws.{allBelow, all-below, beq-eq, no-marks, mask-exact}
 use Rattle.image.specs.Promises.{anyHas}
-use Rattle.image.proofs.ListLaws.{or-assoc, or-false}
-
--- ---- tables of tests
-
--- Every number below n passes the test.
-unfoldable allBelow : ℕ → (ℕ → Bool) → Bool
-allBelow zero p = true
-allBelow (suc n) p = p n && allBelow n p
-
--- Where every number below n passes the test, each of them does.
-all-below : (n : ℕ) (p : ℕ → Bool) → T (allBelow n p) → (i : ℕ) → i < n → T (p i)
-unfolding allBelow
-all-below zero p t i h = absurd (omega arith)
-all-below (suc n) p t i h =
-    let a = and-yes (p n) (allBelow n p) t in
-    elim (decLe n i) [ yes l ↦ (let e : i ≡ n = omega arith in rw e (a .0)) | no l ↦ all-below n p (a .1) i (omega arith) ]
-
--- Two tests that agree are equal.
-beq-eq : (a b : Bool) → T (Bool·beq a b) → a ≡ b
-beq-eq true true t = refl
-beq-eq true false t = absurd t
-beq-eq false true t = absurd t
-beq-eq false false t = refl
+use Rattle.image.proofs.ListLaws.{or-assoc}
 
 -- ---- the union of two masks
 
@@ -57,28 +31,6 @@ or-has a b m i j k =
     beq-eq (hasMode (bitOr a b) m) (hasMode a m || hasMode b m)
     (all-below 4 (λ m. unites a b m)
     (all-below 16 (λ b. allBelow 4 (λ m. unites a b m)) (all-below 16 (λ a. allBelow 16 (λ b. allBelow 4 (λ m. unites a b m))) all-unite a i) b j) m k)
-
--- ---- the mask of a grant
-
--- One test more in a row of tests.
-or-turn : (a b c : Bool) → ((a || b) || c) ≡ (b || (a || c))
-or-turn true true c = refl
-or-turn true false c = refl
-or-turn false b c = refl
-
--- A mask that has exactly the modes seen has after further modes exactly those and these, and is below 16.
-mask-has : (mask : ℕ) (seen ms : List ℕ) → Marks mask seen → AllFrom ModeOk seenWith seen ms
-    → (maskFrom mask ms < 16) × ((k : ℕ) → k < 4 → hasMode (maskFrom mask ms) k ≡ (isIn k seen || isIn k ms))
-unfolding maskFrom isIn
-mask-has mask seen [] i a = (i .small, λ k h. i .bits k h ∙ sym (or-false (isIn k seen)))
-mask-has mask seen (m ∷ ms) i a =
-    let r = mask-has (mask + 2 ^ m) (m ∷ seen) ms (add-mark mask seen m i (a .0)) (a .1) in
-    (r .0, λ k h. r .1 k h ∙ or-turn (eqb k m) (isIn k seen) (isIn k ms))
-
--- The mask of allowed modes is below 16 and has exactly those.
-mask-exact : (ms : List ℕ) → ModesOk ms → (maskOf ms < 16) × ((k : ℕ) → k < 4 → hasMode (maskOf ms) k ≡ isIn k ms)
-unfolding isIn
-mask-exact ms o = mask-has 0 [] ms no-marks (o .each)
 
 -- ---- the mask of all grants
 

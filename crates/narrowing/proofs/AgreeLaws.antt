@@ -1,14 +1,13 @@
 -- The search through the bytes of two descriptors (specs/Scan.antt) agrees with the search through their rules (specs/Escape.antt). Assumes nothing.
 use mathlib.Core.Path.{_≡_, refl, sym, ap, ap₂, _∙_}
-use mathlib.Core.Bool.{Bool, true, false, not, cond, _&&_}
-use mathlib.Core.List.{List, [], _∷_}
+use mathlib.Core.Bool.{Bool, true, false, not, cond}
+use mathlib.Core.List.{List}
 use mathlib.Core.Option.{Option, none, some}
 use Prim.Native.Nat.{ℕ, zero, suc, _+_, _-_, _≤_, _<_}
 use native.Mathlib.Numerals.{add-one}
 use native.Mathlib.Nat.{add-zero, zero-add}
 use native.Mathlib.Omega.{arith}
 use lib.ListN.{getD}
-use lib.Dec.{eqb}
 use Rattle.cbor_item.specs.Bytes as cbor
 use Rattle.cbor_item.specs.Bytes.{AreBytes, part}
 use Rattle.cbor_item.specs.Reads.{got}
@@ -17,6 +16,7 @@ use Rattle.resource.specs.Pattern.{Pattern, endsDeep}
 use Rattle.resource.specs.Text.{levelsOf}
 use Rattle.resource.proofs.Flags.{same-eq}
 use Rattle.descriptor.specs.Reader.{hasMode, GrantSeen, grantAt, Seen, read, readOf}
+use Rattle.descriptor_laws.proofs.grants.LevelLaws.{same-agree}
 use Rattle.narrowing.specs.declared.Narrowing.the-variants.{NotCovered}
 use Rattle.narrowing.specs.declared.search.Found.{Found}
 use Rattle.narrowing.specs.declared.search.Found.the-variants.{At, Nothing}
@@ -219,14 +219,6 @@ first-found s t {qs = qs} st c u {cs = cs} r =
 
 -- ---- two descriptors
 
--- the two tests of equality agree
-same-both : (x y : List ℕ) → cbor.same x y ≡ same x y
-unfolding cbor.same same
-same-both [] [] = refl
-same-both [] (b ∷ y) = refl
-same-both (a ∷ x) [] = refl
-same-both (a ∷ x) (b ∷ y) = ap (λ (c : Bool). eqb a b && c) (same-both x y)
-
 -- the search through the bytes of two descriptors that were read answers what the search through their rules does
 pub scan-agrees : (s t : List ℕ) (v w : Seen) → AreBytes s → AreBytes t → readOf s ≡ read v → readOf t ≡ read w
     → firstIn s (v .payload .opening .grants .start) (v .payload .opening .grants .count)
@@ -236,5 +228,5 @@ pub scan-agrees : (s t : List ℕ) (v w : Seen) → AreBytes s → AreBytes t �
 scan-agrees s t v w bs bt e f =
     let a = read-stands s v bs e in
     let b = read-stands t w bt f in
-    ap (λ (own : Bool). firstIn s (v .payload .opening .grants .start) (v .payload .opening .grants .count) own t 0 (w .payload .opening .grants .count) (w .payload .opening .grants .start)) (same-both _ _)
+    ap (λ (own : Bool). firstIn s (v .payload .opening .grants .start) (v .payload .opening .grants .count) own t 0 (w .payload .opening .grants .count) (w .payload .opening .grants .start)) (same-agree _ _)
     ∙ first-found s _ a t _ b

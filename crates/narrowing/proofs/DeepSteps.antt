@@ -1,6 +1,6 @@
 -- Whether the last level of a text is "**" is told by its last three bytes. Assumes nothing.
 use mathlib.Core.Path.{_≡_, refl, sym, ap, ap₂, _∙_}
-use mathlib.Core.Bool.{Bool, true, false, not, _&&_}
+use mathlib.Core.Bool.{Bool, true, false, not, _&&_, and-true, and-false}
 use mathlib.Core.List.{List, [], _∷_, cons≢nil}
 use mathlib.Core.Logic.{_⊎_, inl, inr, ⊎-elim}
 use Prim.Native.Nat.{ℕ, zero, suc, _+_, _-_, _≤_, _<_}
@@ -135,14 +135,6 @@ ends-two b c = go (isDeep (b ∷ c ∷ [])) refl
         by true f = ends-slash b (c ∷ []) f ∙ ends-byte c
         by false f = ⊎-elim (λ (x : Alone b (c ∷ [])). x .0 ∙ e) (λ (g : ends (levels (b ∷ c ∷ [])) ≡ ends (levels (c ∷ []))). g ∙ ends-byte c) (ends-other b (c ∷ []) f)
 
-and-true : (t : Bool) → t ≡ (t && true)
-and-true true = refl
-and-true false = refl
-
-and-false : (t : Bool) → false ≡ (t && false)
-and-false true = refl
-and-false false = refl
-
 -- three bytes of which the first is not "/" don't end in "**"
 three-other : (a b c : ℕ) → eqb a 47 ≡ false → ends (levels (a ∷ b ∷ c ∷ [])) ≡ false
 unfolding levels same
@@ -160,8 +152,8 @@ ends-three : (a b c : ℕ) → ends (levels (a ∷ b ∷ c ∷ [])) ≡ (isDeep 
 ends-three a b c = go (eqb a 47) refl
   where
     go : (t : Bool) → eqb a 47 ≡ t → ends (levels (a ∷ b ∷ c ∷ [])) ≡ (isDeep (b ∷ c ∷ []) && t)
-    go true e = ends-slash a (b ∷ c ∷ []) e ∙ ends-two b c ∙ and-true (isDeep (b ∷ c ∷ []))
-    go false e = three-other a b c e ∙ and-false (isDeep (b ∷ c ∷ []))
+    go true e = ends-slash a (b ∷ c ∷ []) e ∙ ends-two b c ∙ sym (and-true (isDeep (b ∷ c ∷ [])))
+    go false e = three-other a b c e ∙ sym (and-false (isDeep (b ∷ c ∷ [])))
 
 -- the last three of 3 + n bytes tell
 ends-long : (n : ℕ) (p : List ℕ) → length p ≡ 3 + n → ends (levels p) ≡ (isDeep (drop (suc n) p) && eqb (getD p n 0) 47)

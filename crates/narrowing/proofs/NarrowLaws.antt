@@ -17,18 +17,19 @@ use Rattle.descriptor.specs.Model.{Grant, Descriptor}
 use Rattle.descriptor.specs.Allowed.{isIn, GrantOk, All, Allowed}
 use Rattle.descriptor.specs.Reader.{Seen, Answer, read, structure, validity, readOf}
 use Rattle.descriptor.specs.View.{descriptorView}
-use Rattle.descriptor.proofs.Promises.{reads-exactly}
-use Rattle.descriptor.proofs.SeenLaws.{all-get}
+use Rattle.descriptor_laws.proofs.Promises.{reads-exactly}
+use Rattle.descriptor_laws.proofs.places.SeenLaws.{all-get}
 use Rattle.narrowing.specs.declared.Narrowing.{Narrowing}
 use Rattle.narrowing.specs.declared.Narrowing.the-variants.{Accepted, Constrained, Period, NotCovered}
 use Rattle.narrowing.specs.Meaning.{grantAdmits, anyAdmits, Admits}
 use Rattle.narrowing.specs.Escape.{Rule, fewestNames, lowestMode, ruleAt, firstRule, orZero, witnessPath}
-use Rattle.narrowing.specs.Narrow.{rulesIn, unconstrained, periodWithin, answerAt, compared, underParent, withParent, narrow, numbersOf}
+use Rattle.narrowing.specs.Narrow.{rulesIn, unconstrained, periodWithin, answerAt, compared, underParent, narrow, numbersOf}
 use Rattle.narrowing.specs.Promises.{PeriodInside, PeriodExactly, EscapeAnswered, AcceptedExactly, EscapeExactly, one, more, ChainInside, Reads, Inside, grantOf, NoEscape, rulesOf, witnessOf, FirstEscape}
 use Rattle.narrowing.proofs.CoveredLaws.{contra, true-of, or-left, witness-path, witness-admitted}
 use Rattle.narrowing.proofs.SearchLaws.{NoRuleEscape, Lowest, First, first-none, first-some}
 use Rattle.narrowing.proofs.RuleLaws.{pattern-of, ruleFor, rules-length, rule-at, rule-patterns, grant-mode, admitting, admitted-by, to-rule, of-rule}
 use Rattle.narrowing.proofs.ReadLaws.{rules-in, pairs-none}
+use Rattle.narrowing.proofs.OrderLaws.{compared-as, goes-on}
 
 -- ---- answers
 
@@ -57,10 +58,9 @@ rules-as : (s : List ℕ) (d : Descriptor) → Reads s d → rulesIn s (descript
 rules-as s d r = ap (λ (u : List ℕ). rulesIn u (descriptorView 0 d)) (r .encoded) ∙ rules-in d (subst AreBytes (r .encoded) (r .bytes)) (r .allowed .formed)
 
 -- the answer for two that are read and have no pair
-compared-as : (s : List ℕ) (v : Seen) (t : List ℕ) (w : Seen) (qs cs : List Rule) → unconstrained v ≡ true → unconstrained w ≡ true
+plain-as : (s : List ℕ) (v : Seen) (t : List ℕ) (w : Seen) (qs cs : List Rule) → unconstrained v ≡ true → unconstrained w ≡ true
     → rulesIn s v ≡ qs → rulesIn t w ≡ cs → compared s v t w ≡ cond (periodWithin v w) (answerAt qs cs (firstRule qs cs)) Period
-unfolding compared
-compared-as s v t w qs cs a b e f = rw (a, b, e, f)
+plain-as s v t w qs cs a b e f = compared-as s v t w ∙ rw (a, b, e, f)
 
 -- the period of the child lies within that of the parent
 abbrev within : Descriptor → Descriptor → Bool
@@ -75,23 +75,21 @@ byGrants p c =
 
 -- with the parent read, the child decides
 under-as : (s t : List ℕ) (p : Descriptor) → Reads s p → narrow s t ≡ underParent s (descriptorView 0 p) t (readOf t)
-unfolding narrow
-under-as s t p a = ap (λ (r : Answer). withParent s r t) (read-as s p a)
+under-as s t p a = goes-on s t (descriptorView 0 p) (read-as s p a)
 
 -- the answer for two descriptors
 narrow-as : (s t : List ℕ) (p c : Descriptor) → Reads s p → Reads t c → narrow s t ≡ cond (within p c) (byGrants p c) Period
 narrow-as s t p c a b =
     under-as s t p a
     ∙ ap (underParent s (descriptorView 0 p) t) (read-as t c b)
-    ∙ compared-as s (descriptorView 0 p) t (descriptorView 0 c) (rulesOf (p .payload .grants)) (rulesOf (c .payload .grants))
+    ∙ plain-as s (descriptorView 0 p) t (descriptorView 0 c) (rulesOf (p .payload .grants)) (rulesOf (c .payload .grants))
     (pairs-none p .1 (a .plain)) (pairs-none c .1 (b .plain)) (rules-as s p a) (rules-as t c b)
 
 -- a child that is accepted under a parent has no pair
 no-pairs : (s : List ℕ) (v : Seen) (t : List ℕ) (w : Seen) → compared s v t w ≡ Accepted → unconstrained w ≡ true
-unfolding compared
 no-pairs s v t w e =
     and-right (unconstrained v) (unconstrained w)
-    (chosen (unconstrained v && unconstrained w) _ Constrained (λ h. absurd (omega (arith, number h))) e .0)
+    (chosen (unconstrained v && unconstrained w) _ Constrained (λ h. absurd (omega (arith, number h))) (sym (compared-as s v t w) ∙ e) .0)
 
 -- a child that is accepted reads as a descriptor with no pair
 accepted-reads : (s t : List ℕ) (p : Descriptor) → Reads s p → AreBytes t → narrow s t ≡ Accepted → (d : Descriptor) × Reads t d

@@ -5,10 +5,8 @@ use mathlib.Core.Bool.{Bool, true, false, not, cond, _&&_}
 use mathlib.Core.List.{List}
 use Prim.Native.Nat.{ℕ, suc, _+_, _-_, _≤_, _<_}
 use native.Mathlib.Omega.{arith}
-use lib.ListN.{length, getD, take, drop, length-take, length-drop}
+use lib.ListN.{length, take, drop, length-take, length-drop}
 use lib.Dec.{eqb, ltb, leb}
-use mir.Syntax.{w8}
-use mir.Val.{Fits}
 use borrow.Author.Tests.{leb-true, leb-false, lt-ltb, le-ltb, eq-eqb, ne-eqb}
 use Rattle.cbor_item.specs.Bytes as cbor
 use Rattle.cbor_item.specs.Bytes.{AreBytes, part}
@@ -19,21 +17,17 @@ use Rattle.descriptor.specs.declared.Reading.the-variants as reading
 use Rattle.descriptor.specs.Reader.{GrantSeen, grantAt, Seen, Answer, read, structure, validity, readOf}
 use Rattle.descriptor.specs.View.{descriptorView}
 use Rattle.descriptor.specs.Answer.{fieldsOf, readingOf, numberOf}
-use Rattle.descriptor.proofs.Promises.{reads-exactly}
+use Rattle.descriptor_laws.proofs.Promises.{reads-exactly}
+use Rattle.descriptor_laws.proofs.places.PlaceLaws.{terminal-part}
 use Rattle.descriptor.proofs.WordLaws.{terminal-length}
+use Rattle.descriptor.proofs.ValueSteps.{lent-levels}
 use Rattle.narrowing.specs.declared.Narrowing.{Narrowing}
 use Rattle.narrowing.specs.declared.Narrowing.the-variants.{Accepted, NoParent, Structure, Validity, Constrained, Period, NotCovered}
 use Rattle.narrowing.specs.declared.search.Found.{Found}
 use Rattle.narrowing.specs.declared.search.Found.the-variants.{At, Nothing}
 use Rattle.narrowing.specs.Scan.{below, escapeIn, orNext, comparedIn, firstIn}
 use Rattle.narrowing.specs.Narrow.{compared, withParent, underParent, narrow}
-use Rattle.narrowing.proofs.StandLaws.{terminal-part}
-use Rattle.narrowing.proofs.SearchSteps.{lent-levels}
 use Rattle.narrowing.proofs.AgreeLaws.{scan-agrees}
-
--- what is known of a lent slice: its elements are bytes
-pub are-bytes : (s : List ℕ) → ((i : ℕ) → Fits w8 (getD s i 0)) → AreBytes s
-are-bytes s h i = omega (arith, h i)
 
 -- ---- both descriptors
 

@@ -1,33 +1,28 @@
 -- Laws of the masks that are noted of the grants of a parent (specs/Scan.antt): they tell which rules cover a pattern. Assumes nothing.
 use mathlib.Core.Path.{_≡_, refl, sym, ap, ap₂, _∙_}
-use mathlib.Core.Bool.{Bool, true, false, cond, _&&_, _||_, and-false}
-use mathlib.Core.List.{List, [], _∷_, _++_}
-use Prim.Native.Nat.{ℕ, zero, suc, _+_, _*_, _-_, _^_, _≤_, _<_}
-use native.Mathlib.Nat.{sub-zero, zero-sub, suc-sub-suc, zero-div}
+use mathlib.Core.Bool.{Bool, true, false, cond, _&&_, _||_, and-true, and-false, or-false}
+use mathlib.Core.List.{List, [], _∷_}
+use Prim.Native.Nat.{ℕ, zero, suc, _+_, _*_, _^_, _≤_, _<_}
+use native.Mathlib.Nat.{zero-div}
 use native.Mathlib.Omega.{arith}
 use lib.ListN.{length, getD, take, drop, replicate, length-append, length-replicate}
-use lib.Seq.{take-nil, drop-drop, take-at}
 use lib.Dec.{leb}
 use lib.Bits.{bitOr}
-use Rattle.cbor_item.specs.Bytes.{part}
 use Rattle.cbor_item.specs.Reads.{got}
-use Rattle.resource.specs.Identifier.{isTerminal}
-use Rattle.resource.specs.Level.{same, isName, levels, levelsOk, joined}
+use Rattle.resource.specs.Level.{same, isName, levels, joined}
 use Rattle.resource.specs.Pattern.{Levels, done, deep, name, star, Pattern, IsPattern, NamesIn, spelled, patternText, before}
-use Rattle.resource.specs.Text.{wellFormed, isPattern, longest, patternOk, levelsOf, patternIn, patternOf}
+use Rattle.resource.specs.Text.{isPattern, longest, patternOk, levelsOf, patternIn, patternOf}
 use Rattle.resource.specs.Cover.{covers}
-use Rattle.resource.proofs.Flags.{and-left, and-right, no-flag, same-refl}
-use Rattle.resource.proofs.LevelLaws.{levels-one, levels-more}
-use Rattle.resource.proofs.ScanLaws.{Parted, last, more, parted, drop-more}
+use Rattle.resource.proofs.Flags.{and-right, no-flag, same-refl}
 use Rattle.resource.proofs.Promises.{patterns-exact, patterns-once}
 use Rattle.descriptor.specs.Reader.{hasMode, GrantSeen, grantAt}
 use Rattle.descriptor.proofs.WordLaws.{terminal-length, pattern-short}
+use Rattle.descriptor_laws.proofs.grants.LevelLaws.{pattern-levels}
 use Rattle.narrowing.specs.declared.range.Range.{Range}
 use Rattle.narrowing.specs.Escape.{Rule, patternCovers, covered, canTake, deepest}
 use Rattle.narrowing.specs.Range.{inRange, most, textRange, marked}
 use Rattle.narrowing.specs.Scan.{below, notedAt, zeros}
 use Rattle.narrowing.specs.Narrow.{ruleOf, rulesAt}
-use Rattle.narrowing.proofs.RuleLaws.{or-false}
 use Rattle.narrowing.proofs.RangeLaws.{range-covers, marked-length, marked-at, or-mode}
 
 -- ---- the text of a pattern
@@ -36,21 +31,10 @@ use Rattle.narrowing.proofs.RangeLaws.{range-covers, marked-length, mar
 abbrev pub patternWith : List ℕ → List ℕ → Pattern
 patternWith t p = record { terminal = t; below = levelsOf (levels p) }
 
--- a well-formed text that is parted is a terminal id of 45 bytes, "/" and its levels
-parted-pattern : {x : List ℕ} → Parted x → wellFormed true (levels x) ≡ true → patternIn (levels x) ≡ patternWith (take 45 x) (drop 46 x)
-unfolding levelsOk
-parted-pattern (last l h) e = no-flag (and-right (isTerminal l) false (rw (levels-one l h) at e))
-parted-pattern (more l t h) e =
-    let id : isTerminal l ≡ true = and-left (isTerminal l) (levelsOk true (levels t)) (rw (levels-more l t h) at e) in
-    let size : length l ≡ 45 = terminal-length l id in
-    let next : 46 ≡ length l + 1 = omega arith in
-    ap patternIn (levels-more l t h)
-    ∙ sym (ap₂ patternWith (take-at l (47 ∷ t) 45 size) (ap (λ (n : ℕ). drop n (l ++ (47 ∷ t))) next ∙ drop-more l t))
-
 -- the pattern that a text spells has its first 45 bytes as the terminal id, and the levels of what follows the 46th
 pub pattern-parts : (x : List ℕ) → patternOk x ≡ true → patternOf x ≡ patternWith (take 45 x) (drop 46 x)
-unfolding patternOk isPattern patternOf
-pattern-parts x e = parted-pattern (parted x) (and-right (leb (length x) longest) (isPattern x) e)
+unfolding patternOf
+pattern-parts x e = ap patternIn (pattern-levels x e)
 
 -- a name has a character
 name-some : (n : List ℕ) → isName n ≡ true → 1 ≤ length n
@@ -74,18 +58,6 @@ pattern-few x e =
     let size : length x ≡ length (patternText p) = ap length (r .2) in
     rw same-pattern
     (omega (arith, size, pattern-short x e .1, terminal-length (p .terminal) (r .1 .terminal), spelled-long (p .terminal) (p .below) (r .1 .names)))
-
--- what is dropped of the first n is what the first n - m of the rest are
-drop-take : (m n : ℕ) (l : List ℕ) → drop m (take n l) ≡ take (n - m) (drop m l)
-drop-take zero n l = rw (sub-zero n)
-drop-take (suc m) zero l = rw (zero-sub (suc m))
-drop-take (suc m) (suc n) [] = sym (take-nil (suc n - suc m))
-drop-take (suc m) (suc n) (x ∷ l) = rw (suc-sub-suc n m) (drop-take m n l)
-
--- the levels of a pattern's part are what follows its 46th byte
-pub part-below : (s : List ℕ) (a n : ℕ) → drop 46 (part s a n) ≡ part s (a + 46) (n - 46)
-unfolding part
-part-below s a n = drop-take 46 n (drop a s) ∙ ap (take (n - 46)) (drop-drop 46 a s)
 
 -- ---- the rules that stand in bytes
 
@@ -117,11 +89,6 @@ stand-few s t (no-more at) = omega arith
 stand-few s t (one-more n at next g rs e f r) = omega (arith, f .few, stand-few s t r)
 
 -- ---- the masks
-
--- a test and true is the test
-and-true : (a : Bool) → (a && true) ≡ a
-and-true true = refl
-and-true false = refl
 
 -- one grant that is read is noted
 noted-step : (s p d : List ℕ) (n at next : ℕ) (g : GrantSeen) → grantAt s at ≡ got g next

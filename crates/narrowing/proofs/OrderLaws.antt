@@ -1,19 +1,17 @@
 -- The order of narrowing's answers: 21, then 1 and 2, then 19. Assumes nothing.
-use mathlib.Core.Path.{_≡_, refl, sym, ap, _∙_}
-use mathlib.Core.Bool.{Bool, true, false, cond, _&&_}
+use mathlib.Core.Path.{_≡_, refl, sym, ap, _∙_, subst}
+use mathlib.Core.Bool.{Bool, true, false, not, cond, _&&_, _||_}
 use mathlib.Core.List.{List}
 use mathlib.Core.Option.{Option, none, some}
-use Prim.Native.Nat.{ℕ, _≤_}
+use Prim.Native.Nat.{ℕ}
 use native.Mathlib.Omega.{arith}
-use Rattle.cbor_item.specs.Bytes.{AreBytes}
+use lib.Dec.{T, eqb}
 use Rattle.resource.proofs.Flags.{and-left, and-right, and-both}
-use Rattle.descriptor.specs.Model.{Descriptor, encode}
-use Rattle.descriptor.specs.Allowed.{Allowed}
 use Rattle.descriptor.specs.Reader.{Seen, Answer, read, structure, validity, readOf}
 use Rattle.descriptor.specs.View.{descriptorView}
-use Rattle.descriptor.proofs.Promises.{reads-exactly}
+use Rattle.descriptor_laws.proofs.Promises.{reads-exactly}
 use Rattle.narrowing.specs.declared.Narrowing.{Narrowing}
-use Rattle.narrowing.specs.declared.Narrowing.the-variants.{Accepted, NoParent, Structure, Validity, Constrained, Period, NotCovered}
+use Rattle.narrowing.specs.declared.Narrowing.the-variants.{NoParent, Constrained, Period}
 use Rattle.narrowing.specs.Escape.{Rule, firstRule}
 use Rattle.narrowing.specs.Narrow.{narrow, compared, underParent, withParent, unconstrained, periodWithin, rulesIn, answerAt, numbersOf}
 use Rattle.narrowing.specs.Promises.{NoPairs, NoParentExactly, ChildExactly, ConstrainedExactly}
@@ -23,39 +21,37 @@ use Rattle.narrowing.proofs.ReadLaws.{pairs-none}
 abbrev answer : Narrowing → ℕ
 answer n = numbersOf n .answer
 
--- an answer that is none of 1, 2, 19 and 21
-pub record Later (n : Narrowing) : Type 0 where
-  pub not-structure : answer n ≡ 1 → ⊥
-  pub not-validity : answer n ≡ 2 → ⊥
-  pub not-constrained : answer n ≡ 19 → ⊥
-  pub not-parent : answer n ≡ 21 → ⊥
+-- a number that is none of 1, 2, 19 and 21
+abbrev Later : ℕ → Type 0
+Later k = T (not (eqb k 1 || (eqb k 2 || (eqb k 19 || eqb k 21))))
 
 -- the grants answer 0 or 20
-grants-later : (qs cs : List Rule) (o : Option ℕ) → Later (answerAt qs cs o)
-grants-later qs cs none = record { not-structure = λ e. omega (arith, e); not-validity = λ e. omega (arith, e); not-constrained = λ e. omega (arith, e); not-parent = λ e. omega (arith, e) }
-grants-later qs cs (some i) = record { not-structure = λ e. omega (arith, e); not-validity = λ e. omega (arith, e); not-constrained = λ e. omega (arith, e); not-parent = λ e. omega (arith, e) }
+grants-later : (qs cs : List Rule) (o : Option ℕ) → Later (answer (answerAt qs cs o))
+grants-later qs cs none = tt
+grants-later qs cs (some i) = tt
 
 -- and the period 18
-period-later : (b : Bool) (n : Narrowing) → Later n → Later (cond b n Period)
+period-later : (b : Bool) (n : Narrowing) → Later (answer n) → Later (answer (cond b n Period))
 period-later true n l = l
-period-later false n l = record { not-structure = λ e. omega (arith, e); not-validity = λ e. omega (arith, e); not-constrained = λ e. omega (arith, e); not-parent = λ e. omega (arith, e) }
+period-later false n l = tt
 
 -- the answer for two that read, after the constraints
-abbrev after : List ℕ → Seen → List ℕ → Seen → Narrowing
+abbrev pub after : List ℕ → Seen → List ℕ → Seen → Narrowing
 after s v t w = cond (periodWithin v w) (answerAt (rulesIn s v) (rulesIn t w) (firstRule (rulesIn s v) (rulesIn t w))) Period
 
-after-later : (s : List ℕ) (v : Seen) (t : List ℕ) (w : Seen) → Later (after s v t w)
+-- is such a number too
+after-later : (s : List ℕ) (v : Seen) (t : List ℕ) (w : Seen) → Later (answer (after s v t w))
 after-later s v t w = period-later (periodWithin v w) _ (grants-later (rulesIn s v) (rulesIn t w) (firstRule (rulesIn s v) (rulesIn t w)))
 
 -- the constraints come before it
-compared-as : (s : List ℕ) (v : Seen) (t : List ℕ) (w : Seen) → compared s v t w ≡ cond (unconstrained v && unconstrained w) (after s v t w) Constrained
+pub compared-as : (s : List ℕ) (v : Seen) (t : List ℕ) (w : Seen) → compared s v t w ≡ cond (unconstrained v && unconstrained w) (after s v t w) Constrained
 unfolding compared
 compared-as s v t w = refl
 
 -- with the constraints, none of 1, 2 and 21 is answered
-with-constraints : (b : Bool) (n : Narrowing) → Later n
+with-constraints : (b : Bool) (n : Narrowing) → Later (answer n)
     → (answer (cond b n Constrained) ≡ 1 → ⊥) × (answer (cond b n Constrained) ≡ 2 → ⊥) × (answer (cond b n Constrained) ≡ 21 → ⊥)
-with-constraints true n l = (l .not-structure, l .not-validity, l .not-parent)
+with-constraints true n l = (λ e. subst Later e l, λ e. subst Later e l, λ e. subst Later e l)
 with-constraints false n l = (λ e. omega (arith, e), λ e. omega (arith, e), λ e. omega (arith, e))
 
 -- so it is for two that read
@@ -72,7 +68,7 @@ unfolding narrow
 begins s t = refl
 
 -- and goes on with the child
-goes-on : (s t : List ℕ) (v : Seen) → readOf s ≡ read v → narrow s t ≡ underParent s v t (readOf t)
+pub goes-on : (s t : List ℕ) (v : Seen) → readOf s ≡ read v → narrow s t ≡ underParent s v t (readOf t)
 goes-on s t v e = begins s t ∙ ap (λ (r : Answer). withParent s r t) e
 
 -- 21 exactly when the parent doesn't read
@@ -110,8 +106,9 @@ order-child s t v e =
 -- 19 exactly when a constraint pair stands in either
 pub order-constrained : ConstrainedExactly
 order-constrained s t p c bs bt fp fc es et = (
-  λ h n. after-later s v t w .not-constrained
-      (ap answer (sym (e ∙ ap (λ (b : Bool). cond b (after s v t w) Constrained) (and-both (unconstrained v) (unconstrained w) (pairs-none p .1 (n .0)) (pairs-none c .1 (n .1)))) ∙ h)),
+  λ h n. subst Later
+      (ap answer (sym (e ∙ ap (λ (b : Bool). cond b (after s v t w) Constrained) (and-both (unconstrained v) (unconstrained w) (pairs-none p .1 (n .0)) (pairs-none c .1 (n .1)))) ∙ h))
+      (after-later s v t w),
   λ f. e ∙ ap (λ (b : Bool). cond b (after s v t w) Constrained) (go f (unconstrained v && unconstrained w) refl),
 )
   where

@@ -2,38 +2,30 @@
 use mathlib.Core.Path.{_≡_, refl, sym, ap, ap₂, _∙_}
 use mathlib.Core.Logic.{_↔_}
 use mathlib.Core.Bool.{true}
-use mathlib.Core.List.{List, [], _∷_, nil≢cons}
-use mathlib.Core.Option.{Option, none, some}
-use Prim.Native.Nat.{ℕ, zero, suc, _+_, _<_}
+use mathlib.Core.List.{List, [], _∷_}
+use Prim.Native.Nat.{ℕ, suc, _+_}
 use native.Mathlib.Numerals.{add-one}
 use native.Mathlib.Nat.{add-zero}
 use native.Mathlib.Omega.{arith}
 use borrow.Author.Tests.{eqb-true, eq-eqb}
-use lib.ListN.{length, getD, drop}
+use lib.ListN.{length, drop}
 use Rattle.cbor_item.specs.Bytes.{AreBytes}
 use lib.Bits.{bitOr}
 use Rattle.cbor_item.specs.Reads.{got}
 use Rattle.resource.specs.Text.{patternOf}
-use Rattle.descriptor.specs.Model.{Pair, Grant, Descriptor, encode}
+use Rattle.descriptor.specs.Model.{Grant, Descriptor, encode}
 use Rattle.descriptor.specs.Allowed.{Formed}
 use Rattle.descriptor.specs.Reader.{GrantSeen, Sum, pairsOf, grantAt}
 use Rattle.descriptor.specs.View.{maskOf, countOf, sumFrom, grantView, grantsView, descriptorView}
 use Rattle.descriptor.specs.Promises.{grantPlace}
-use Rattle.descriptor.proofs.Promises.{grants-walk}
+use Rattle.descriptor_laws.proofs.Promises.{grants-walk}
+use Rattle.descriptor_laws.proofs.grants.WalkLaws.{dropped, count-of, pairs-of}
 use Rattle.narrowing.specs.Escape.{Rule}
 use Rattle.narrowing.specs.Narrow.{ruleOf, rulesAt, rulesIn, unconstrained}
-use Rattle.narrowing.specs.Promises.{pairCount, NoPairs, rulesOf}
+use Rattle.narrowing.specs.Promises.{NoPairs, rulesOf}
 use Rattle.narrowing.proofs.RuleLaws.{ruleFor}
 
 -- ---- rules
-
--- the first of the grants from a place on, and those after it
-pub dropped : (gs : List Grant) (i : ℕ) (g : Grant) (hs : List Grant) → drop i gs ≡ g ∷ hs
-    → (i < length gs) × (getD gs i g ≡ g) × (drop (suc i) gs ≡ hs)
-dropped [] zero g hs e = absurd (nil≢cons e)
-dropped [] (suc i) g hs e = absurd (nil≢cons e)
-dropped (f ∷ gs) zero g hs e = (omega arith, cc, cc)
-dropped (f ∷ gs) (suc i) g hs e = let r = dropped gs i g hs e in (omega (arith, r .0), r .1, r .2)
 
 -- one grant that is read is one rule
 rules-step : (s : List ℕ) (n at next : ℕ) (v : GrantSeen) → grantAt s at ≡ got v next → rulesAt s (suc n) at ≡ ruleOf s v ∷ rulesAt s n next
@@ -53,21 +45,11 @@ rules-from d b q (g ∷ hs) i e =
     rules-step (encode d) (length hs) (grantPlace d i) (grantPlace d (i + 1)) (grantView (grantPlace d i) g) (w .0)
     ∙ ap₂ (λ (c : Rule) (cs : List Rule). c ∷ cs) here (rules-from d b q hs (i + 1) (rw add-one (r .2)))
 
--- as many grants are seen as there are
-pub count-of : (at : ℕ) (gs : List Grant) → grantsView at gs .count ≡ length gs
-count-of at [] = refl
-count-of at (g ∷ gs) = refl
-
 -- the rules read of a descriptor are those of its grants
 pub rules-in : (d : Descriptor) → AreBytes (encode d) → Formed d → rulesIn (encode d) (descriptorView 0 d) ≡ rulesOf (d .payload .grants)
 rules-in d b q = ap₂ (rulesAt (encode d)) (count-of _ (d .payload .grants)) (sym (add-zero _)) ∙ rules-from d b q (d .payload .grants) 0 refl
 
 -- ---- constraint pairs
-
--- the number of a grant's pairs
-pairs-of : (ps : Option (List Pair)) → pairsOf (countOf ps) ≡ pairCount ps
-pairs-of none = refl
-pairs-of (some ps) = refl
 
 -- there is no pair in a sum exactly when there was none before and no grant has one
 sum-none : (sum : Sum) (gs : List Grant) → (sumFrom sum gs .pairs ≡ 0) ↔ ((sum .pairs ≡ 0) × NoPairs gs)

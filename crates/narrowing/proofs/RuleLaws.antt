@@ -1,8 +1,8 @@
 -- The rules of a list of allowed grants admit what the grants admit. Assumes nothing.
 use mathlib.Core.Path.{_≡_, refl, sym, ap, ap₂, _∙_, subst}
-use mathlib.Core.Bool.{Bool, true, false, _&&_, _||_}
+use mathlib.Core.Bool.{Bool, true, _&&_, _||_}
 use mathlib.Core.List.{List, [], _∷_}
-use Prim.Native.Nat.{ℕ, zero, suc, _+_, _^_, _<_}
+use Prim.Native.Nat.{ℕ, zero, suc, _<_}
 use native.Mathlib.Omega.{arith}
 use borrow.Author.Tests.{eqb-true}
 use lib.ListN.{length, getD}
@@ -13,10 +13,9 @@ use Rattle.resource.specs.Text.{isPattern, longest, patternOk, patternOf}
 use Rattle.resource.proofs.Promises.{patterns-exact, patterns-once}
 use Rattle.resource.proofs.Flags.{and-left, and-right, or-elim, no-flag}
 use Rattle.descriptor.specs.Model.{Grant}
-use Rattle.descriptor.specs.Allowed.{isIn, ModeOk, seenWith, ModesOk, GrantOk, All}
-use Rattle.descriptor.specs.Reader.{hasMode}
-use Rattle.descriptor.specs.View.{maskFrom, maskOf}
-use Rattle.descriptor.proofs.ModeLaws.{Marks, no-marks, add-mark}
+use Rattle.descriptor.specs.Allowed.{isIn, ModeOk, seenWith, GrantOk, All}
+use Rattle.descriptor.specs.View.{maskOf}
+use Rattle.descriptor_laws.proofs.values.ModeLaws.{mask-exact}
 use Rattle.narrowing.specs.Meaning.{grantAdmits, anyAdmits, Escapes}
 use Rattle.narrowing.specs.Escape.{Rule, ruleAt}
 use Rattle.narrowing.specs.Promises.{rulesOf}
@@ -25,31 +24,7 @@ use Rattle.narrowing.proofs.SearchLaws.{RuleEscape, ArePatterns}
 
 -- ---- modes
 
--- one test more in a row of tests
-or-turn : (a b c : Bool) → ((a || b) || c) ≡ (b || (a || c))
-or-turn true true c = refl
-or-turn true false c = refl
-or-turn false b c = refl
-
--- a test or false is the test
-pub or-false : (a : Bool) → (a || false) ≡ a
-or-false true = refl
-or-false false = refl
-
--- a mask that has exactly the modes seen has after further modes exactly those and these
-mask-has : (mask : ℕ) (seen ms : List ℕ) (k : ℕ) → Marks mask seen → AllFrom ModeOk seenWith seen ms → k < 4
-    → hasMode (maskFrom mask ms) k ≡ (isIn k seen || isIn k ms)
-unfolding maskFrom isIn
-mask-has mask seen [] k i a h = i .bits k h ∙ sym (or-false (isIn k seen))
-mask-has mask seen (m ∷ ms) k i a h =
-    mask-has (mask + 2 ^ m) (m ∷ seen) ms k (add-mark mask seen m i (a .0)) (a .1) h ∙ or-turn (eqb k m) (isIn k seen) (isIn k ms)
-
--- the mask of allowed modes has exactly those
-mask-exact : (ms : List ℕ) (k : ℕ) → ModesOk ms → k < 4 → isIn k ms ≡ hasMode (maskOf ms) k
-unfolding isIn
-mask-exact ms k o h = sym (mask-has 0 [] ms k no-marks (o .each) h)
-
--- each of them is below 4
+-- each of some allowed modes is below 4
 modes-known : (seen ms : List ℕ) (k : ℕ) → AllFrom ModeOk seenWith seen ms → isIn k ms ≡ true → k < 4
 unfolding isIn
 modes-known seen [] k a e = no-flag e
@@ -73,7 +48,7 @@ ruleFor g = record { mask = maskOf (g .modes); pattern = patternOf (g .pattern) 
 
 -- it admits what the grant admits
 rule-admits : (g : Grant) (m : ℕ) (x : Path) → GrantOk g → m < 4 → grantAdmits g m x ≡ ruleAdmits (ruleFor g) m x
-rule-admits g m x o h = ap (λ (b : Bool). b && admits (patternOf (g .pattern)) x) (mask-exact (g .modes) m (o .modes) h)
+rule-admits g m x o h = ap (λ (b : Bool). b && admits (patternOf (g .pattern)) x) (sym (mask-exact (g .modes) (o .modes) .1 m h))
 
 -- and so do the rules of grants
 rules-admit : (gs : List Grant) (m : ℕ) (x : Path) → All GrantOk gs → m < 4 → anyAdmits gs m x ≡ rulesAdmit (rulesOf gs) m x

@@ -11,16 +11,13 @@ use lib.Seq.{getD-drop}
 use lib.Dec.{eqb}
 use borrow.Author.Tests.{not-true, not-false}
 use Rattle.cbor_item.specs.Bytes.{part, same}
-use Rattle.cbor_item.specs.Reads.{Got, got, refused, bind}
-use Rattle.cbor_item.specs.Head.{spanOf}
+use Rattle.cbor_item.specs.Reads.{Got, got, refused}
 use Rattle.resource.specs.Level.{levels}
 use Rattle.resource.specs.Pattern.{endsDeep}
-use Rattle.resource.specs.Text.{patternOk, levelsOf}
-use Rattle.descriptor.specs.Keys.{kResourcePattern}
+use Rattle.resource.specs.Text.{levelsOf}
 use Rattle.descriptor.specs.Reader.{hasMode, GrantSeen, grantAt}
 use Rattle.descriptor.proofs.LoopLaws.{same-more}
-use Rattle.descriptor.proofs.GrantBounds.{Holds, held, holds-bind, holds-guard, WordTo, word-bounds}
-use Rattle.descriptor.proofs.WordLaws.{pattern-short}
+use Rattle.descriptor.proofs.ValueSteps.{lent-levels}
 use Rattle.narrowing.specs.declared.range.Range.{Range}
 use Rattle.narrowing.specs.declared.search.Found.the-variants.{At, Nothing}
 use Rattle.narrowing.specs.Escape.{least, orElse}
@@ -112,36 +109,6 @@ pub same-parts : (s t : List ℕ) (a b i : ℕ) → a + i < length s → b + i <
 unfolding part
 same-parts s t a b i h k =
     rw (← getD-drop a s i 0, ← getD-drop b t i 0) (same-more (drop a s) (drop b t) i (omega (arith, length-drop a s)) (omega (arith, length-drop b t)))
-
--- ---- a grant that was read
-
--- what is known of the pattern of a grant: it has at least 46 bytes and lies within s
-abbrev pub PatternIn : List ℕ → GrantSeen → ℕ → Type 0
-PatternIn s g n = (46 ≤ g .pattern .len) × (g .pattern .start + g .pattern .len ≤ length s)
-
--- a reader of which nothing is said, and then another
-then-holds : {R Q : Type 0} (P : Q → ℕ → Type 0) (o : Got R) (k : R → ℕ → Got Q) → ((r : R) (n : ℕ) → Holds P (k r n)) → Holds P (bind o k)
-unfolding bind
-then-holds P (got r n) k f = f r n
-then-holds P refused k f = tt
-
--- the pattern of a grant is such a one
-pattern-in : (s : List ℕ) (at : ℕ) → Holds (PatternIn s) (grantAt s at)
-unfolding grantAt
-pattern-in s at =
-    then-holds (PatternIn s) _ _ (λ c n. then-holds (PatternIn s) _ _ (λ mask m. then-holds (PatternIn s) _ _ (λ pairs k.
-    holds-bind (WordTo s (k + length kResourcePattern) 46) (PatternIn s) _ _
-    (holds-guard (WordTo s (k + length kResourcePattern) 46) _ _ (λ t. word-bounds patternOk 46 (λ c e. pattern-short c e .0) s (k + length kResourcePattern)))
-    (λ pattern p q. holds-guard (PatternIn s) _ _ (λ t. (q .1, omega (arith, q .0 .ends, q .0 .fits)))))))
-
--- the same of an answer
-pub pattern-room : {g : GrantSeen} {n : ℕ} (s : List ℕ) (at : ℕ) → got g n ≡ grantAt s at → PatternIn s g n
-pattern-room s at e = held (PatternIn s) (pattern-in s at) e
-
--- what the code takes of a pattern are its levels
-pub lent-levels : (s : List ℕ) (start len : ℕ) → take ((start + len) - (start + 46)) (drop (start + 46) s) ≡ below s (spanOf start len)
-unfolding part
-lent-levels s start len = let e : (start + len) - (start + 46) ≡ len - 46 = omega arith in rw e
 
 -- ---- noting
 

@@ -1,31 +1,27 @@
 -- The rules of an allowed descriptor stand in its encoding, each with the terminal id of the descriptor, which stands there too. Assumes nothing.
 use mathlib.Core.Path.{_≡_, refl, sym, ap, _∙_, subst}
 use mathlib.Core.Bool.{true}
-use mathlib.Core.List.{List, [], _∷_, _++_}
+use mathlib.Core.List.{List, [], _∷_}
 use Prim.Native.Nat.{ℕ, _+_, _≤_}
 use native.Mathlib.Numerals.{add-one}
 use native.Mathlib.Nat.{add-zero}
-use native.Mathlib.Omega.{arith}
 use lib.ListN.{length, take, drop}
-use Rattle.cbor_item.specs.Bytes.{AreBytes, Has, part}
-use Rattle.cbor_item.specs.Encoding.{head}
-use Rattle.cbor_item.proofs.BytesLaws.{has-left, has-right, has-part, all-has}
+use Rattle.cbor_item.specs.Bytes.{AreBytes, part}
 use Rattle.resource.specs.Pattern.{before}
 use Rattle.resource.specs.Text.{patternOk, patternOf}
-use Rattle.descriptor.specs.Keys.{kTerminalId, kDescriptorId, kSubjectFayId}
-use Rattle.descriptor.specs.Model.{Grant, Payload, Descriptor, encBytes, encText, encodePayload, encode}
+use Rattle.descriptor.specs.Model.{Grant, Descriptor, encode}
 use Rattle.descriptor.specs.Allowed.{GrantOk, All, Formed}
-use Rattle.descriptor.specs.Reader.{GrantSeen, Seen, read, readOf, beforePayload}
-use Rattle.descriptor.specs.View.{encOpening, encMiddle, keysOf, grantView, descriptorView}
+use Rattle.descriptor.specs.Reader.{GrantSeen, Seen, read, readOf}
+use Rattle.descriptor.specs.View.{grantView, descriptorView}
 use Rattle.descriptor.specs.Promises.{grantPlace}
-use Rattle.descriptor.proofs.Promises.{reads-exactly, grants-walk}
-use Rattle.descriptor.proofs.WordLaws.{terminal-length}
-use Rattle.descriptor.proofs.PayloadLaws.{pieces-encode}
-use Rattle.descriptor.proofs.DescriptorLaws.{halves-encode}
+use Rattle.descriptor_laws.proofs.Promises.{reads-exactly, grants-walk}
+use Rattle.descriptor_laws.proofs.grants.GrantsLaws.{OwnedBy}
+use Rattle.descriptor_laws.proofs.grants.WalkLaws.{dropped, count-of}
+use Rattle.descriptor_laws.proofs.grants.LevelLaws.{part-below}
+use Rattle.descriptor_laws.proofs.places.PlaceLaws.{terminal-part}
 use Rattle.narrowing.specs.Escape.{Rule}
 use Rattle.narrowing.specs.Narrow.{rulesAt, rulesIn}
-use Rattle.narrowing.proofs.ReadLaws.{dropped, count-of}
-use Rattle.narrowing.proofs.NotedLaws.{patternWith, pattern-parts, pattern-few, part-below, Fits, Stand, no-more, one-more, stand-rules}
+use Rattle.narrowing.proofs.NotedLaws.{patternWith, pattern-parts, pattern-few, Fits, Stand, no-more, one-more, stand-rules}
 
 -- a grant that was seen in s fits where its part of s is an allowed pattern that begins with t
 fits-of : (s t x : List ℕ) (g : GrantSeen) → part s (g .pattern .start) (g .pattern .len) ≡ x → patternOk x ≡ true → take 45 x ≡ t → Fits s t g
@@ -35,17 +31,13 @@ fits-of s t x g e o b =
           ap patternOf e ∙ pattern-parts x o
           ∙ ap (λ (u : List ℕ). patternWith u (drop 46 x)) b
           ∙ ap (λ (y : List ℕ). patternWith t (drop 46 y)) (sym e)
-          ∙ ap (patternWith t) (part-below s (g .pattern .start) (g .pattern .len));
+          ∙ ap (patternWith t) (sym (part-below s (g .pattern .start) (g .pattern .len)));
       few = subst (λ (y : List ℕ). before (patternOf y .below) ≤ 105) (sym e) (pattern-few x o);
     }
 
--- each begins with the terminal id t
-abbrev Own : List ℕ → List Grant → Type 0
-Own t gs = All (λ (g : Grant). take 45 (g .pattern) ≡ t) gs
-
 -- the rules of the grants from the i-th on stand from the i-th on
 stand-from : (d : Descriptor) (t : List ℕ) → AreBytes (encode d) → Formed d → (hs : List Grant) (i : ℕ) → drop i (d .payload .grants) ≡ hs
-    → All GrantOk hs → Own t hs → Stand (encode d) t (length hs) (grantPlace d i) (rulesAt (encode d) (length hs) (grantPlace d i))
+    → All GrantOk hs → OwnedBy t hs → Stand (encode d) t (length hs) (grantPlace d i) (rulesAt (encode d) (length hs) (grantPlace d i))
 unfolding rulesAt
 stand-from d t b q [] i e a o = no-more (grantPlace d i)
 stand-from d t b q (g ∷ hs) i e a o =
@@ -69,23 +61,6 @@ stands d b q =
     subst (λ (n : ℕ). Stand s t n (descriptorView 0 d .payload .opening .grants .start) (rulesAt s n (descriptorView 0 d .payload .opening .grants .start)))
     (sym (count-of _ gs))
     (subst (λ (at : ℕ). Stand s t (length gs) at (rulesAt s (length gs) at)) (add-zero _) (stand-from d t b q gs 0 refl (q .payload .grants) (q .payload .own)))
-
--- the terminal id of an allowed descriptor stands in its encoding
-pub terminal-part : (d : Descriptor) → Formed d → part (encode d) (descriptorView 0 d .payload .closing .terminal) 45 ≡ d .payload .terminal
-terminal-part d q =
-    let s : List ℕ = encode d in
-    let t : List ℕ = d .payload .terminal in
-    let whole = subst (Has s 0) (sym (halves-encode d)) (all-has s) in
-    let payload : Has s (0 + length beforePayload) (encodePayload (d .payload))
-    = has-right s 0 beforePayload _ (has-left s 0 (beforePayload ++ encodePayload (d .payload)) _ whole) in
-    let p : Payload = d .payload in
-    let front : List ℕ = encOpening (keysOf p) (p .grants) (p .metadata) (p .issuedAt) in
-    let centre : List ℕ = encMiddle (p .issuer) (p .notAfter) (p .grantor) (p .notBefore) in
-    let rest : List ℕ = (kDescriptorId ++ encBytes (p .id)) ++ (kSubjectFayId ++ encText (p .fay)) in
-    let back : Has s (0 + length beforePayload + length front + length centre) ((kTerminalId ++ encText t) ++ rest)
-    = has-right s _ centre _ (has-right s _ front _ (subst (Has s (0 + length beforePayload)) (sym (pieces-encode (d .payload))) payload)) in
-    let k = has-right s _ (head 3 (length t)) _ (has-right s _ kTerminalId _ (has-left s _ (kTerminalId ++ encText t) rest back)) in
-    ap (part s _) (sym (terminal-length t (q .payload .terminal))) ∙ has-part s _ t k
 
 -- the rules of a descriptor that was read from s stand there with the terminal id that stands there
 abbrev pub OwnStands : List ℕ → Seen → Type 0

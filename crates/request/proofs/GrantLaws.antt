@@ -1,38 +1,35 @@
 -- The first grant that serves, found in the encoding of a descriptor, is the first of its grants that serves (specs/Meaning.antt). Assumes nothing.
 use mathlib.Core.Path.{_≡_, refl, sym, ap, ap₂, _∙_}
 use mathlib.Core.Bool.{Bool, true, false, cond, _&&_, and-comm, and-false}
-use mathlib.Core.List.{List, [], _∷_, nil≢cons}
-use mathlib.Core.Option.{Option, none, some}
-use Prim.Native.Nat.{ℕ, zero, suc, _+_, _-_, _<_}
+use mathlib.Core.List.{List, [], _∷_}
+use Prim.Native.Nat.{ℕ, suc, _+_, _-_, _<_}
 use native.Mathlib.Numerals.{add-one}
 use native.Mathlib.Nat.{add-zero}
-use native.Mathlib.Omega.{arith}
-use lib.ListN.{length, getD, take, drop}
+use lib.ListN.{length, take, drop}
 use lib.Dec.{eqb}
 use Rattle.cbor_item.specs.Bytes.{AreBytes, part, same as sameBytes}
 use Rattle.cbor_item.specs.Reads.{got}
 use Rattle.resource.specs.Pattern.{admits}
 use Rattle.resource.specs.Text.{resourceOk, pathOf, patternOf, levelsMatch}
-use Rattle.descriptor.specs.Model.{Pair, Grant, Descriptor, encode}
+use Rattle.descriptor.specs.Model.{Grant, Descriptor, encode}
 use Rattle.descriptor.specs.Allowed.{isIn, GrantOk, All, Formed}
-use Rattle.descriptor.specs.Reader.{GrantSeen, pairsOf, grantAt}
-use Rattle.descriptor.specs.View.{maskOf, countOf, grantView, grantsView, descriptorView}
+use Rattle.descriptor.specs.Reader.{GrantSeen, grantAt}
+use Rattle.descriptor.specs.View.{maskOf, grantView, descriptorView}
 use Rattle.descriptor.specs.Answer.{fieldsOf}
 use Rattle.descriptor.specs.Promises.{grantPlace}
-use Rattle.descriptor.proofs.Promises.{grants-walk}
+use Rattle.descriptor_laws.proofs.values.ModeLaws.{mask-exact}
+use Rattle.descriptor_laws.proofs.grants.GrantsLaws.{OwnedBy}
+use Rattle.descriptor_laws.proofs.grants.WalkLaws.{dropped, count-of, pairs-of}
+use Rattle.descriptor_laws.proofs.grants.LevelLaws.{same-agree, part-below}
+use Rattle.descriptor_laws.proofs.places.PlaceLaws.{terminal-part}
+use Rattle.descriptor_laws.proofs.Promises.{grants-walk}
 use Rattle.request.specs.declared.search.Matched.{Matched}
 use Rattle.request.specs.declared.search.Matched.the-variants.{Nothing}
 use Rattle.request.specs.Decision.{serves, orNext, firstFrom, matchedOn}
 use Rattle.request.specs.Meaning.{pairCount, grantServes, firstServing}
-use Rattle.request.proofs.MatchLaws.{same-agree, part-below, admits-text, mask-has}
-use Rattle.request.proofs.PlaceLaws.{terminal-part}
+use Rattle.request.proofs.MatchLaws.{admits-text}
 
 -- ---- one grant
-
--- The number of constraint pairs that is seen is that of the grant.
-pairs-of : (ps : Option (List Pair)) → pairsOf (countOf ps) ≡ pairCount ps
-pairs-of none = refl
-pairs-of (some ps) = refl
 
 -- An allowed grant that is seen in b serves a resource id of its terminal exactly where the grant itself serves.
 serves-agree : (b r : List ℕ) (m at : ℕ) (g : Grant) → GrantOk g → resourceOk r ≡ true → m < 4 → sameBytes (take 45 (g .pattern)) (take 45 r) ≡ true
@@ -47,7 +44,7 @@ serves-agree b r m at g o w h t e =
     let whole : admits (patternOf (g .pattern)) (pathOf r) ≡ levelsMatch (drop 46 (g .pattern)) (drop 46 r)
     = admits-text (g .pattern) r (o .pattern) w
     ∙ ap (λ (c : Bool). c && levelsMatch (drop 46 (g .pattern)) (drop 46 r)) (sym (same-agree (take 45 (g .pattern)) (take 45 r)) ∙ t) in
-    ap₂ _&&_ (mask-has g m o h)
+    ap₂ _&&_ (mask-exact (g .modes) (o .modes) .1 m h)
     (ap₂ _&&_ (ap (λ (n : ℕ). eqb n 0) (pairs-of (g .constraints))) (below ∙ sym whole) ∙ and-comm few (admits (patternOf (g .pattern)) (pathOf r)))
 
 -- A grant of another terminal does not serve.
@@ -61,18 +58,6 @@ other-serves r m g o w t =
 
 -- ---- all grants
 
--- Each pattern begins with the terminal id t.
-abbrev Own : List ℕ → List Grant → Type 0
-Own t gs = All (λ (g : Grant). take 45 (g .pattern) ≡ t) gs
-
--- The first of the grants from a place on, and those after it.
-dropped : (gs : List Grant) (i : ℕ) (g : Grant) (hs : List Grant) → drop i gs ≡ g ∷ hs
-    → (i < length gs) × (getD gs i g ≡ g) × (drop (suc i) gs ≡ hs)
-dropped [] zero g hs e = absurd (nil≢cons e)
-dropped [] (suc i) g hs e = absurd (nil≢cons e)
-dropped (f ∷ gs) zero g hs e = (omega arith, cc, cc)
-dropped (f ∷ gs) (suc i) g hs e = let r = dropped gs i g hs e in (omega (arith, r .0), r .1, r .2)
-
 -- One grant that is read serves, or the next ones are searched.
 first-step : (b r : List ℕ) (m n at next i : ℕ) (v : GrantSeen) → grantAt b at ≡ got v next
     → firstFrom b r m (suc n) at i ≡ orNext (serves b r m v) i (v .mask) (firstFrom b r m n next (i + 1))
@@ -81,7 +66,7 @@ first-step b r m n at next i v e = rw (firstFrom, e)
 
 -- For a resource id of the terminal t, the search from the i-th grant on finds the first that serves of the grants from the i-th on.
 first-from : (d : Descriptor) (t r : List ℕ) (m : ℕ) → AreBytes (encode d) → Formed d → resourceOk r ≡ true → m < 4 → sameBytes t (take 45 r) ≡ true
-    → (hs : List Grant) (i : ℕ) → drop i (d .payload .grants) ≡ hs → All GrantOk hs → Own t hs
+    → (hs : List Grant) (i : ℕ) → drop i (d .payload .grants) ≡ hs → All GrantOk hs → OwnedBy t hs
     → firstFrom (encode d) (drop 46 r) m (length hs) (grantPlace d i) i ≡ firstServing hs m (pathOf r) i
 unfolding firstFrom
 first-from d t r m b q w h s [] i e a o = refl
@@ -95,17 +80,12 @@ first-from d t r m b q w h s (g ∷ hs) i e a o =
 
 -- For a resource id of another terminal no grant serves.
 first-none : (t r : List ℕ) (m : ℕ) → resourceOk r ≡ true → sameBytes t (take 45 r) ≡ false
-    → (hs : List Grant) (i : ℕ) → All GrantOk hs → Own t hs → firstServing hs m (pathOf r) i ≡ Nothing
+    → (hs : List Grant) (i : ℕ) → All GrantOk hs → OwnedBy t hs → firstServing hs m (pathOf r) i ≡ Nothing
 first-none t r m w s [] i a o = refl
 first-none t r m w s (g ∷ hs) i a o =
     let other : sameBytes (take 45 (g .pattern)) (take 45 r) ≡ false = ap (λ (x : List ℕ). sameBytes x (take 45 r)) (o .0) ∙ s in
     ap (λ (c : Bool). orNext c i (maskOf (g .modes)) (firstServing hs m (pathOf r) (i + 1))) (other-serves r m g (a .0) w other)
     ∙ first-none t r m w s hs (i + 1) (a .1) (o .1)
-
--- As many grants are seen as there are.
-count-of : (at : ℕ) (gs : List Grant) → grantsView at gs .count ≡ length gs
-count-of at [] = refl
-count-of at (g ∷ gs) = refl
 
 -- The first grant that serves in the encoding of a formed descriptor is the first of its grants that serves.
 pub matched-agree : (d : Descriptor) (r : List ℕ) (m : ℕ) → AreBytes (encode d) → Formed d → resourceOk r ≡ true → m < 4

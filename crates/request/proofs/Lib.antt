@@ -5,7 +5,6 @@ pub mod FitLaws
 pub mod StepLaws
 pub mod ListedLaws
 pub mod HeldLaws
-pub mod PlaceLaws
 pub mod MatchLaws
 pub mod GrantLaws
 pub mod MeaningLaws

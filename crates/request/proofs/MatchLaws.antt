@@ -1,70 +1,18 @@
--- Patterns and resource ids that begin with a terminal id, and the modes of a mask (specs/Meaning.antt). Assumes nothing.
-use mathlib.Core.Path.{_≡_, refl, sym, ap, ap₂, _∙_}
-use mathlib.Core.Bool.{Bool, true, false, _&&_, or-false}
-use mathlib.Core.List.{List, [], _∷_, _++_}
-use Prim.Native.Nat.{ℕ, zero, suc, _+_, _-_, _<_}
-use native.Mathlib.Nat.{sub-zero, zero-sub, suc-sub-suc}
-use native.Mathlib.Omega.{arith}
+-- Patterns and resource ids that begin with a terminal id. Assumes nothing.
+use mathlib.Core.Path.{_≡_, ap₂}
+use mathlib.Core.Bool.{true, false, _&&_}
+use mathlib.Core.List.{List, _∷_}
+use Prim.Native.Nat.{ℕ}
 use lib.ListN.{length, take, drop}
-use lib.Seq.{take-nil, drop-drop, take-at}
-use lib.Dec.{leb, eqb}
-use Rattle.cbor_item.specs.Bytes.{part, same as sameBytes}
-use Rattle.resource.specs.Identifier.{isTerminal}
-use Rattle.resource.specs.Level.{same, levels, levelsOk}
+use lib.Dec.{leb}
+use Rattle.resource.specs.Level.{same, levels}
 use Rattle.resource.specs.Pattern.{admits}
-use Rattle.resource.specs.Text.{wellFormed, isResource, isPattern, longest, resourceOk, patternOk, pathIn, patternIn, pathOf, patternOf, levelsMatch}
-use Rattle.resource.proofs.Flags.{and-left, and-right, no-flag}
-use Rattle.resource.proofs.LevelLaws.{levels-one, levels-more}
-use Rattle.resource.proofs.ScanLaws.{Parted, last, more, parted, drop-more}
-use Rattle.descriptor.specs.Model.{Grant}
-use Rattle.descriptor.specs.Allowed.{isIn, GrantOk}
-use Rattle.descriptor.specs.Reader.{hasMode}
-use Rattle.descriptor.specs.View.{maskOf}
-use Rattle.descriptor.proofs.WordLaws.{terminal-length}
-use Rattle.image.proofs.MaskLaws.{grants-has}
+use Rattle.resource.specs.Text.{isResource, longest, resourceOk, patternOk, pathIn, patternIn, pathOf, patternOf, levelsMatch}
+use Rattle.resource.proofs.Flags.{and-right}
+use Rattle.resource.proofs.ScanLaws.{parted}
+use Rattle.descriptor_laws.proofs.grants.LevelLaws.{parted-levels, pattern-levels}
 
--- ---- parts of bytes
-
--- The two tests for equal lists of bytes agree.
-pub same-agree : (x y : List ℕ) → sameBytes x y ≡ same x y
-unfolding sameBytes same
-same-agree [] [] = refl
-same-agree [] (y ∷ ys) = refl
-same-agree (x ∷ xs) [] = refl
-same-agree (x ∷ xs) (y ∷ ys) = ap (λ (t : Bool). eqb x y && t) (same-agree xs ys)
-
--- The first n elements without the first m are the first n - m of those after the first m.
-drop-take : (m n : ℕ) (l : List ℕ) → drop m (take n l) ≡ take (n - m) (drop m l)
-drop-take zero n l = rw (sub-zero n)
-drop-take (suc m) zero l = rw (zero-sub (suc m))
-drop-take (suc m) (suc n) [] = sym (take-nil (suc n - suc m))
-drop-take (suc m) (suc n) (x ∷ l) = rw (suc-sub-suc n m) (drop-take m n l)
-
--- A part without its first 46 bytes is the part that begins 46 bytes later.
-pub part-below : (s : List ℕ) (a n : ℕ) → part s (a + 46) (n - 46) ≡ drop 46 (part s a n)
-unfolding part
-part-below s a n = sym (drop-take 46 n (drop a s) ∙ ap (take (n - 46)) (drop-drop 46 a s))
-
--- ---- texts
-
--- The levels of a well-formed text that is parted are its first 45 bytes and the levels of what follows the 46th.
-parted-levels : (wild : Bool) {x : List ℕ} → Parted x → wellFormed wild (levels x) ≡ true → levels x ≡ take 45 x ∷ levels (drop 46 x)
-unfolding levelsOk
-parted-levels wild (last l h) e = no-flag (and-right (isTerminal l) false (rw (levels-one l h) at e))
-parted-levels wild (more l t h) e =
-    let id : isTerminal l ≡ true = and-left (isTerminal l) (levelsOk wild (levels t)) (rw (levels-more l t h) at e) in
-    let size : length l ≡ 45 = terminal-length l id in
-    let next : 46 ≡ length l + 1 = omega arith in
-    levels-more l t h
-    ∙ sym
-    (ap₂ (λ (u v : List ℕ). u ∷ levels v) (take-at l (47 ∷ t) 45 size) (ap (λ (n : ℕ). drop n (l ++ (47 ∷ t))) next ∙ drop-more l t))
-
--- So are the levels of a well-formed pattern.
-pattern-levels : (p : List ℕ) → patternOk p ≡ true → levels p ≡ take 45 p ∷ levels (drop 46 p)
-unfolding patternOk isPattern
-pattern-levels p e = parted-levels true (parted p) (and-right (leb (length p) longest) (isPattern p) e)
-
--- And those of a well-formed resource id.
+-- The levels of a well-formed resource id are its first 45 bytes and the levels of what follows the 46th.
 resource-levels : (r : List ℕ) → resourceOk r ≡ true → levels r ≡ take 45 r ∷ levels (drop 46 r)
 unfolding resourceOk isResource
 resource-levels r e = parted-levels false (parted r) (and-right (leb (length r) longest) (isResource r) e)
@@ -74,9 +22,3 @@ pub admits-text : (p r : List ℕ) → patternOk p ≡ true → resourceOk r ≡
     → admits (patternOf p) (pathOf r) ≡ (same (take 45 p) (take 45 r) && levelsMatch (drop 46 p) (drop 46 r))
 unfolding patternOf pathOf levelsMatch
 admits-text p r e f = ap₂ (λ (x y : List (List ℕ)). admits (patternIn x) (pathIn y)) (pattern-levels p e) (resource-levels r f)
-
--- ---- modes
-
--- The mask of an allowed grant has exactly the modes that the grant names.
-pub mask-has : (g : Grant) (m : ℕ) → GrantOk g → m < 4 → hasMode (maskOf (g .modes)) m ≡ isIn m (g .modes)
-mask-has g m o h = grants-has 0 (g ∷ []) m h (o, tt) ∙ or-false (isIn m (g .modes))

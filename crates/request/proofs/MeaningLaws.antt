@@ -17,7 +17,7 @@ use Rattle.descriptor.specs.Model.{Descriptor, encode}
 use Rattle.descriptor.specs.Allowed.{Formed, Allowed}
 use Rattle.descriptor.specs.View.{descriptorView}
 use Rattle.descriptor.specs.Answer.{fieldsOf, readingOf}
-use Rattle.descriptor.proofs.Promises.{reads-exactly}
+use Rattle.descriptor_laws.proofs.Promises.{reads-exactly}
 use Rattle.steps.specs.Key.{isVerdict}
 use Rattle.image.specs.Layout.{idSize}
 use Rattle.image.specs.Image.{reading}
@@ -28,7 +28,7 @@ use Rattle.request.specs.Meaning.{firstServing, factsOfDescriptor, decid
 use Rattle.request.specs.Promises.{DecidedOnDescriptor}
 use Rattle.request.proofs.StepLaws.{decidedBy}
 use Rattle.request.proofs.HeldLaws.{isWell, malformed-first, decided-on-body}
-use Rattle.request.proofs.PlaceLaws.{terminal-part, fay-part}
+use Rattle.descriptor_laws.proofs.places.PlaceLaws.{terminal-part, fay-part}
 use Rattle.request.proofs.GrantLaws.{matched-agree}
 
 -- What well-formed arguments say of the mode and the resource id.

@@ -4,21 +4,19 @@ use mathlib.Core.Bool.{Bool, true, false, _&&_, and-false, and-true, and-assoc}
 use mathlib.Core.List.{List}
 use Prim.Native.Nat.{ℕ, suc, _+_, _-_, _/_, _%_, _^_, _≤_, _<_}
 use native.Mathlib.Omega.{arith}
-use lib.ListN.{length, take, drop}
+use lib.ListN.{take, drop}
 use lib.Dec.{eqb}
 use borrow.Author.Tests.{eq-eqb, ne-eqb}
 use Rattle.cbor_item.specs.Bytes.{part}
-use Rattle.cbor_item.specs.Reads.{Got, got, refused, bind}
+use Rattle.cbor_item.specs.Reads.{got, refused}
 use Rattle.resource.specs.declared.Step.{Step}
 use Rattle.resource.specs.declared.Step.the-variants.{Differ}
 use Rattle.resource.specs.Level.{isDeep}
 use Rattle.resource.specs.Scan.{stepOf}
-use Rattle.resource.specs.Text.{patternOk, levelsMatch}
+use Rattle.resource.specs.Text.{levelsMatch}
 use Rattle.resource.proofs.StepLaws.{Stepped, step-told}
-use Rattle.descriptor.specs.Keys.{kResourcePattern}
 use Rattle.descriptor.specs.Reader.{hasMode, GrantSeen, grantAt}
-use Rattle.descriptor.proofs.GrantBounds.{Holds, held, holds-bind, holds-guard, WordTo, word-bounds}
-use Rattle.descriptor.proofs.WordLaws.{pattern-short}
+use Rattle.descriptor.proofs.ValueSteps.{lent-levels}
 use Rattle.request.specs.declared.search.Matched.the-variants.{IsAt, Nothing}
 use Rattle.request.specs.Decision.{serves, orNext, firstFrom}
 use Rattle.request.specs.Stages.{eligible}
@@ -35,37 +33,7 @@ pub eligible-mode : (mask pairs mode n : ℕ) → pairs ≡ 0 → n ≡ mask / 2
 unfolding eligible hasMode
 eligible-mode mask pairs mode n h e = rw (e, eq-eqb pairs 0 h) (sym (and-true (eqb (mask / 2 ^ mode % 2) 1)))
 
--- ---- a grant that was read
-
--- What is known of the pattern of a grant: it has at least 46 bytes and lies within s.
-abbrev pub PatternIn : List ℕ → GrantSeen → ℕ → Type 0
-PatternIn s g n = (46 ≤ g .pattern .len) × (g .pattern .start + g .pattern .len ≤ length s)
-
--- A reader of which nothing is said, and then another.
-then-holds : {R Q : Type 0} (P : Q → ℕ → Type 0) (o : Got R) (k : R → ℕ → Got Q) → ((r : R) (n : ℕ) → Holds P (k r n)) → Holds P (bind o k)
-unfolding bind
-then-holds P (got r n) k f = f r n
-then-holds P refused k f = tt
-
--- The pattern of a grant is such a one.
-pattern-in : (s : List ℕ) (at : ℕ) → Holds (PatternIn s) (grantAt s at)
-unfolding grantAt
-pattern-in s at =
-    then-holds (PatternIn s) _ _ (λ c n. then-holds (PatternIn s) _ _ (λ mask m. then-holds (PatternIn s) _ _ (λ pairs k.
-    holds-bind (WordTo s (k + length kResourcePattern) 46) (PatternIn s) _ _
-    (holds-guard (WordTo s (k + length kResourcePattern) 46) _ _ (λ t. word-bounds patternOk 46 (λ c e. pattern-short c e .0) s (k + length kResourcePattern)))
-    (λ pattern p q. holds-guard (PatternIn s) _ _ (λ t. (q .1, omega (arith, q .0 .ends, q .0 .fits)))))))
-
--- So is that of a grant that was answered.
-pub pattern-room : {g : GrantSeen} {n : ℕ} (s : List ℕ) (at : ℕ) → got g n ≡ grantAt s at → PatternIn s g n
-pattern-room s at e = held (PatternIn s) (pattern-in s at) e
-
 -- ---- whether it serves
-
--- What the code lends of a pattern are its levels.
-lent-levels : (s : List ℕ) (start len : ℕ) → take ((start + len) - (start + 46)) (drop (start + 46) s) ≡ part s (start + 46) (len - 46)
-unfolding part
-lent-levels s start len = let e : (start + len) - (start + 46) ≡ len - 46 = omega arith in ap (λ (k : ℕ). take k (drop (start + 46) s)) e
 
 -- A grant serves when it is eligible and its levels, as the code lends them, match.
 serves-both : (s r : List ℕ) (mode : ℕ) (g : GrantSeen) (b t : Bool) → b ≡ eligible (g .mask) (g .pairs) mode

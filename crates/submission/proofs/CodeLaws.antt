@@ -4,11 +4,9 @@ use mathlib.Core.Bool.{Bool, true, false, not}
 use mathlib.Core.List.{List}
 use Prim.Native.Nat.{ℕ, suc, _+_, _-_, _*_, _≤_, _<_}
 use native.Mathlib.Omega.{arith}
-use lib.ListN.{length, take, drop, replicate, getD}
-use mir.Syntax.{w8}
-use mir.Val.{Fits}
+use lib.ListN.{length, take, drop, replicate}
 use borrow.Author.Tests.{lt-ltb, le-ltb, le-leb, lt-leb, eq-eqb, ne-eqb, not-true, not-false}
-use Rattle.cbor_item.specs.Bytes.{AreBytes, part, same}
+use Rattle.cbor_item.specs.Bytes.{part, same}
 use Rattle.cbor_item.specs.Encoding.{bigEndian}
 use Rattle.buffer.specs.Write.{putAt, movedUp}
 use Rattle.buffer.specs.Number.{numberIn}
@@ -139,10 +137,6 @@ module _ (d id : List ℕ) (a : Submission) (v : Survey) (e : v ≡ surveyOf d i
   unread-unsound u = ap (chosenUnread a) (sym u ∙ e)
 
 -- ---- what is to be done
-
--- What is known of a lent slice: its elements are bytes.
-pub are-bytes : (s : List ℕ) → ((i : ℕ) → Fits w8 (getD s i 0)) → AreBytes s
-are-bytes s h i = omega (arith, h i)
 
 -- What the code reads is the reading of the body.
 reading-is : (b : List ℕ) (o x : Reading) → o ≡ readingOf (readOf b) → o ≡ x → reading b ≡ x

@@ -1,7 +1,8 @@
 -- `narrow` meets its contract. Assumes nothing.
 use mathlib.Core.Path.{sym, _∙_}
 use native.Mathlib.Omega.{arith}
-use Rattle.narrowing.proofs.NarrowSteps.{are-bytes, terminal-room, narrow-both, narrow-structure, narrow-validity, narrow-no-parent}
+use Rattle.cbor_item.proofs.BytesLaws.{are-bytes}
+use Rattle.narrowing.proofs.NarrowSteps.{terminal-room, narrow-both, narrow-structure, narrow-validity, narrow-no-parent}
 use borrow.Author.Needs.{needs}
 use Rattle.narrowing.proofs.narrow.Statement.{statement}
 use Rattle.narrowing.proofs.narrow.Tie as tie

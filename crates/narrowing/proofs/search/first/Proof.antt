@@ -6,8 +6,8 @@ use lib.ListN.{length}
 use Rattle.descriptor.specs.declared.GrantRead.the-variants.{IsGrant}
 use Rattle.descriptor.specs.Answer.{grantRead}
 use Rattle.descriptor.specs.Reader.{grantAt}
+use Rattle.descriptor.proofs.GrantBounds.{pattern-room}
 use Rattle.narrowing.specs.Scan.{firstIn}
-use Rattle.narrowing.proofs.SearchSteps.{pattern-room}
 use Rattle.narrowing.proofs.NarrowSteps.{first-begin, first-hit, first-next, first-none, first-done}
 use borrow.Author.Needs.{needs}
 use Rattle.narrowing.proofs.search.first.Statement.{statement}

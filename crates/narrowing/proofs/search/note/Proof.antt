@@ -5,9 +5,10 @@ use native.Mathlib.Omega.{arith}
 use lib.ListN.{length}
 use borrow.Author.Needs.{needs}
 use Rattle.descriptor.specs.Answer.{grantRead}
+use Rattle.descriptor.proofs.GrantBounds.{pattern-room}
 use Rattle.narrowing.specs.Scan.{notedAt}
 use Rattle.narrowing.proofs.RangeLaws.{marked-length}
-use Rattle.narrowing.proofs.SearchSteps.{pattern-room, noted-step, noted-stop, noted-done}
+use Rattle.narrowing.proofs.SearchSteps.{noted-step, noted-stop, noted-done}
 use Rattle.narrowing.proofs.search.note.Statement.{statement}
 use Rattle.narrowing.proofs.search.note.Tie as tie
 

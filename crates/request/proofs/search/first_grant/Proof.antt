@@ -13,9 +13,10 @@ use Rattle.resource.proofs.StepLaws.{Goes, Stepped, step-told, deep-told, next-
 use Rattle.descriptor.specs.declared.GrantRead.the-variants.{IsGrant}
 use Rattle.descriptor.specs.Answer.{grantRead}
 use Rattle.descriptor.specs.Reader.{grantAt}
+use Rattle.descriptor.proofs.GrantBounds.{pattern-room}
 use Rattle.request.specs.declared.search.Matched.the-variants.{IsAt}
 use Rattle.request.specs.Decision.{firstFrom}
-use Rattle.request.proofs.SearchLaws.{pattern-room, first-begin, first-done, first-stop, first-not, first-miss, first-hit, differ-told}
+use Rattle.request.proofs.SearchLaws.{first-begin, first-done, first-stop, first-not, first-miss, first-hit, differ-told}
 use Rattle.request.proofs.search.first_grant.Statement.{statement}
 use Rattle.request.proofs.search.first_grant.Tie as tie
 

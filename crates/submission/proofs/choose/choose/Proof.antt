@@ -4,7 +4,8 @@ use native.Mathlib.Omega.{arith}
 use Rattle.cbor_item.specs.Bytes.{AreBytes}
 use Rattle.submission.specs.Places.{SurveyFits}
 use Rattle.submission.proofs.FitLaws.{survey-fits}
-use Rattle.submission.proofs.CodeLaws.{are-bytes, id-room, choice-malformed, choice-read, choice-structure, choice-validity}
+use Rattle.cbor_item.proofs.BytesLaws.{are-bytes}
+use Rattle.submission.proofs.CodeLaws.{id-room, choice-malformed, choice-read, choice-structure, choice-validity}
 use borrow.Author.Needs.{needs}
 use Rattle.submission.proofs.choose.choose.Statement.{statement}
 use Rattle.submission.proofs.choose.choose.Tie as tie

@@ -1,4 +1,4 @@
--- The reader of a signature is exact (specs/Reader.antt). Assumes nothing.
+-- The reader of a signature is exact (specs/Reader.antt of `descriptor`). Assumes nothing.
 use mathlib.Core.Path.{_≡_, refl}
 use mathlib.Core.Logic.{inl, inr, Iff·rfl}
 use mathlib.Core.List.{List, _++_}
@@ -9,12 +9,12 @@ use lib.Dec.{T, eqb→eq, lit<}
 use Rattle.cbor_item.specs.Bytes.{AreBytes}
 use Rattle.cbor_item.specs.Reads.{Reads}
 use Rattle.cbor_item.proofs.ReadsLaws.{recast, seq, keyed, refine}
 use Rattle.descriptor.specs.Keys.{kAlgorithm, kSignatureValue, algorithms}
 use Rattle.descriptor.specs.Model.{Signature, encText, encBytes, encAlgorithm}
 use Rattle.descriptor.specs.Allowed.{ValueOk, SignatureOk}
 use Rattle.descriptor.specs.Reader.{valueFits, signatureAt}
 use Rattle.descriptor.specs.View.{signatureView}
-use Rattle.descriptor.proofs.ValueLaws.{text-exact, bytes-exact, one-exact, algorithms-apart}
+use Rattle.descriptor_laws.proofs.values.ValueLaws.{text-exact, bytes-exact, one-exact, algorithms-apart}
 
 -- there are two algorithms
 two : length algorithms ≡ 2

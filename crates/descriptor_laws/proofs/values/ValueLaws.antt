@@ -1,4 +1,4 @@
--- The readers of single values are exact (specs/Value.antt). Assumes nothing.
+-- The readers of single values are exact (specs/Value.antt of `descriptor`). Assumes nothing.
 use mathlib.Core.Path.{_≡_, refl, sym, ap}
 use mathlib.Core.Logic.{_↔_}
 use mathlib.Core.Bool.{Bool, true, false, cond, _&&_}
@@ -7,8 +7,8 @@ use Prim.Native.Nat.{ℕ, zero, suc, _+_, _^_, _≤_, _<_}
 use native.Mathlib.Nat.{zero-add}
 use native.Mathlib.Omega.{arith}
 use lib.ListN.{length, getD}
-use lib.Dec.{T, leb, eqb, leb→le, le→leb, eqb→eq, lit<}
-use mir.Facts.{and-yes, yes-and, yes-eqb}
+use lib.Dec.{T, eqb, lit<}
+use mir.Facts.{and-yes, yes-and}
 use Rattle.cbor_item.specs.Bytes.{AreBytes, part, Has, hasAt, clash}
 use Rattle.cbor_item.specs.Reads.{got, Reads, found, lacks, bind, guard}
 use Rattle.cbor_item.specs.Encoding.{head}
@@ -18,32 +18,15 @@ use Rattle.cbor_item.proofs.BytesLaws.{has-right, has-part, has-clash, hasAt-ye
 use Rattle.cbor_item.proofs.ReadsLaws.{recast, refine}
 use Rattle.cbor_item.proofs.HeadLaws.{heads-exact, spans-exact}
 use Rattle.cbor_item.proofs.Promises.{utf8-exact}
 use Rattle.descriptor.specs.Keys.{ed25519, ecdsaP256Sha256, algorithms}
 use Rattle.descriptor.specs.Model.{encText, encBytes}
 use Rattle.descriptor.specs.Allowed.{TextOk}
 use Rattle.descriptor.specs.Value.{within, countAt, textAt, wordAt, bytesAt, oneOf}
 use Rattle.descriptor.specs.View.{contentSpan}
 use Rattle.descriptor.proofs.Truth.{T-true}
+use Rattle.descriptor.proofs.ValueSteps.{within-test, count-test}
 
 -- ---- tests
-
--- the test of limits holds exactly of a number between them
-pub within-test : (lo hi n : ℕ) → T (within lo hi n) ↔ ((lo ≤ n) × (n ≤ hi))
-unfolding within
-within-test lo hi n = (
-  λ t. let p = and-yes (leb lo n) (leb n hi) t in (leb→le lo n (p .0), leb→le n hi (p .1)),
-  λ p. yes-and (leb lo n) (leb n hi) (le→leb lo n (p .0)) (le→leb n hi (p .1)),
-)
-
--- the test of a head holds exactly where its major type is the given one and its number is between the limits
-pub count-test : (m major lo hi n : ℕ) → T (eqb m major && within lo hi n) ↔ ((m ≡ major) × (lo ≤ n) × (n ≤ hi))
-count-test m major lo hi n = (
-  λ t.
-      let p = and-yes (eqb m major) (within lo hi n) t in
-      let l = within-test lo hi n .0 (p .1) in
-      (eqb→eq m major (p .0), l .0, l .1),
-  λ p. yes-and (eqb m major) (within lo hi n) (yes-eqb (p .0)) (within-test lo hi n .1 (p .1, p .2)),
-)
 
 -- the test of a text holds exactly of an allowed text
 text-test : (lo hi : ℕ) (c : List ℕ) → T (within lo hi (length c) && isUtf8 c) ↔ TextOk lo hi c

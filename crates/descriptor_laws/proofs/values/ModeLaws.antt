@@ -1,6 +1,6 @@
--- The reader of modes is exact, and its mask is theirs (specs/Reader.antt). Assumes nothing.
+-- The reader of modes is exact, and its mask is theirs (specs/Reader.antt of `descriptor`). Assumes nothing.
 use mathlib.Core.Path.{_≡_, refl, sym, ap, _∙_}
-use mathlib.Core.Bool.{Bool, true, false, not, _&&_, _||_, Bool·beq}
+use mathlib.Core.Bool.{Bool, true, false, not, _&&_, _||_, or-false, Bool·beq}
 use mathlib.Core.List.{List, [], _∷_, _++_}
 use Prim.Native.Nat.{ℕ, zero, suc, _+_, _^_, _<_}
 use native.Mathlib.Omega.{arith}
@@ -9,17 +9,17 @@ use lib.ListN.{length}
 use lib.Dec.{T, eqb, ltb, lit<, ltb→lt}
 use mir.Facts.{and-yes}
 use Rattle.cbor_item.specs.Bytes.{AreBytes, clash}
-use Rattle.cbor_item.specs.Reads.{Reads, encAll, viewAll}
+use Rattle.cbor_item.specs.Reads.{Reads, encAll, AllFrom, viewAll}
 use Rattle.cbor_item.specs.Encoding.{head}
 use Rattle.cbor_item.proofs.ReadsLaws.{recast, seq, refine}
 use Rattle.cbor_item.proofs.CountedLaws.{counted}
 use Rattle.descriptor.specs.Keys.{mRead, mWrite, mExecute, mConfigure, modeNames}
 use Rattle.descriptor.specs.Model.{encMode, encModes}
 use Rattle.descriptor.specs.Allowed.{isIn, ModeOk, seenWith, ModesOk}
 use Rattle.descriptor.specs.Reader.{hasMode, modeAt, modesAt}
 use Rattle.descriptor.specs.View.{maskFrom, maskOf}
 use Rattle.descriptor.proofs.Truth.{T-false}
-use Rattle.descriptor.proofs.ValueLaws.{Apart, count-exact, one-exact}
+use Rattle.descriptor_laws.proofs.values.ValueLaws.{Apart, count-exact, one-exact}
 
 -- no two names of modes can stand at one place
 pub modes-apart : Apart modeNames
@@ -29,12 +29,12 @@ modes-apart = ((tt, (tt, (tt, tt))), ((tt, (tt, tt)), ((tt, tt), (tt, tt))))
 -- ---- tables of tests
 
 -- every number below n passes the test
-unfoldable allBelow : ℕ → (ℕ → Bool) → Bool
+unfoldable pub allBelow : ℕ → (ℕ → Bool) → Bool
 allBelow zero p = true
 allBelow (suc n) p = p n && allBelow n p
 
 -- where every number below n passes the test, each of them does
-all-below : (n : ℕ) (p : ℕ → Bool) → T (allBelow n p) → (i : ℕ) → i < n → T (p i)
+pub all-below : (n : ℕ) (p : ℕ → Bool) → T (allBelow n p) → (i : ℕ) → i < n → T (p i)
 unfolding allBelow
 all-below zero p t i h = absurd (omega arith)
 all-below (suc n) p t i h =
@@ -42,7 +42,7 @@ all-below (suc n) p t i h =
     elim (decLe n i) [ yes l ↦ (let e : i ≡ n = omega arith in rw e (a .0)) | no l ↦ all-below n p (a .1) i (omega arith) ]
 
 -- two tests that agree are equal
-beq-eq : (a b : Bool) → T (Bool·beq a b) → a ≡ b
+pub beq-eq : (a b : Bool) → T (Bool·beq a b) → a ≡ b
 beq-eq true true t = refl
 beq-eq true false t = absurd t
 beq-eq false true t = absurd t
@@ -90,6 +90,26 @@ add-mark mask seen m i o =
       small = ltb→lt (mask + 2 ^ m) 16 (both m (o .known) .0);
       bits = λ k h. beq-eq _ _ (both k h .1) ∙ ap (λ (b : Bool). eqb k m || b) (i .bits k h);
     }
+
+-- one test more in a row of tests
+or-turn : (a b c : Bool) → ((a || b) || c) ≡ (b || (a || c))
+or-turn true true c = refl
+or-turn true false c = refl
+or-turn false b c = refl
+
+-- a mask that has exactly the modes seen has after further modes exactly those and these, and is below 16
+mask-has : (mask : ℕ) (seen ms : List ℕ) → Marks mask seen → AllFrom ModeOk seenWith seen ms
+    → (maskFrom mask ms < 16) × ((k : ℕ) → k < 4 → hasMode (maskFrom mask ms) k ≡ (isIn k seen || isIn k ms))
+unfolding maskFrom isIn
+mask-has mask seen [] i a = (i .small, λ k h. i .bits k h ∙ sym (or-false (isIn k seen)))
+mask-has mask seen (m ∷ ms) i a =
+    let r = mask-has (mask + 2 ^ m) (m ∷ seen) ms (add-mark mask seen m i (a .0)) (a .1) in
+    (r .0, λ k h. r .1 k h ∙ or-turn (eqb k m) (isIn k seen) (isIn k ms))
+
+-- the mask of allowed modes is below 16 and has exactly those
+pub mask-exact : (ms : List ℕ) → ModesOk ms → (maskOf ms < 16) × ((k : ℕ) → k < 4 → hasMode (maskOf ms) k ≡ isIn k ms)
+unfolding isIn
+mask-exact ms o = mask-has 0 [] ms no-marks (o .each)
 
 -- ---- the readers
 

@@ -1,4 +1,4 @@
--- The readers of the three pieces of a payload are exact (specs/Reader.antt). Assumes nothing.
+-- The readers of the three pieces of a payload are exact (specs/Reader.antt of `descriptor`). Assumes nothing.
 use mathlib.Core.Path.{_≡_, refl}
 use mathlib.Core.Bool.{true}
 use mathlib.Core.List.{List, _++_}
@@ -14,17 +14,17 @@ use Rattle.cbor_item.proofs.BytesLaws.{has-left, has-clash}
 use Rattle.cbor_item.proofs.ReadsLaws.{recast, seq, keyed, mapped}
 use Rattle.cbor_item.proofs.OptionalLaws.{optional}
 use Rattle.resource.specs.Identifier.{isFay, isTerminal}
 use Rattle.descriptor.specs.Keys.{kGrants, kMetadata, kIssuedAt, kIssuerId, kNotAfter, kGrantorId, kNotBefore, kTerminalId, kDescriptorId, kSubjectFayId}
 use Rattle.descriptor.specs.Model.{Pair, Grant, encText, encBytes}
 use Rattle.descriptor.specs.Allowed.{TimeOk, TextOk, PairsOk}
 use Rattle.descriptor.specs.Value.{timeAt}
 use Rattle.descriptor.specs.Reader.{Opening, Middle, Closing, openingAt, middleAt, closingAt}
 use Rattle.descriptor.specs.View.{encOpening, encMiddle, openingView, middleView, closingView}
-use Rattle.descriptor.proofs.OptionLaws.{place-view}
-use Rattle.descriptor.proofs.ValueLaws.{count-exact, text-exact, word-exact, bytes-exact}
-use Rattle.descriptor.proofs.PairLaws.{pairs-exact}
+use Rattle.descriptor_laws.proofs.values.OptionLaws.{place-view}
+use Rattle.descriptor_laws.proofs.values.ValueLaws.{count-exact, text-exact, word-exact, bytes-exact}
+use Rattle.descriptor_laws.proofs.values.PairLaws.{pairs-exact}
 use Rattle.descriptor.proofs.WordLaws.{terminal-length, fay-length}
-use Rattle.descriptor.proofs.GrantsLaws.{GrantsOk, grants-exact}
+use Rattle.descriptor_laws.proofs.grants.GrantsLaws.{GrantsOk, grants-exact}
 
 -- a time is read exactly
 time-exact : (s : List ℕ) → AreBytes s → (at : ℕ) → Reads s at TimeOk (head 0) (λ (t : ℕ). t) (timeAt s at)

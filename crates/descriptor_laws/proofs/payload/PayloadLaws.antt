@@ -1,4 +1,4 @@
--- The reader of a payload is exact (specs/Reader.antt). Assumes nothing.
+-- The reader of a payload is exact (specs/Reader.antt of `descriptor`). Assumes nothing.
 use mathlib.Core.Path.{_≡_, refl, sym, ap, ap₂, _∙_}
 use mathlib.Core.Logic.{_↔_}
 use mathlib.Core.List.{List, _++_, append-assoc}
@@ -11,16 +11,16 @@ use Rattle.cbor_item.specs.Reads.{Reads}
 use Rattle.cbor_item.specs.Encoding.{head}
 use Rattle.cbor_item.proofs.BytesLaws.{has-left, has-right, has-part}
 use Rattle.cbor_item.proofs.ReadsLaws.{recast, seq, refine}
 use Rattle.descriptor.specs.Keys.{kGrants, kTerminalId}
 use Rattle.descriptor.specs.Model.{Payload, size, encText, encGrants, encodePayload}
 use Rattle.descriptor.specs.Allowed.{PayloadOk}
 use Rattle.descriptor.specs.Reader.{PayloadSeen, payloadFits, payloadAt}
 use Rattle.descriptor.specs.View.{keysOf, payloadView}
 use Rattle.descriptor.proofs.Truth.{eqb-test, leb-test, ltb-test, same-test, and-test}
-use Rattle.descriptor.proofs.OptionLaws.{size-small, size-view}
+use Rattle.descriptor_laws.proofs.values.OptionLaws.{size-small, size-view}
 use Rattle.descriptor.proofs.WordLaws.{terminal-length}
-use Rattle.descriptor.proofs.GrantsLaws.{owner, first-at, together-own, own-together}
-use Rattle.descriptor.proofs.PieceLaws.{Front, FrontOk, encFront, frontView, Centre, encCentre, centreView, Back, BackOk, encBack, backView, opening-exact, middle-exact, closing-exact}
+use Rattle.descriptor_laws.proofs.grants.GrantsLaws.{owner, first-at, together-own, own-together}
+use Rattle.descriptor_laws.proofs.payload.PieceLaws.{Front, FrontOk, encFront, frontView, Centre, encCentre, centreView, Back, BackOk, encBack, backView, opening-exact, middle-exact, closing-exact}
 
 -- ---- a payload and its pieces
 

@@ -1,4 +1,4 @@
--- The reader of a grant is exact (specs/Reader.antt). Assumes nothing.
+-- The reader of a grant is exact (specs/Reader.antt of `descriptor`). Assumes nothing.
 use mathlib.Core.Path.{_≡_, refl}
 use mathlib.Core.Logic.{_↔_}
 use mathlib.Core.Bool.{true}
@@ -15,17 +15,17 @@ use Rattle.cbor_item.proofs.BytesLaws.{has-left, has-clash}
 use Rattle.cbor_item.proofs.ReadsLaws.{recast, seq, keyed, refine}
 use Rattle.cbor_item.proofs.OptionalLaws.{optional}
 use Rattle.resource.specs.Text.{patternOk}
 use Rattle.descriptor.specs.Keys.{kModes, kConstraints, kResourcePattern}
 use Rattle.descriptor.specs.Model.{Pair, size, encText, encGrant}
 use Rattle.descriptor.specs.Allowed.{GrantOk}
 use Rattle.descriptor.specs.Reader.{grantAt}
 use Rattle.descriptor.specs.View.{grantRest, grantView}
 use Rattle.descriptor.proofs.Truth.{eqb-test}
-use Rattle.descriptor.proofs.OptionLaws.{size-small, size-view, place-view}
-use Rattle.descriptor.proofs.ValueLaws.{count-exact, word-exact}
-use Rattle.descriptor.proofs.PairLaws.{pairs-exact}
-use Rattle.descriptor.proofs.ModeLaws.{modes-exact}
+use Rattle.descriptor_laws.proofs.values.OptionLaws.{size-small, size-view, place-view}
+use Rattle.descriptor_laws.proofs.values.ValueLaws.{count-exact, word-exact}
+use Rattle.descriptor_laws.proofs.values.PairLaws.{pairs-exact}
+use Rattle.descriptor_laws.proofs.values.ModeLaws.{modes-exact}
 use Rattle.descriptor.proofs.WordLaws.{pattern-short}
 
 -- the test of a map's number of keys
 keys-test : {X R : Type 0} (c k : ℕ) (f : X → R) (x : Option X) → T (eqb c (k + size (viewOpt f x))) ↔ (c ≡ k + size x)

@@ -11,17 +11,16 @@ use Rattle.cbor_item.specs.Encoding.{head}
 use Rattle.cbor_item.proofs.BytesLaws.{has-left, has-right, has-part, all-has}
 use Rattle.cbor_item.proofs.ReadsLaws.{complete}
 use Rattle.cbor_item.proofs.CountedLaws.{all-at}
 use Rattle.descriptor.specs.Model.{Grant, Payload, Descriptor, encGrant, encGrants, encodePayload, encode}
 use Rattle.descriptor.specs.Allowed.{GrantOk, All, Formed}
-use Rattle.descriptor.specs.Reader.{beforePayload, beforeKeyId}
+use Rattle.descriptor.specs.Reader.{beforePayload}
 use Rattle.descriptor.specs.View.{grantView, grantsView, descriptorView}
 use Rattle.descriptor.specs.Promises.{CoveredPayload, grantPlace, GrantsWalk}
-use Rattle.descriptor.proofs.GrantLaws.{grant-exact}
-use Rattle.descriptor.proofs.GrantsLaws.{pattern-at}
-use Rattle.descriptor.proofs.PieceLaws.{encFront}
-use Rattle.descriptor.proofs.PayloadLaws.{frontOf, pieces-encode, grants-at}
-use Rattle.descriptor.proofs.DescriptorLaws.{halves-encode}
-use Rattle.descriptor.proofs.SignatureLaws.{encFromKey}
+use Rattle.descriptor_laws.proofs.grants.GrantLaws.{grant-exact}
+use Rattle.descriptor_laws.proofs.grants.GrantsLaws.{pattern-at}
+use Rattle.descriptor_laws.proofs.payload.PieceLaws.{encFront}
+use Rattle.descriptor_laws.proofs.payload.PayloadLaws.{frontOf, pieces-encode, grants-at}
+use Rattle.descriptor_laws.proofs.whole.DescriptorLaws.{halves-encode}
 
 -- ---- lists
 
@@ -42,10 +41,10 @@ take-next enc (x ∷ xs) (suc i) d h =
 -- ---- places
 
 -- where the payload stands
-payload-at : (s : List ℕ) (at : ℕ) (d : Descriptor) → Has s at (encode d) → Has s (at + length beforePayload) (encodePayload (d .payload))
-payload-at s at d h =
-    has-right s at beforePayload (encodePayload (d .payload))
-    (has-left s at (beforePayload ++ encodePayload (d .payload)) (beforeKeyId ++ encFromKey (d .signature)) (rw (halves-encode d) h))
+pub payload-here : (d : Descriptor) → Has (encode d) (0 + length beforePayload) (encodePayload (d .payload))
+payload-here d =
+    let s : List ℕ = encode d in
+    has-right s 0 beforePayload _ (has-left s 0 (beforePayload ++ encodePayload (d .payload)) _ (subst (Has s 0) (sym (halves-encode d)) (all-has s)))
 
 -- where the first piece of the payload stands
 front-at : (s : List ℕ) (at : ℕ) (p : Payload) → Has s at (encodePayload p) → Has s at (encFront (frontOf p))
@@ -59,13 +58,13 @@ start-at s at (g ∷ gs) l h = has-right s at (head 4 (length (g ∷ gs))) (encA
 
 -- the covered part holds the payload
 pub covered-payload : CoveredPayload
-covered-payload d = has-part (encode d) _ (encodePayload (d .payload)) (payload-at (encode d) 0 d (all-has (encode d)))
+covered-payload d = has-part (encode d) _ (encodePayload (d .payload)) (payload-here d)
 
 -- where all the grants of a descriptor stand
 all-grants : (d : Descriptor) → Formed d → Has (encode d) (descriptorView 0 d .payload .opening .grants .start) (encAll encGrant (d .payload .grants))
 all-grants d q =
     let s = encode d in
-    start-at s _ (d .payload .grants) (q .payload .least) (grants-at s _ (frontOf (d .payload)) (front-at s _ (d .payload) (payload-at s 0 d (all-has s))))
+    start-at s _ (d .payload .grants) (q .payload .least) (grants-at s _ (frontOf (d .payload)) (front-at s _ (d .payload) (payload-here d)))
 
 -- where the i-th stands
 grant-here : (d : Descriptor) → Formed d → (i : ℕ) (g : Grant) → i < length (d .payload .grants) → getD (d .payload .grants) i g ≡ g

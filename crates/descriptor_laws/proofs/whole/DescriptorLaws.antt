@@ -1,4 +1,4 @@
--- The reader of a descriptor is exact (specs/Reader.antt). Assumes nothing.
+-- The reader of a descriptor is exact (specs/Reader.antt of `descriptor`). Assumes nothing.
 use mathlib.Core.Path.{_≡_, refl, sym}
 use mathlib.Core.List.{List, _++_}
 use Prim.Native.Nat.{ℕ, _+_, _-_}
@@ -8,13 +8,13 @@ use Rattle.cbor_item.specs.Bytes.{AreBytes}
 use Rattle.cbor_item.specs.Reads.{Reads}
 use Rattle.cbor_item.specs.Encoding.{head}
 use Rattle.cbor_item.proofs.ReadsLaws.{recast, seq, keyed, mapped}
 use Rattle.descriptor.specs.Keys.{kPayload, kVersion, kSignature, kKeyId}
 use Rattle.descriptor.specs.Model.{Descriptor, encodePayload, encSignature, encode}
 use Rattle.descriptor.specs.Allowed.{PayloadOk, SignatureOk}
 use Rattle.descriptor.specs.Reader.{beforePayload, beforeKeyId, descriptorAt}
 use Rattle.descriptor.specs.View.{descriptorView}
-use Rattle.descriptor.proofs.PayloadLaws.{payload-exact}
-use Rattle.descriptor.proofs.SignatureLaws.{encFromKey, signature-exact}
+use Rattle.descriptor_laws.proofs.payload.PayloadLaws.{payload-exact}
+use Rattle.descriptor_laws.proofs.whole.SignatureLaws.{encFromKey, signature-exact}
 
 -- a descriptor of an allowed payload and an allowed signature, of whatever length
 pub record Both (d : Descriptor) : Type 0 where

@@ -1,4 +1,4 @@
--- What reading answers (specs/Reader.antt): 0, 2 or 1. Assumes nothing.
+-- What reading answers (specs/Reader.antt of `descriptor`): 0, 2 or 1. Assumes nothing.
 use mathlib.Core.Path.{_≡_, refl, sym, ap, _∙_, subst}
 use mathlib.Core.Logic.{_⊎_, inl, inr, ⊎-elim}
 use mathlib.Core.Bool.{cond}
@@ -13,12 +13,12 @@ use Rattle.cbor_item.specs.Reads.{Got, got, refused, Reads, found}
 use Rattle.cbor_item.proofs.Tests.{by-cond}
 use Rattle.cbor_item.proofs.BytesLaws.{has-all, all-has}
 use Rattle.cbor_item.proofs.ReadsLaws.{complete, unique}
 use Rattle.descriptor.specs.Model.{Descriptor, encode}
 use Rattle.descriptor.specs.Allowed.{longest, Formed, longestPeriod, period}
 use Rattle.descriptor.specs.Reader.{Seen, Answer, read, structure, validity, whole, readOf, descriptorAt}
 use Rattle.descriptor.specs.View.{descriptorView}
 use Rattle.descriptor.specs.Promises.{ReadsExactly, ValidityExactly, StructureExactly, OneReading}
-use Rattle.descriptor.proofs.DescriptorLaws.{Both, descriptor-exact}
+use Rattle.descriptor_laws.proofs.whole.DescriptorLaws.{Both, descriptor-exact}
 
 -- the bytes are the encoding of a descriptor that is allowed but for its period
 abbrev Encoded : List ℕ → Type 0

@@ -1,4 +1,4 @@
--- The reader of a map of pairs is exact (specs/Reader.antt). Assumes nothing.
+-- The reader of a map of pairs is exact (specs/Reader.antt of `descriptor`). Assumes nothing.
 use mathlib.Core.Path.{_≡_, refl, ap}
 use mathlib.Core.Bool.{true}
 use mathlib.Core.List.{List, [], _++_}
@@ -13,11 +13,11 @@ use Rattle.cbor_item.specs.Head.{Span, spanOf}
 use Rattle.cbor_item.proofs.BytesLaws.{has-left, has-part, part-back}
 use Rattle.cbor_item.proofs.ReadsLaws.{recast, seq, mapped, checked}
 use Rattle.cbor_item.proofs.CountedLaws.{counted}
 use Rattle.descriptor.specs.Model.{Pair, encText, encPair, encPairs}
 use Rattle.descriptor.specs.Allowed.{before, PairOk, keyOf, PairsOk}
 use Rattle.descriptor.specs.Reader.{pairAt, pairsAt}
 use Rattle.descriptor.proofs.Truth.{T-true}
-use Rattle.descriptor.proofs.ValueLaws.{count-exact, text-exact}
+use Rattle.descriptor_laws.proofs.values.ValueLaws.{count-exact, text-exact}
 
 -- where the encoding of a pair's key stands, when the pair stands at a place
 abbrev keyPart : ℕ → Pair → Span

@@ -1,14 +1,14 @@
--- The promises of specs/Promises.antt, each from its law or by computation. Assumes nothing.
+-- The promises of specs/Promises.antt of `descriptor`, each from its law or by computation. Assumes nothing.
 use mathlib.Core.Path.{refl}
 use Rattle.cbor_item.specs.Bytes.{same}
 use Rattle.cbor_item.specs.Encoding.{head}
 use Rattle.descriptor.specs.Keys.{kPayload, kVersion, kSignature, kGrants, kMetadata, kIssuedAt, kIssuerId, kNotAfter, kGrantorId, kNotBefore, kTerminalId, kDescriptorId, kSubjectFayId, kKeyId, kAlgorithm, kSignatureValue, kModes, kConstraints, kResourcePattern, ed25519, ecdsaP256Sha256, algorithms, mRead, mWrite, mExecute, mConfigure, modeNames}
 use Rattle.descriptor.specs.Model.{encMode, encAlgorithm}
 use Rattle.descriptor.specs.Allowed.{before}
 use Rattle.descriptor.specs.View.{maskFrom}
 use Rattle.descriptor.specs.Promises.{NamesEncoded, KeysAscend, ModesFixed, AlgorithmsFixed, ReadsExactly, ValidityExactly, StructureExactly, OneReading, CoveredPayload, GrantsWalk}
-use Rattle.descriptor.proofs.AnswerLaws as answer
-use Rattle.descriptor.proofs.SeenLaws as seen
+use Rattle.descriptor_laws.proofs.whole.AnswerLaws as answer
+use Rattle.descriptor_laws.proofs.places.SeenLaws as seen
 
 -- ---- the fixed byte strings
 

@@ -1,4 +1,4 @@
--- The reader of grants is exact (specs/Reader.antt): all of them have the terminal id of the first. Assumes nothing.
+-- The reader of grants is exact (specs/Reader.antt of `descriptor`): all of them have the terminal id of the first. Assumes nothing.
 use mathlib.Core.Path.{_≡_, refl, sym, subst}
 use mathlib.Core.List.{List, [], _∷_, _++_}
 use Prim.Native.Nat.{ℕ, suc, _+_, _-_, _≤_}
@@ -11,15 +11,15 @@ use Rattle.cbor_item.specs.Encoding.{head}
 use Rattle.cbor_item.proofs.BytesLaws.{has-left, has-right, part-take}
 use Rattle.cbor_item.proofs.ReadsLaws.{recast, seq, refine, mapped}
 use Rattle.cbor_item.proofs.CountedLaws.{counted}
 use Rattle.descriptor.specs.Keys.{kModes, kConstraints, kResourcePattern}
 use Rattle.descriptor.specs.Model.{Grant, size, encPairs, encModes, encGrant, encGrants}
 use Rattle.descriptor.specs.Allowed.{GrantOk, All}
 use Rattle.descriptor.specs.Reader.{Sum, addGrant, moreAt, grantsAt}
 use Rattle.descriptor.specs.View.{grantView, sumFrom, grantsRest, grantsView}
 use Rattle.descriptor.proofs.Truth.{same-test}
-use Rattle.descriptor.proofs.ValueLaws.{count-exact}
+use Rattle.descriptor_laws.proofs.values.ValueLaws.{count-exact}
 use Rattle.descriptor.proofs.WordLaws.{pattern-short}
-use Rattle.descriptor.proofs.GrantLaws.{grant-exact}
+use Rattle.descriptor_laws.proofs.grants.GrantLaws.{grant-exact}
 
 -- ---- what is allowed
 

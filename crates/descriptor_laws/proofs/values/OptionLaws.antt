@@ -1,11 +1,11 @@
--- What is seen of an optional value (specs/View.antt). Assumes nothing.
+-- What is seen of an optional value (specs/View.antt of `descriptor`). Assumes nothing.
 use mathlib.Core.Path.{_≡_, refl}
 use mathlib.Core.Option.{Option, none, some}
 use Prim.Native.Nat.{ℕ, _≤_}
 use native.Mathlib.Omega.{arith}
 use Rattle.cbor_item.specs.Reads.{viewOpt}
 use Rattle.descriptor.specs.Model.{size}
 use Rattle.descriptor.specs.Reader.{placeOf}
 
 -- an optional value is one key at most
 pub size-small : {X : Type 0} (x : Option X) → size x ≤ 1

@@ -1,0 +1,3 @@
+-- The reader of a payload is exact, piece by piece.
+pub mod PieceLaws
+pub mod PayloadLaws

@@ -13,6 +13,8 @@ pub mod AgreeLaws
 pub mod MarkLaws
 pub mod CoverSteps
 pub mod SearchSteps
+pub mod TableLaws
+pub mod AloneLaws
 pub mod DeepSteps
 pub mod NarrowSteps
 pub mod OrderLaws

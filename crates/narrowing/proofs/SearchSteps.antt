@@ -1,30 +1,24 @@
 -- Laws of one step of the search (specs/Scan.antt), as the code's loops take them. Assumes nothing.
 use mathlib.Core.Path.{_≡_, refl, sym, ap, _∙_}
-use mathlib.Core.Bool.{Bool, true, false, not, cond, _&&_}
+use mathlib.Core.Bool.{Bool, true, false, not, _&&_}
 use mathlib.Core.List.{List}
 use mathlib.Core.Option.{Option, none, some}
 use Prim.Native.Nat.{ℕ, zero, suc, _+_, _-_, _/_, _%_, _^_, _≤_, _<_}
 use native.Mathlib.Numerals.{add-one}
 use native.Mathlib.Omega.{arith}
-use lib.ListN.{length, getD, take, drop, length-drop, length-replicate}
+use lib.ListN.{length, getD, take, drop, length-drop}
 use lib.Seq.{getD-drop}
 use lib.Dec.{eqb}
 use borrow.Author.Tests.{not-true, not-false}
 use Rattle.cbor_item.specs.Bytes.{part, same}
-use Rattle.cbor_item.specs.Reads.{Got, got, refused}
-use Rattle.resource.specs.Level.{levels}
-use Rattle.resource.specs.Pattern.{endsDeep}
-use Rattle.resource.specs.Text.{levelsOf}
+use Rattle.cbor_item.specs.Reads.{got, refused}
 use Rattle.descriptor.specs.Reader.{hasMode, GrantSeen, grantAt}
 use Rattle.descriptor.proofs.LoopLaws.{same-more}
-use Rattle.descriptor.proofs.ValueSteps.{lent-levels}
-use Rattle.narrowing.specs.declared.range.Range.{Range}
 use Rattle.narrowing.specs.declared.search.Found.the-variants.{At, Nothing}
 use Rattle.narrowing.specs.Escape.{least, orElse}
-use Rattle.narrowing.specs.Range.{most, textRange, marked}
-use Rattle.narrowing.specs.Scan.{below, notedAt, lacksAt, lowestFrom, zeros, escapeIn}
+use Rattle.narrowing.specs.Range.{textRange, marked}
+use Rattle.narrowing.specs.Scan.{below, notedAt, lacksAt, lowestFrom}
 use Rattle.narrowing.proofs.LeastLaws.{least-some}
-use Rattle.narrowing.proofs.RangeLaws.{marked-length}
 
 -- ---- one mode
 
@@ -122,15 +116,6 @@ module _ (s p d : List ℕ) (left here : ℕ) where
       let one : notedAt s p d (suc (left - 1)) here ≡ notedAt s p (marked 0 d (textRange (below s (g .pattern)) p) (g .mask)) (left - 1) next = rw (← e, notedAt) in
       sym one ∙ ap (λ (k : ℕ). notedAt s p d k here) n
 
-  -- the same of what the code took of its pattern and wrote
-  pub noted-step : {g : GrantSeen} {next : ℕ} (r : Range) (x : List ℕ) → 0 < left → got g next ≡ grantAt s here
-      → r ≡ textRange (take ((g .pattern .start + g .pattern .len) - (g .pattern .start + 46)) (drop (g .pattern .start + 46) s)) p → x ≡ marked 0 d r (g .mask)
-      → notedAt s p x (left - 1) next ≡ notedAt s p d left here
-  noted-step {g} {next} r x h e f q =
-      ap (λ (y : List ℕ). notedAt s p y (left - 1) next)
-      (q ∙ ap (λ (y : Range). marked 0 d y (g .mask)) (f ∙ ap (λ (y : List ℕ). textRange y p) (lent-levels s (g .pattern .start) (g .pattern .len))))
-      ∙ noted-next h e
-
   -- none could be read
   pub noted-stop : 0 < left → refused ≡ grantAt s here → d ≡ notedAt s p d left here
   unfolding notedAt
@@ -140,40 +125,3 @@ module _ (s p d : List ℕ) (left here : ℕ) where
   pub noted-done : left ≤ 0 → d ≡ notedAt s p d left here
   unfolding notedAt
   noted-done h = let n : left ≡ 0 = omega arith in sym (rw (n, notedAt))
-
--- noting keeps the number of masks
-pub noted-length : (s p d : List ℕ) (n at : ℕ) → length (notedAt s p d n at) ≡ length d
-unfolding notedAt
-noted-length s p d zero at = refl
-noted-length s p d (suc n) at = go (grantAt s at) refl (λ x next. noted-length s p x n next)
-  where
-    go : (o : Got GrantSeen) → grantAt s at ≡ o → ((x : List ℕ) (next : ℕ) → length (notedAt s p x n next) ≡ length x) → length (notedAt s p d (suc n) at) ≡ length d
-    go (got g next) e f = rw (e, notedAt) (f (marked 0 d (textRange (below s (g .pattern)) p) (g .mask)) next ∙ marked-length 0 d (textRange (below s (g .pattern)) p) (g .mask))
-    go refused e f = rw (e, notedAt)
-
--- ---- an escape
-
-module _ (s : List ℕ) (at count : ℕ) (own : Bool) (p : List ℕ) where
-  -- the masks, noted where the terminal id is the parent's
-  abbrev pub masksOf : List ℕ
-  masksOf = cond own (notedAt s p zeros count at) zeros
-
-  -- they are 128
-  pub masks-length : (d : List ℕ) → d ≡ masksOf → 128 ≡ length d
-  masks-length d e = sym (ap length e ∙ by own)
-    where
-      by : (b : Bool) → length (cond b (notedAt s p zeros count at) zeros) ≡ 128
-      by true = noted-length s p zeros count at ∙ length-replicate {A = ℕ} most 0
-      by false = length-replicate {A = ℕ} most 0
-
-  -- "**" takes one name or more
-  pub escape-deep : (mask : ℕ) (d : List ℕ) (b : Bool) → d ≡ masksOf → b ≡ endsDeep (levelsOf (levels p)) → b ≡ true
-      → lowestFrom d mask 1 128 0 4 ≡ escapeIn s at count own p mask
-  unfolding escapeIn
-  escape-deep mask d b e f t = ap (λ (x : List ℕ). lowestFrom x mask 1 128 0 4) e ∙ rw (sym f ∙ t)
-
-  -- without "**" there is none to take
-  pub escape-flat : (mask : ℕ) (d : List ℕ) (b : Bool) → d ≡ masksOf → b ≡ endsDeep (levelsOf (levels p)) → b ≡ false
-      → lowestFrom d mask 0 1 0 4 ≡ escapeIn s at count own p mask
-  unfolding escapeIn
-  escape-flat mask d b e f t = ap (λ (x : List ℕ). lowestFrom x mask 0 1 0 4) e ∙ rw (sym f ∙ t)

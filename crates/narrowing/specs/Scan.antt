@@ -1,12 +1,14 @@
 -- What the code's inner functions answer as they walk the grants of both descriptors. A reader of the promises does not need this page: the laws in proofs/ tie it
 -- to Escape.antt and Narrow.antt.
-use mathlib.Core.Bool.{Bool, true, false, not, cond}
+use mathlib.Core.Path.{_≡_}
+use mathlib.Core.Bool.{Bool, true, false, not, cond, _&&_}
 use mathlib.Core.List.{List, [], _∷_}
 use mathlib.Core.Option.{Option, none, some}
-use Prim.Native.Nat.{ℕ, zero, suc, _+_, _-_}
-use lib.ListN.{getD, replicate}
+use Prim.Native.Nat.{ℕ, zero, suc, _+_, _*_, _-_, _≤_, _<_}
+use lib.ListN.{length, getD, replicate}
 use Rattle.cbor_item.specs.Bytes.{part, same}
-use lib.Dec.{eqb, ltb}
+use lib.Dec.{eqb, leb, ltb}
+use lib.Bits.{bitOr}
 use Rattle.cbor_item.specs.Reads.{Got, got, refused}
 use Rattle.cbor_item.specs.Head.{Span}
 use Rattle.resource.specs.Level.{levels}
@@ -16,6 +18,7 @@ use Rattle.descriptor.specs.declared.Fields.{Fields}
 use Rattle.descriptor.specs.Reader.{hasMode, grantAt}
 use Rattle.narrowing.specs.declared.Narrowing.{Narrowing}
 use Rattle.narrowing.specs.declared.Narrowing.the-variants.{Accepted, Constrained, Period, NotCovered}
+use Rattle.narrowing.specs.declared.range.Range.{Range}
 use Rattle.narrowing.specs.declared.search.Found.{Found}
 use Rattle.narrowing.specs.declared.search.Found.the-variants.{At, Nothing}
 use Rattle.narrowing.specs.Escape.{least}
@@ -30,6 +33,35 @@ unfoldable pub notedAt : List ℕ → List ℕ → List ℕ → ℕ → ℕ → 
 notedAt s p d zero at = d
 notedAt s p d (suc n) at =
     elim (grantAt s at) [ got g next ↦ notedAt s p (marked 0 d (textRange (below s (g .pattern)) p) (g .mask)) n next | refused ↦ d ]
+
+-- a table of grants has three numbers a row: where the grant's levels begin, where they end, and its mask
+abbrev pub rowStart : List ℕ → ℕ → ℕ
+rowStart t i = getD t (3 * i) 0
+
+abbrev pub rowEnd : List ℕ → ℕ → ℕ
+rowEnd t i = getD t (3 * i + 1) 0
+
+abbrev pub rowMask : List ℕ → ℕ → ℕ
+rowMask t i = getD t (3 * i + 2) 0
+
+-- the levels of the row i, of grants of s
+abbrev pub rowLevels : List ℕ → List ℕ → ℕ → List ℕ
+rowLevels s t i = part s (rowStart t i) (rowEnd t i - rowStart t i)
+
+-- the masks after the first n rows were noted
+unfoldable pub notedRows : List ℕ → List ℕ → List ℕ → List ℕ → ℕ → List ℕ
+notedRows s t p d zero = d
+notedRows s t p d (suc i) = marked 0 (notedRows s t p d i) (textRange (rowLevels s t i) p) (rowMask t i)
+
+-- the table t has n rows, each of levels that lie in s
+pub record InPlace (s t : List ℕ) (n : ℕ) : Type 0 where
+  pub room : 3 * n ≤ length t
+  pub row : (i : ℕ) → i < n → (rowStart t i ≤ rowEnd t i) × (rowEnd t i ≤ length s)
+
+-- noting the n rows of t is noting the `count` grants from a place of s on
+pub record Filled (s t : List ℕ) (n count at : ℕ) : Type 0 where
+  pub places : InPlace s t n
+  pub noted : (p d : List ℕ) → notedRows s t p d n ≡ notedAt s p d count at
 
 -- the mask noted for k names lacks the mode
 abbrev pub lacksAt : List ℕ → ℕ → ℕ → Bool
@@ -56,6 +88,23 @@ escapeIn s at count own p mask =
     let d = cond own (notedAt s p zeros count at) zeros in
     cond (endsDeep (levelsOf (levels p))) (lowestFrom d mask 1 most 0 4) (lowestFrom d mask 0 1 0 4)
 
+-- r is how a path escapes under the grants, any number from any place of s on, of which t has the n rows
+abbrev pub EscapeOf : List ℕ → List ℕ → ℕ → Bool → List ℕ → ℕ → Found → Type 0
+EscapeOf s t n own p mask r = (count at : ℕ) → Filled s t n count at → r ≡ escapeIn s at count own p mask
+
+-- a range has every number of names that "**" can take; without "**" it has 0
+abbrev pub fullRange : Range → Bool → Bool
+fullRange r true = leb (r .lo) 1 && leb most (r .hi)
+fullRange r false = eqb (r .lo) 0 && ltb 0 (r .hi)
+
+-- the grant of row i has all modes of the mask, and covers the levels p with each number of names; `deep` where these end with "**"
+unfoldable pub rowCovers : List ℕ → List ℕ → ℕ → List ℕ → ℕ → Bool → Bool
+rowCovers s t i p mask deep = cond (eqb (bitOr (rowMask t i) mask) (rowMask t i)) (fullRange (textRange (rowLevels s t i) p) deep) false
+
+-- where r is a row of the table, no path escapes by a grant with the levels p and the mask
+abbrev pub AloneOf : List ℕ → List ℕ → ℕ → Bool → List ℕ → ℕ → ℕ → Type 0
+AloneOf s t n own p mask r = r < n → EscapeOf s t n own p mask Nothing
+
 -- an escape by the grant at i, or what the next grants have
 abbrev pub orNext : ℕ → Found → Narrowing → Narrowing
 orNext i (At m k) rest = NotCovered i m k
@@ -66,6 +115,10 @@ unfoldable pub firstIn : List ℕ → ℕ → ℕ → Bool → List ℕ → ℕ 
 firstIn s at count own t i zero from = Accepted
 firstIn s at count own t i (suc n) from =
     elim (grantAt t from) [ got g next ↦ orNext i (escapeIn s at count own (below t (g .pattern)) (g .mask)) (firstIn s at count own t (i + 1) n next) | refused ↦ Accepted ]
+
+-- r is the answer under the grants, any number from any place of s on, of which t has the n rows
+abbrev pub FirstOf : List ℕ → List ℕ → ℕ → Bool → List ℕ → ℕ → ℕ → Narrowing → Type 0
+FirstOf s t n own u grants from r = (count at : ℕ) → Filled s t n count at → r ≡ firstIn s at count own u 0 grants from
 
 -- both read: 19, then 18, then 20, else 0
 unfoldable pub comparedIn : List ℕ → Fields → List ℕ → Fields → Narrowing

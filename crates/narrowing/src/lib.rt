@@ -40,7 +40,7 @@ fn same_terminal(s: &[u8], a: usize, t: &[u8], b: usize) -> bool
 
 // Both read: 19, then 18, then 20, else 0.
 fn compared(s: &[u8], v: Fields, t: &[u8], w: Fields) -> Narrowing
-    requires { ⌜ (v .terminal + 45 ≤ length (now s)) × (w .terminal + 45 ≤ length (now t)) ⌝ }
+    requires { ⌜ (v .terminal + 45 ≤ length (now s)) × (w .terminal + 45 ≤ length (now t)) × (v .grants ≤ 256) ⌝ }
     ensures { λ r. ⌜ r ≡ comparedIn (now (s .entry)) v (now (t .entry)) w ⌝ }
 {
     if v.constraints != 0 {
@@ -56,7 +56,9 @@ fn compared(s: &[u8], v: Fields, t: &[u8], w: Fields) -> Narrowing
         return Narrowing::Period;
     }
     let own = same_terminal(s, v.terminal, t, w.terminal);
-    search::first(s, v.first, v.grants, own, t, w.first, w.grants)
+    let mut table = [0usize; 768];
+    let rows = search::fill(s, v.first, v.grants, &mut table);
+    search::first(s, &table, rows, own, t, w.first, w.grants)
 }
 
 // Narrows the child under the parent.

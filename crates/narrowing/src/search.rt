@@ -6,14 +6,14 @@ use crate::range::mark;
 use descriptor::GrantRead;
 ghost use mathlib.Core.Path.{_≡_};
 ghost use mathlib.Core.Bool.{not};
-ghost use Prim.Native.Nat.{_-_, _≤_, _<_};
+ghost use Prim.Native.Nat.{_+_, _*_, _-_, _≤_, _<_};
 ghost use lib.ListN.{length};
 ghost use Rattle.resource.specs.Level.{levels};
 ghost use Rattle.resource.specs.Pattern.{endsDeep};
 ghost use Rattle.resource.specs.Text.{levelsOf};
 ghost use Rattle.descriptor.specs.Reader.{hasMode};
 ghost use Rattle.narrowing.specs.Escape.{least, orElse};
-ghost use Rattle.narrowing.specs.Scan.{notedAt, lacksAt, lowestFrom, escapeIn, firstIn};
+ghost use Rattle.narrowing.specs.Scan.{rowStart, rowEnd, notedRows, InPlace, Filled, lacksAt, lowestFrom, EscapeOf, rowCovers, AloneOf, FirstOf};
 
 // A mode and a number of names.
 pub(crate) enum Found {
@@ -21,24 +21,47 @@ pub(crate) enum Found {
     Nothing,
 }
 
-// Notes for each number of names the modes in which the `count` grants from `at` on cover the levels p.
-fn note(parent: &[u8], at: usize, count: u64, p: &[u8], d: &mut [u64])
-    ensures { λ r. ⌜ now (d .exit) ≡ notedAt (now (parent .entry)) (now (p .entry)) (now (d .entry)) count at ⌝ }
+// Reads the `count` grants from `at` on into a table with three numbers a row: where the grant's levels begin, where they end, and the mask.
+// Answers the number of rows.
+pub(crate) fn fill(parent: &[u8], at: usize, count: u64, table: &mut [usize]) -> usize
+    requires { ⌜ 3 * count ≤ length (now table) ⌝ }
+    ensures { λ r. ⌜ Filled (now (parent .entry)) (now (table .exit)) r count at ⌝ }
+    ensures length { λ r. ⌜ length (now (table .exit)) ≡ length (now (table .entry)) ⌝ }
 {
     let mut left = count;
     let mut here = at;
+    let mut i: usize = 0;
     while 0 < left {
         match descriptor::read_grant(parent, here) {
             GrantRead::IsGrant { fields, next } => {
                 let start = fields.pattern;
-                let end = start + fields.len;
-                let r = cover(&parent[start + 46..end], p);
-                mark(d, r, fields.mask);
+                let k = 3 * i;
+                table[k] = start + 46;
+                table[k + 1] = start + fields.len;
+                table[k + 2] = fields.mask as usize;
+                i += 1;
                 here = next;
             }
-            GrantRead::NoGrant => return,
+            GrantRead::NoGrant => return i,
         }
         left -= 1;
+    }
+    i
+}
+
+// Notes for each number of names the modes in which the grants of the table cover the levels p.
+fn note(parent: &[u8], table: &[usize], rows: usize, p: &[u8], d: &mut [u64])
+    requires { ⌜ InPlace (now parent) (now table) rows ⌝ }
+    ensures { λ r. ⌜ now (d .exit) ≡ notedRows (now (parent .entry)) (now (table .entry)) (now (p .entry)) (now (d .entry)) rows ⌝ }
+{
+    let mut i = 0;
+    while i < rows {
+        let k = 3 * i;
+        let start = table[k];
+        let end = table[k + 1];
+        let r = cover(&parent[start..end], p);
+        mark(d, r, table[k + 2] as u64);
+        i += 1;
     }
 }
 
@@ -109,12 +132,13 @@ fn lowest(d: &[u64], mask: u64, from: usize, to: usize) -> Found
 }
 
 // How a path escapes by a grant with the levels p and the mask; `own` where its terminal id is the parent's.
-fn escape(parent: &[u8], at: usize, count: u64, own: bool, p: &[u8], mask: u64) -> Found
-    ensures { λ r. ⌜ r ≡ escapeIn (now (parent .entry)) at count own (now (p .entry)) mask ⌝ }
+fn escape(parent: &[u8], table: &[usize], rows: usize, own: bool, p: &[u8], mask: u64) -> Found
+    requires { ⌜ InPlace (now parent) (now table) rows ⌝ }
+    ensures { λ r. ⌜ EscapeOf (now (parent .entry)) (now (table .entry)) rows own (now (p .entry)) mask r ⌝ }
 {
     let mut d = [0u64; 128];
     if own {
-        note(parent, at, count, p, &mut d);
+        note(parent, table, rows, p, &mut d);
     }
     if ends_deep(p) {
         return lowest(&d, mask, 1, 128);
@@ -122,39 +146,99 @@ fn escape(parent: &[u8], at: usize, count: u64, own: bool, p: &[u8], mask: u64) 
     lowest(&d, mask, 0, 1)
 }
 
-// The first of the child's grants from `from` on by which a path escapes.
+// Whether the grant of row i has all modes of the mask and covers the levels p with each number of names; `deep` where these end with "**".
+fn covers_all(parent: &[u8], table: &[usize], i: usize, p: &[u8], mask: u64, deep: bool) -> bool
+    requires { ⌜ (3 * i + 2 < length (now table)) × (rowStart (now table) i ≤ rowEnd (now table) i) × (rowEnd (now table) i ≤ length (now parent)) ⌝ }
+    ensures { λ r. ⌜ r ≡ rowCovers (now (parent .entry)) (now (table .entry)) i (now (p .entry)) mask deep ⌝ }
+{
+    let k = 3 * i;
+    let modes = table[k + 2] as u64;
+    if modes | mask != modes {
+        return false;
+    }
+    let start = table[k];
+    let end = table[k + 1];
+    let r = cover(&parent[start..end], p);
+    if deep {
+        return (r.lo <= 1) & (128 <= r.hi);
+    }
+    (r.lo == 0) & (0 < r.hi)
+}
+
+// Row i, or the first where there is none.
+fn turned(i: usize, rows: usize) -> usize
+    requires { ⌜ 0 < rows ⌝ }
+    ensures { λ r. ⌜ r < rows ⌝ }
+{
+    if i < rows {
+        return i;
+    }
+    0
+}
+
+// A row, from `near` on and then from the first on, whose grant alone covers a grant with the levels p and the mask; `rows` where there is none.
+fn alone(
+    parent: &[u8],
+    table: &[usize],
+    rows: usize,
+    own: bool,
+    near: usize,
+    p: &[u8],
+    mask: u64,
+) -> usize
+    requires { ⌜ InPlace (now parent) (now table) rows ⌝ }
+    ensures { λ r. ⌜ AloneOf (now (parent .entry)) (now (table .entry)) rows own (now (p .entry)) mask r ⌝ }
+{
+    if !own {
+        return rows;
+    }
+    let deep = ends_deep(p);
+    let mut i = near;
+    let mut tried: usize = 0;
+    while tried < rows {
+        let row = turned(i, rows);
+        if covers_all(parent, table, row, p, mask, deep) {
+            return row;
+        }
+        i = row + 1;
+        tried += 1;
+    }
+    rows
+}
+
+// The first of the child's grants from `from` on by which a path escapes. A grant is tried first with the parent's grant that covered the one before it.
 pub(crate) fn first(
     parent: &[u8],
-    at: usize,
-    count: u64,
+    table: &[usize],
+    rows: usize,
     own: bool,
     child: &[u8],
     from: usize,
     grants: u64,
 ) -> Narrowing
-    ensures { λ r. ⌜ r ≡ firstIn (now (parent .entry)) at count own (now (child .entry)) 0 grants from ⌝ }
+    requires { ⌜ InPlace (now parent) (now table) rows ⌝ }
+    ensures { λ r. ⌜ FirstOf (now (parent .entry)) (now (table .entry)) rows own (now (child .entry)) grants from r ⌝ }
 {
     let mut i: u64 = 0;
     let mut here = from;
+    let mut near: usize = 0;
     while i < grants {
-        match descriptor::read_grant(child, here) {
-            GrantRead::IsGrant { fields, next } => {
-                let start = fields.pattern;
-                let end = start + fields.len;
-                match escape(parent, at, count, own, &child[start + 46..end], fields.mask) {
-                    Found::At { mode, levels } => {
-                        return Narrowing::NotCovered {
-                            grant: i,
-                            mode,
-                            levels,
-                        };
-                    }
-                    Found::Nothing => {}
-                }
-                here = next;
+        let GrantRead::IsGrant { fields, next } = descriptor::read_grant(child, here) else {
+            return Narrowing::Accepted;
+        };
+        let end = fields.pattern + fields.len;
+        let p = &child[fields.pattern + 46..end];
+        near = alone(parent, table, rows, own, near, p, fields.mask);
+        if rows <= near {
+            if let Found::At { mode, levels } = escape(parent, table, rows, own, p, fields.mask) {
+                return Narrowing::NotCovered {
+                    grant: i,
+                    mode,
+                    levels,
+                };
             }
-            GrantRead::NoGrant => return Narrowing::Accepted,
         }
+        here = next;
         i += 1;
     }
     Narrowing::Accepted

@@ -1,6 +1,7 @@
 -- `compared` meets its contract. Assumes nothing.
 use mathlib.Core.Path.{_∙_}
 use Rattle.narrowing.proofs.NarrowSteps.{parent-constrained, child-constrained, begins-early, ends-late, compared-first}
+use native.Mathlib.Omega.{arith}
 use borrow.Author.Needs.{needs}
 use Rattle.narrowing.proofs.compared.Statement.{statement}
 use Rattle.narrowing.proofs.compared.Tie as tie
@@ -25,15 +26,31 @@ returns-4 c =
 same-terminal-requires : tie.Need-same-terminal-requires
 same-terminal-requires c κs = search needs
 
+slice-aggregate-fill : tie.Need-slice-aggregate-fill
+slice-aggregate-fill c = search needs
+
+fill-requires : tie.Need-fill-requires
+fill-requires c κs =
+    let e = c .before .before in
+    let d = e .before .before .before in
+    let b = d .before .before .before in
+    omega (arith, b .before .before .before .before .before .before .pre .2)
+
+slice-aggregate-first : tie.Need-slice-aggregate-first
+slice-aggregate-first c = search needs
+
 first-requires : tie.Need-first-requires
 first-requires c κs = search needs
 
 returns-5 : tie.Need-returns-5
 returns-5 c =
-    let e = c .before .before in
+    let f = c .before .before .before in
+    let o = f .before .before in
+    let e = o .before in
     let d = e .before .before .before in
     let b = d .before .before .before in
-    c .first .ensures ∙ compared-first _ _ _ _ (b .before .before .if1 .left) (b .if2 .left) (d .if3 .left) (e .if4 .left) (c .before .same-terminal .ensures)
+    c .first .ensures _ _ (f .fill .ensures .0)
+    ∙ compared-first _ _ _ _ (b .before .before .if1 .left) (b .if2 .left) (d .if3 .left) (e .if4 .left) (o .same-terminal .ensures)
 
 pub compared-spec : {M : Type 1} → statement M
 compared-spec =
@@ -44,5 +61,8 @@ compared-spec =
     returns-3
     returns-4
     same-terminal-requires
+    slice-aggregate-fill
+    fill-requires
+    slice-aggregate-first
     first-requires
     returns-5)

@@ -3,6 +3,7 @@ use mathlib.Core.Path.{sym, _∙_}
 use native.Mathlib.Omega.{arith}
 use Rattle.cbor_item.proofs.BytesLaws.{are-bytes}
 use Rattle.narrowing.proofs.NarrowSteps.{terminal-room, narrow-both, narrow-structure, narrow-validity, narrow-no-parent}
+use Rattle.narrowing.proofs.TableLaws.{grants-few}
 use borrow.Author.Needs.{needs}
 use Rattle.narrowing.proofs.narrow.Statement.{statement}
 use Rattle.narrowing.proofs.narrow.Tie as tie
@@ -27,6 +28,7 @@ compared-requires c κs =
     let a = b .before .before .args in (
       terminal-room _ _ (are-bytes (a .parent .now) (b .before .shared-slice-known .given)) (sym (x .v .given .1) ∙ x .before .before .read-descriptor .ensures),
       terminal-room _ _ (are-bytes (a .child .now) (b .shared-slice-known2 .given)) (sym (y .w .given .1) ∙ y .before .before .read-descriptor2 .ensures),
+      grants-few _ _ (are-bytes (a .parent .now) (b .before .shared-slice-known .given)) (sym (x .v .given .1) ∙ x .before .before .read-descriptor .ensures),
     )
 
 enum-told : tie.Need-enum-told

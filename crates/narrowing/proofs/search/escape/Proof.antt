@@ -4,22 +4,22 @@ use mathlib.Core.Logic.{⊎-elim}
 use native.Mathlib.Omega.{arith}
 use lib.ListN.{length}
 use borrow.Author.Needs.{needs}
-use Rattle.narrowing.proofs.SearchSteps.{masksOf, masks-length, escape-deep, escape-flat}
+use Rattle.narrowing.proofs.TableLaws.{masksOf, masks-length, escape-deep, escape-flat}
 use Rattle.narrowing.proofs.search.escape.Statement.{statement}
 use Rattle.narrowing.proofs.search.escape.Tie as tie
 
 -- where the two ways meet, the masks are noted or none is
 noted : (j : tie.Joined1)
     → j .if1 .d
-    ≡ masksOf (j .before .before .before .args .parent .now) (j .before .before .before .args .at) (j .before .before .before .args .count) (j .before .before .before .args .own)
-    (j .before .before .before .args .p .now)
+    ≡ masksOf (j .before .before .before .before .args .parent .now) (j .before .before .before .before .args .table .now) (j .before .before .before .before .args .rows)
+    (j .before .before .before .before .args .own) (j .before .before .before .before .args .p .now)
 noted j = ⊎-elim (λ w. w .4 ∙ w .2 .ensures ∙ rw (w .0 .taken)) (λ w. w .1 ∙ rw (w .0 .left)) (j .if1 .came)
 
 -- they are 128
 full : (j : tie.Joined1) → 128 ≡ length (j .if1 .d)
 full j =
-    let a = j .before .before .before .args in
-    masks-length (a .parent .now) (a .at) (a .count) (a .own) (a .p .now) (j .if1 .d) (noted j)
+    let a = j .before .before .before .before .args in
+    masks-length (a .parent .now) (a .table .now) (a .rows) (a .own) (a .p .now) (j .if1 .d) (noted j)
 
 slice-aggregate-note : tie.Need-slice-aggregate-note
 slice-aggregate-note c = search needs
@@ -40,7 +40,7 @@ returns : tie.Need-returns
 returns c =
     let t = c .before .before in
     let j = t .before .before in
-    c .lowest .ensures ∙ escape-deep _ _ _ _ _ _ _ _ (noted j) (t .before .ends-deep .ensures) (t .if2 .taken)
+    λ count at f. c .lowest .ensures ∙ escape-deep _ _ _ _ _ _ _ _ (noted j) (t .before .ends-deep .ensures) (t .if2 .taken) count at f
 
 slice-aggregate-lowest-2 : tie.Need-slice-aggregate-lowest-2
 slice-aggregate-lowest-2 c = full (c .before .before .before)
@@ -52,7 +52,7 @@ returns-2 : tie.Need-returns-2
 returns-2 c =
     let t = c .before .before in
     let j = t .before .before in
-    c .lowest2 .ensures ∙ escape-flat _ _ _ _ _ _ _ _ (noted j) (t .before .ends-deep .ensures) (t .if2 .left)
+    λ count at f. c .lowest2 .ensures ∙ escape-flat _ _ _ _ _ _ _ _ (noted j) (t .before .ends-deep .ensures) (t .if2 .left) count at f
 
 pub escape-spec : {M : Type 1} → statement M
 escape-spec =

@@ -1,39 +1,41 @@
 -- `first` meets its contract. Assumes nothing.
 use mathlib.Core.Path.{_≡_, sym, ap, _∙_}
-use Prim.Native.Nat.{_+_, _-_, _≤_}
+use mathlib.Core.Logic.{⊎-elim}
+use Prim.Native.Nat.{ℕ, _+_, _-_, _≤_}
 use native.Mathlib.Omega.{arith}
 use lib.ListN.{length}
 use Rattle.descriptor.specs.declared.GrantRead.the-variants.{IsGrant}
 use Rattle.descriptor.specs.Answer.{grantRead}
 use Rattle.descriptor.specs.Reader.{grantAt}
 use Rattle.descriptor.proofs.GrantBounds.{pattern-room}
-use Rattle.narrowing.specs.Scan.{firstIn}
+use Rattle.narrowing.specs.Scan.{Filled, firstIn}
 use Rattle.narrowing.proofs.NarrowSteps.{first-begin, first-hit, first-next, first-none, first-done}
 use borrow.Author.Needs.{needs}
 use Rattle.narrowing.proofs.search.first.Statement.{statement}
 use Rattle.narrowing.proofs.search.first.Tie as tie
 
 abbrev Inv-loop : tie.InvT-loop
-Inv-loop parent at count own child from grants i₀ here₀ i here =
-    (i ≤ grants) × (firstIn parent at count own child i (grants - i) here ≡ firstIn parent at count own child 0 grants from)
+Inv-loop parent table rows own child from grants i₀ here₀ near₀ i here near =
+    (i ≤ grants)
+    × ((count at : ℕ) → Filled parent table rows count at → firstIn parent at count own child i (grants - i) here ≡ firstIn parent at count own child 0 grants from)
 
 abbrev μ-loop : tie.MeasureT-loop
-μ-loop parent at count own child from grants i₀ here₀ i here = grants - i
+μ-loop parent table rows own child from grants i₀ here₀ near₀ i here near = grants - i
 
 -- the grant that was read
 seen : (k : tie.After-fields Inv-loop μ-loop)
     → grantRead (IsGrant (k .fields .given .0 .0) (k .fields .given .0 .1 .0))
-    ≡ grantAt (k .before .before .before .before .before .before .before .args .child .now) (k .before .before .before .before .loop .here)
+    ≡ grantAt (k .before .before .before .before .before .before .before .before .args .child .now) (k .before .before .before .before .loop .here)
 seen k = sym (ap grantRead (k .fields .given .1)) ∙ k .before .before .read-grant .ensures
 
 -- the grant that was read lies within the child's bytes
 inside : (k : tie.After-fields Inv-loop μ-loop)
     → (46 ≤ k .fields .given .0 .0 .len)
-    × (k .fields .given .0 .0 .pattern + k .fields .given .0 .0 .len ≤ length (k .before .before .before .before .before .before .before .args .child .now))
+    × (k .fields .given .0 .0 .pattern + k .fields .given .0 .0 .len ≤ length (k .before .before .before .before .before .before .before .before .args .child .now))
 inside k = pattern-room _ _ (seen k)
 
 loop-holds : tie.Need-loop-holds Inv-loop μ-loop
-loop-holds c = (omega arith, first-begin _ _ _ _ _ _ _)
+loop-holds c = (omega arith, λ count at f. first-begin _ _ _ _ _ _ _)
 
 read-grant-requires : tie.Need-read-grant-requires Inv-loop μ-loop
 read-grant-requires c κs = search needs
@@ -41,20 +43,32 @@ read-grant-requires c κs = search needs
 enum-known-fields : tie.Need-enum-known-fields Inv-loop μ-loop
 enum-known-fields c = search needs
 
+enum-told : tie.Need-enum-told Inv-loop μ-loop
+enum-told c = search needs
+
+returns : tie.Need-returns Inv-loop μ-loop
+returns c =
+    let r = c .before .before in
+    let l = r .before in
+    λ count at f. first-none _ _ _ _ _ _ _ _ (l .loop-test .taken) (sym (ap grantRead (c .enum-told .given .1)) ∙ r .read-grant .ensures) ∙ l .before .loop .inv .1 count at f
+
 add-end : tie.Need-add-end Inv-loop μ-loop
 add-end c = omega (arith, inside (c .before .before) .0, inside (c .before .before) .1)
 
-add-escape : tie.Need-add-escape Inv-loop μ-loop
-add-escape c = omega (arith, inside (c .before .before) .0, inside (c .before .before) .1)
+add-p : tie.Need-add-p Inv-loop μ-loop
+add-p c = omega (arith, inside (c .before .before .before) .0, inside (c .before .before .before) .1)
 
-sub-escape : tie.Need-sub-escape Inv-loop μ-loop
-sub-escape c = omega (arith, inside (c .before .before) .0, inside (c .before .before) .1)
+sub-p : tie.Need-sub-p Inv-loop μ-loop
+sub-p c = omega (arith, inside (c .before .before .before) .0, inside (c .before .before .before) .1)
 
-part-escape-start : tie.Need-part-escape-start Inv-loop μ-loop
-part-escape-start c = omega (arith, inside (c .before .before) .0, inside (c .before .before) .1)
+part-p-start : tie.Need-part-p-start Inv-loop μ-loop
+part-p-start c = omega (arith, inside (c .before .before .before) .0, inside (c .before .before .before) .1)
 
-part-escape-end : tie.Need-part-escape-end Inv-loop μ-loop
-part-escape-end c = omega (arith, inside (c .before .before) .0, inside (c .before .before) .1)
+part-p-end : tie.Need-part-p-end Inv-loop μ-loop
+part-p-end c = omega (arith, inside (c .before .before .before) .0, inside (c .before .before .before) .1)
+
+alone-requires : tie.Need-alone-requires Inv-loop μ-loop
+alone-requires c κs = search needs
 
 escape-requires : tie.Need-escape-requires Inv-loop μ-loop
 escape-requires c κs = search needs
@@ -62,25 +76,16 @@ escape-requires c κs = search needs
 enum-known-mode : tie.Need-enum-known-mode Inv-loop μ-loop
 enum-known-mode c = search needs
 
-returns : tie.Need-returns Inv-loop μ-loop
-returns c =
+returns-2 : tie.Need-returns-2 Inv-loop μ-loop
+returns-2 c =
     let m = c .before in
     let e = m .before .before in
-    let k = e .before .before .before .before in
+    let k = e .before .before .before .before .before .before .before in
     let l = k .before .before .before in
-    first-hit _ _ _ _ _ _ _ _ (l .loop-test .taken) (seen k) (sym (m .mode .given .1) ∙ e .escape .ensures) ∙ l .before .loop .inv .1
-
-enum-told : tie.Need-enum-told Inv-loop μ-loop
-enum-told c = search needs
+    λ count at f. first-hit _ _ _ _ _ _ _ _ (l .loop-test .taken) (seen k) (sym (m .mode .given .1) ∙ e .escape .ensures count at f) ∙ l .before .loop .inv .1 count at f
 
 enum-told-2 : tie.Need-enum-told-2 Inv-loop μ-loop
 enum-told-2 c = search needs
-
-returns-2 : tie.Need-returns-2 Inv-loop μ-loop
-returns-2 c =
-    let r = c .before .before in
-    let l = r .before in
-    first-none _ _ _ _ _ _ _ _ (l .loop-test .taken) (sym (ap grantRead (c .enum-told2 .given .1)) ∙ r .read-grant .ensures) ∙ l .before .loop .inv .1
 
 add-i : tie.Need-add-i Inv-loop μ-loop
 add-i c = search needs
@@ -90,15 +95,16 @@ loop-less c = search needs
 
 loop-again : tie.Need-loop-again Inv-loop μ-loop
 loop-again c =
-    let e = c .before .before in
-    let k = e .before .before .before .before in
+    let a = c .before in
+    let k = a .before .before .before .before .before in
     let l = k .before .before .before in (
       omega (arith, l .loop-test .taken),
-      first-next _ _ _ _ _ _ _ _ (l .loop-test .taken) (seen k) (sym (c .enum-told .given .1) ∙ e .escape .ensures) ∙ l .before .loop .inv .1,
+      λ count at f. first-next _ _ _ _ _ _ _ _ (l .loop-test .taken) (seen k)
+          (⊎-elim (λ w. sym (w .3 .given .1) ∙ w .1 .ensures count at f) (λ w. a .alone .ensures (w .left) count at f) (c .if1 .came)) ∙ l .before .loop .inv .1 count at f,
     )
 
 returns-3 : tie.Need-returns-3 Inv-loop μ-loop
-returns-3 c = first-done _ _ _ _ _ _ _ _ (c .loop-test .left) ∙ c .before .loop .inv .1
+returns-3 c = λ count at f. first-done _ _ _ _ _ _ _ _ (c .loop-test .left) ∙ c .before .loop .inv .1 count at f
 
 pub first-spec : {M : Type 1} → statement M
 first-spec =
@@ -109,17 +115,18 @@ first-spec =
     loop-holds
     read-grant-requires
     enum-known-fields
+    enum-told
+    returns
     add-end
-    add-escape
-    sub-escape
-    part-escape-start
-    part-escape-end
+    add-p
+    sub-p
+    part-p-start
+    part-p-end
+    alone-requires
     escape-requires
     enum-known-mode
-    returns
-    enum-told
-    enum-told-2
     returns-2
+    enum-told-2
     add-i
     loop-less
     loop-again

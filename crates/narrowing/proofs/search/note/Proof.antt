@@ -1,73 +1,77 @@
--- `note` meets its contract. The invariant: noting what is left leads to what noting all from the beginning does. The measure: the grants left. Assumes nothing.
-use mathlib.Core.Path.{_≡_, refl, sym, ap, _∙_}
-use Prim.Native.Nat.{_+_, _≤_}
+-- `note` meets its contract. The invariant: the rows so far are noted. The measure: the rows left. Assumes nothing.
+use mathlib.Core.Path.{_≡_, ap, _∙_}
+use Prim.Native.Nat.{_+_, _*_, _-_, _≤_, _<_}
 use native.Mathlib.Omega.{arith}
 use lib.ListN.{length}
 use borrow.Author.Needs.{needs}
-use Rattle.descriptor.specs.Answer.{grantRead}
-use Rattle.descriptor.proofs.GrantBounds.{pattern-room}
-use Rattle.narrowing.specs.Scan.{notedAt}
-use Rattle.narrowing.proofs.RangeLaws.{marked-length}
-use Rattle.narrowing.proofs.SearchSteps.{noted-step, noted-stop, noted-done}
+use Rattle.narrowing.specs.Scan.{rowStart, rowEnd, notedRows}
+use Rattle.narrowing.proofs.TableLaws.{rows-length, rows-begin, rows-next}
 use Rattle.narrowing.proofs.search.note.Statement.{statement}
 use Rattle.narrowing.proofs.search.note.Tie as tie
 
 abbrev Inv-loop : tie.InvT-loop
-Inv-loop parent at count p d₀ left₀ here₀ d left here = (length d ≡ length d₀) × (notedAt parent p d left here ≡ notedAt parent p d₀ count at)
+Inv-loop parent table rows p d₀ i₀ d i = (i ≤ rows) × (d ≡ notedRows parent table p d₀ i)
 
 abbrev μ-loop : tie.MeasureT-loop
-μ-loop parent at count p d₀ left₀ here₀ d left here = left
+μ-loop parent table rows p d₀ i₀ d i = rows - i
 
--- the pattern that was read lies within the bytes
-room : (k : tie.After-fields Inv-loop μ-loop)
-    → (46 ≤ k .fields .given .0 .0 .len)
-    × (k .fields .given .0 .0 .pattern + k .fields .given .0 .0 .len ≤ length (k .before .before .before .before .before .before .before .before .args .parent .now))
-room k = pattern-room _ _ (sym (ap grantRead (k .fields .given .1)) ∙ k .before .before .read-grant .ensures)
+-- the table has the row
+room : (k : tie.In-loop Inv-loop μ-loop) → 3 * k .before .loop .i + 2 < length (k .before .before .before .before .before .before .args .table .now)
+room k = omega (arith, k .before .before .before .before .before .before .pre .room, k .loop-test .taken)
+
+-- its levels lie in the parent's bytes
+inside : (k : tie.In-loop Inv-loop μ-loop)
+    → (rowStart (k .before .before .before .before .before .before .args .table .now) (k .before .loop .i) ≤ rowEnd (k .before .before .before .before .before .before .args .table .now) (k .before .loop .i))
+    × (rowEnd (k .before .before .before .before .before .before .args .table .now) (k .before .loop .i) ≤ length (k .before .before .before .before .before .before .args .parent .now))
+inside k = k .before .before .before .before .before .before .pre .row _ (k .loop-test .taken)
 
 loop-holds : tie.Need-loop-holds Inv-loop μ-loop
-loop-holds c = (refl, refl)
+loop-holds c = (omega arith, rows-begin _ _ _ _)
 
-read-grant-requires : tie.Need-read-grant-requires Inv-loop μ-loop
-read-grant-requires c κs = search needs
+mul-k : tie.Need-mul-k Inv-loop μ-loop
+mul-k c = omega (arith, room c)
 
-enum-known-fields : tie.Need-enum-known-fields Inv-loop μ-loop
-enum-known-fields c = search needs
+mul-start : tie.Need-mul-start Inv-loop μ-loop
+mul-start c = omega (arith, room c)
+
+shared-slice-read-start : tie.Need-shared-slice-read-start Inv-loop μ-loop
+shared-slice-read-start c = omega (arith, room (c .before))
 
 add-end : tie.Need-add-end Inv-loop μ-loop
-add-end c = omega (arith, room (c .before .before) .1)
+add-end c = omega (arith, room (c .before))
 
-add-cover : tie.Need-add-cover Inv-loop μ-loop
-add-cover c = omega (arith, room (c .before .before) .0, room (c .before .before) .1)
+mul-end : tie.Need-mul-end Inv-loop μ-loop
+mul-end c = omega (arith, room (c .before))
+
+shared-slice-read-end : tie.Need-shared-slice-read-end Inv-loop μ-loop
+shared-slice-read-end c = omega (arith, room (c .before .before))
 
 sub-cover : tie.Need-sub-cover Inv-loop μ-loop
-sub-cover c = omega (arith, room (c .before .before) .0, room (c .before .before) .1)
+sub-cover c = inside (c .before .before) .0
 
 part-cover-start : tie.Need-part-cover-start Inv-loop μ-loop
-part-cover-start c = omega (arith, room (c .before .before) .0, room (c .before .before) .1)
+part-cover-start c = omega (arith, inside (c .before .before) .0, inside (c .before .before) .1)
 
 part-cover-end : tie.Need-part-cover-end Inv-loop μ-loop
-part-cover-end c = omega (arith, room (c .before .before) .0, room (c .before .before) .1)
+part-cover-end c = omega (arith, inside (c .before .before) .0, inside (c .before .before) .1)
 
 cover-requires : tie.Need-cover-requires Inv-loop μ-loop
 cover-requires c κs = search needs
 
+add-mark : tie.Need-add-mark Inv-loop μ-loop
+add-mark c = omega (arith, room (c .before .before .before .before .before))
+
+mul-mark : tie.Need-mul-mark Inv-loop μ-loop
+mul-mark c = omega (arith, room (c .before .before .before .before .before))
+
+shared-slice-read-mark : tie.Need-shared-slice-read-mark Inv-loop μ-loop
+shared-slice-read-mark c = omega (arith, room (c .before .before .before .before .before .before))
+
 mark-requires : tie.Need-mark-requires Inv-loop μ-loop
 mark-requires c κs = search needs
 
-enum-told : tie.Need-enum-told Inv-loop μ-loop
-enum-told c = search needs
-
-same-length : tie.Need-same-length Inv-loop μ-loop
-same-length c = c .before .before .before .before .loop .inv .0
-
-returns : tie.Need-returns Inv-loop μ-loop
-returns c =
-    let r = c .before .before in
-    let i = r .before in
-    noted-stop _ _ _ _ _ (i .loop-test .taken) (sym (ap grantRead (c .enum-told .given .1)) ∙ r .read-grant .ensures) ∙ i .before .loop .inv .1
-
-sub-left : tie.Need-sub-left Inv-loop μ-loop
-sub-left c = search needs
+add-i : tie.Need-add-i Inv-loop μ-loop
+add-i c = search needs
 
 loop-less : tie.Need-loop-less Inv-loop μ-loop
 loop-less c = search needs
@@ -75,20 +79,21 @@ loop-less c = search needs
 loop-again : tie.Need-loop-again Inv-loop μ-loop
 loop-again c =
     let m = c .before .before in
-    let v = m .before .before in
-    let k = v .before .before .before .before in
-    let i = k .before .before .before in
+    let v = m .before .before .before in
+    let i = v .before .before .before .before in
     let l = i .before in (
-      ap length (m .mark .ensures) ∙ marked-length 0 _ _ _ ∙ l .loop .inv .0,
-      noted-step _ _ _ _ _ _ _ (i .loop-test .taken) (sym (ap grantRead (k .fields .given .1)) ∙ k .before .before .read-grant .ensures) (v .cover .ensures) (m .mark .ensures)
-          ∙ l .loop .inv .1,
+      omega (arith, i .loop-test .taken),
+      rows-next _ _ _ _ _ _ _ _ (l .loop .inv .1) (v .cover .ensures) (m .mark .ensures),
     )
 
-same-length-2 : tie.Need-same-length-2 Inv-loop μ-loop
-same-length-2 c = c .before .loop .inv .0
+same-length : tie.Need-same-length Inv-loop μ-loop
+same-length c = ap length (c .before .loop .inv .1) ∙ rows-length _ _ _ _ _
 
-returns-2 : tie.Need-returns-2 Inv-loop μ-loop
-returns-2 c = noted-done _ _ _ _ _ (omega arith) ∙ c .before .loop .inv .1
+returns : tie.Need-returns Inv-loop μ-loop
+returns c =
+    let l = c .before in
+    let e : l .loop .i ≡ l .before .before .before .before .before .args .rows = omega (arith, l .loop .inv .0, c .loop-test .left) in
+    l .loop .inv .1 ∙ rw e
 
 pub note-spec : {M : Type 1} → statement M
 note-spec =
@@ -97,20 +102,22 @@ note-spec =
     Inv-loop
     μ-loop
     loop-holds
-    read-grant-requires
-    enum-known-fields
+    mul-k
+    mul-start
+    shared-slice-read-start
     add-end
-    add-cover
+    mul-end
+    shared-slice-read-end
     sub-cover
     part-cover-start
     part-cover-end
     cover-requires
+    add-mark
+    mul-mark
+    shared-slice-read-mark
     mark-requires
-    enum-told
-    same-length
-    returns
-    sub-left
+    add-i
     loop-less
     loop-again
-    same-length-2
-    returns-2)
+    same-length
+    returns)

@@ -1,0 +1,160 @@
+-- Laws of a parent's grant that covers a child's grant alone (specs/Scan.antt): then no path escapes by the child's grant. Assumes nothing.
+use mathlib.Core.Path.{_≡_, refl, sym, ap, _∙_, subst}
+use mathlib.Core.Bool.{Bool, true, false, not, cond, _&&_, _||_}
+use mathlib.Core.List.{List}
+use mathlib.Core.Option.{none}
+use Prim.Native.Nat.{ℕ, zero, suc, _+_, _-_, _≤_, _<_}
+use native.Mathlib.Decide.{decLt}
+use native.Mathlib.Omega.{arith}
+use lib.ListN.{length, getD, take, drop, length-replicate}
+use lib.Dec.{eqb, leb, ltb}
+use lib.Bits.{bitOr}
+use borrow.Author.Tests.{leb-true, eqb-true, ne-eqb, eq-eqb, le-leb, lt-ltb}
+use Rattle.cbor_item.specs.Bytes.{part}
+use Rattle.resource.specs.Level.{levels}
+use Rattle.resource.specs.Pattern.{endsDeep}
+use Rattle.resource.specs.Text.{levelsOf}
+use Rattle.resource.proofs.Flags.{and-left, and-right, no-flag}
+use Rattle.descriptor.specs.Reader.{hasMode}
+use Rattle.narrowing.specs.declared.range.Range.{Range}
+use Rattle.narrowing.specs.declared.search.Found.the-variants.{Nothing}
+use Rattle.narrowing.specs.Escape.{least}
+use Rattle.narrowing.specs.Range.{inRange, most, textRange, marked}
+use Rattle.narrowing.specs.Scan.{rowStart, rowEnd, rowMask, rowLevels, notedRows, lacksAt, lowestFrom, zeros, escapeIn, EscapeOf, fullRange, rowCovers}
+use Rattle.narrowing.proofs.RangeLaws.{marked-at, or-mode}
+use Rattle.narrowing.proofs.TableLaws.{rows-length}
+
+-- ---- nothing is lacking
+
+-- where no number passes the search finds none
+least-fails : (f : ℕ → Bool) (a n : ℕ) → ((k : ℕ) → a ≤ k → k < a + n → f k ≡ false) → least f a n ≡ none
+least-fails f a zero h = refl
+least-fails f a (suc n) h = rw (h a (omega arith) (omega arith)) (least-fails f (suc a) n (λ k l g. h k (omega arith) (omega arith)))
+
+-- the masks from `from` on and below `to` have the mode
+abbrev Have : List ℕ → ℕ → ℕ → ℕ → Type 0
+Have d from to m = (k : ℕ) → from ≤ k → k < to → hasMode (getD d k 0) m ≡ true
+
+-- where they have each mode of the mask, nothing is found
+lowest-nothing : (d : List ℕ) (mask from to : ℕ) → from ≤ to → ((m : ℕ) → hasMode mask m ≡ true → Have d from to m)
+    → (m n : ℕ) → lowestFrom d mask from to m n ≡ Nothing
+unfolding lowestFrom
+lowest-nothing d mask from to l h m zero = refl
+lowest-nothing d mask from to l h m (suc n) = go (hasMode mask m) refl (lowest-nothing d mask from to l h (m + 1) n)
+  where
+    go : (b : Bool) → hasMode mask m ≡ b → lowestFrom d mask from to (m + 1) n ≡ Nothing → lowestFrom d mask from to m (suc n) ≡ Nothing
+    go true e r =
+        let o : least (lacksAt d m) from (to - from) ≡ none = least-fails (lacksAt d m) from (to - from) (λ k f g. ap not (h m e k f (omega arith))) in
+        rw (lowestFrom, e, o, r)
+    go false e r = rw (lowestFrom, e, r)
+
+-- ---- what a row notes
+
+-- a mask to which another may be joined keeps its modes
+kept : (b : Bool) (x y m : ℕ) → hasMode x m ≡ true → hasMode (cond b (bitOr x y) x) m ≡ true
+kept true x y m h = or-mode x y m ∙ ap (λ (c : Bool). c || hasMode y m) h
+kept false x y m h = h
+
+-- a test or true is true
+or-true : (a : Bool) → (a || true) ≡ true
+or-true true = refl
+or-true false = refl
+
+-- a mask joined of two has the modes of the second
+joined : (x y m : ℕ) → hasMode y m ≡ true → hasMode (bitOr x y) m ≡ true
+joined x y m h = or-mode x y m ∙ ap (λ (c : Bool). hasMode x m || c) h ∙ or-true (hasMode x m)
+
+-- after n rows are noted the mask at k has a mode of a row whose range has k
+rows-have : (s t p d : List ℕ) (i m k : ℕ) → k < length d → hasMode (rowMask t i) m ≡ true → inRange (textRange (rowLevels s t i) p) k ≡ true
+    → (n : ℕ) → i < n → hasMode (getD (notedRows s t p d n) k 0) m ≡ true
+unfolding notedRows
+rows-have s t p d i m k l h r zero g = absurd (omega arith)
+rows-have s t p d i m k l h r (suc n) g = go (decLt i n) (λ e. rows-have s t p d i m k l h r n e)
+  where
+    x : List ℕ
+    x = notedRows s t p d n
+
+    q : Range
+    q = textRange (rowLevels s t n) p
+
+    one : getD (marked 0 x q (rowMask t n)) k 0 ≡ cond (inRange q k) (bitOr (getD x k 0) (rowMask t n)) (getD x k 0)
+    one = marked-at x q (rowMask t n) k (omega (arith, rows-length s t p d n))
+
+    go : Dec (i < n) → (i < n → hasMode (getD x k 0) m ≡ true) → hasMode (getD (marked 0 x q (rowMask t n)) k 0) m ≡ true
+    go (yes e) f = ap (λ (y : ℕ). hasMode y m) one ∙ kept (inRange q k) (getD x k 0) (rowMask t n) m (f e)
+    go (no e) f =
+        let this : i ≡ n = omega arith in
+        let within : inRange q k ≡ true = subst (λ (j : ℕ). inRange (textRange (rowLevels s t j) p) k ≡ true) this r in
+        ap (λ (y : ℕ). hasMode y m) one ∙ ap (λ (b : Bool). hasMode (cond b (bitOr (getD x k 0) (rowMask t n)) (getD x k 0)) m) within
+        ∙ joined (getD x k 0) (rowMask t n) m (subst (λ (j : ℕ). hasMode (rowMask t j) m ≡ true) this h)
+
+-- ---- a row that covers alone
+
+-- the numbers between two that the range has
+between : (r : Range) (a b k : ℕ) → (r .lo ≤ a) × (b ≤ r .hi) → a ≤ k → k < b → inRange r k ≡ true
+between r a b k e f g = rw (le-leb (r .lo) k (omega (arith, e .0)), lt-ltb k (r .hi) (omega (arith, e .1)))
+
+-- with "**" those that it can take
+full-deep : (r : Range) → fullRange r true ≡ true → (r .lo ≤ 1) × (most ≤ r .hi)
+full-deep r e =
+    (leb-true (r .lo) 1 (and-left (leb (r .lo) 1) (leb most (r .hi)) e), leb-true most (r .hi) (and-right (leb (r .lo) 1) (leb most (r .hi)) e))
+
+-- without "**" 0
+full-flat : (r : Range) → fullRange r false ≡ true → (r .lo ≤ 0) × (1 ≤ r .hi)
+full-flat r e =
+    let lo : r .lo ≡ 0 = eqb-true (r .lo) 0 (and-left (eqb (r .lo) 0) (ltb 0 (r .hi)) e) in
+    (omega arith, leb-true 1 (r .hi) (and-right (eqb (r .lo) 0) (ltb 0 (r .hi)) e))
+
+module _ (s t p : List ℕ) (i n mask : ℕ) (l : i < n) (e : bitOr (rowMask t i) mask ≡ rowMask t i) where
+  -- the masks from a on and below b have each mode, where the range of the row has these numbers
+  rows-full : (a b : ℕ) → b ≤ most → (textRange (rowLevels s t i) p .lo ≤ a) × (b ≤ textRange (rowLevels s t i) p .hi)
+      → (m : ℕ) → hasMode mask m ≡ true → Have (notedRows s t p zeros n) a b m
+  rows-full a b h f m g k v w =
+      let size : length zeros ≡ most = length-replicate {A = ℕ} most 0 in
+      rows-have s t p zeros i m k (omega arith) (sym (ap (λ (x : ℕ). hasMode x m) e) ∙ joined (rowMask t i) mask m g)
+      (between (textRange (rowLevels s t i) p) a b k f v w) n l
+
+  -- nothing is lacking
+  full-nothing : (deep : Bool) → fullRange (textRange (rowLevels s t i) p) deep ≡ true
+      → cond deep (lowestFrom (notedRows s t p zeros n) mask 1 most 0 4) (lowestFrom (notedRows s t p zeros n) mask 0 1 0 4) ≡ Nothing
+  full-nothing true f = lowest-nothing (notedRows s t p zeros n) mask 1 most (omega arith) (rows-full 1 most (omega arith) (full-deep (textRange (rowLevels s t i) p) f)) 0 4
+  full-nothing false f = lowest-nothing (notedRows s t p zeros n) mask 0 1 (omega arith) (rows-full 0 1 (omega arith) (full-flat (textRange (rowLevels s t i) p) f)) 0 4
+
+-- no path escapes where a row covers alone
+pub covers-nothing : (s t p : List ℕ) (i n mask : ℕ) (own deep : Bool) → own ≡ true → deep ≡ endsDeep (levelsOf (levels p)) → i < n
+    → rowCovers s t i p mask deep ≡ true → EscapeOf s t n own p mask Nothing
+unfolding rowCovers escapeIn
+covers-nothing s t p i n mask own deep o e l c count at f = go (eqb (bitOr (rowMask t i) mask) (rowMask t i)) refl c
+  where
+    go : (b : Bool) → eqb (bitOr (rowMask t i) mask) (rowMask t i) ≡ b → cond b (fullRange (textRange (rowLevels s t i) p) deep) false ≡ true
+        → Nothing ≡ escapeIn s at count own p mask
+    go true q r =
+        rw (o, ← e) (sym (full-nothing s t p i n mask l (eqb-true (bitOr (rowMask t i) mask) (rowMask t i) q) deep r)
+        ∙ ap (λ (d : List ℕ). cond deep (lowestFrom d mask 1 most 0 4) (lowestFrom d mask 0 1 0 4)) (f .noted p zeros))
+    go false q r = no-flag r
+
+-- ---- the code's tests
+
+module _ (s t p : List ℕ) (i mask : ℕ) (deep : Bool) where
+  -- the row lacks a mode
+  pub covers-lacks : (bitOr (rowMask t i) mask ≡ rowMask t i → ⊥) → false ≡ rowCovers s t i p mask deep
+  unfolding rowCovers
+  covers-lacks h = sym (rw (ne-eqb (bitOr (rowMask t i) mask) (rowMask t i) h))
+
+  -- it has all, and its range decides
+  covers-range : (r : Range) → bitOr (rowMask t i) mask ≡ rowMask t i
+      → r ≡ textRange (take (rowEnd t i - rowStart t i) (drop (rowStart t i) s)) p → fullRange r deep ≡ rowCovers s t i p mask deep
+  unfolding rowCovers part
+  covers-range r h e = sym (rw (eq-eqb (bitOr (rowMask t i) mask) (rowMask t i) h, e))
+
+  -- with "**" by all numbers that it can take
+  pub covers-deep : (r : Range) → bitOr (rowMask t i) mask ≡ rowMask t i
+      → r ≡ textRange (take (rowEnd t i - rowStart t i) (drop (rowStart t i) s)) p → deep ≡ true
+      → (leb (r .lo) 1 && leb 128 (r .hi)) ≡ rowCovers s t i p mask deep
+  covers-deep r h e d = sym (ap (fullRange r) d) ∙ covers-range r h e
+
+  -- without "**" by 0
+  pub covers-flat : (r : Range) → bitOr (rowMask t i) mask ≡ rowMask t i
+      → r ≡ textRange (take (rowEnd t i - rowStart t i) (drop (rowStart t i) s)) p → deep ≡ false
+      → (eqb (r .lo) 0 && ltb 0 (r .hi)) ≡ rowCovers s t i p mask deep
+  covers-flat r h e d = sym (ap (fullRange r) d) ∙ covers-range r h e

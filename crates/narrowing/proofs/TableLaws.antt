@@ -1,0 +1,219 @@
+-- Laws of the table of the parent's grants (specs/Scan.antt): how it is filled, row by row, and how its rows are noted. Assumes nothing.
+use mathlib.Core.Path.{_≡_, refl, sym, ap, _∙_, subst}
+use mathlib.Core.Bool.{Bool, true, false, cond}
+use mathlib.Core.List.{List, [], _∷_}
+use Prim.Native.Nat.{ℕ, zero, suc, _+_, _*_, _-_, _≤_, _<_}
+use native.Mathlib.Numerals.{add-one}
+use native.Mathlib.Decide.{decLt}
+use native.Mathlib.Omega.{arith}
+use lib.ListN.{length, getD, set, take, drop, length-set, length-replicate}
+use lib.Seq.{getD-set-same, getD-set-other}
+use Rattle.cbor_item.specs.Bytes.{AreBytes, part}
+use Rattle.cbor_item.specs.Reads.{got, refused}
+use Rattle.resource.specs.Level.{levels}
+use Rattle.resource.specs.Pattern.{endsDeep}
+use Rattle.resource.specs.Text.{levelsOf}
+use Rattle.descriptor.specs.declared.Fields.{Fields}
+use Rattle.descriptor.specs.declared.Reading.{Reading}
+use Rattle.descriptor.specs.declared.Reading.the-variants as reading
+use Rattle.descriptor.specs.Model.{Grant}
+use Rattle.descriptor.specs.Reader.{GrantSeen, grantAt, Seen, Answer, read, structure, validity, readOf}
+use Rattle.descriptor.specs.View.{grantsView}
+use Rattle.descriptor.specs.Answer.{readingOf}
+use Rattle.descriptor.proofs.GrantBounds.{pattern-room}
+use Rattle.descriptor_laws.proofs.Promises.{reads-exactly}
+use Rattle.narrowing.specs.declared.range.Range.{Range}
+use Rattle.narrowing.specs.Range.{most, textRange, marked}
+use Rattle.narrowing.specs.Scan.{notedAt, rowStart, rowEnd, rowMask, rowLevels, notedRows, InPlace, Filled, lowestFrom, zeros, escapeIn, EscapeOf}
+use Rattle.narrowing.proofs.RangeLaws.{marked-length}
+use Rattle.narrowing.proofs.SearchSteps.{noted-next, noted-stop, noted-done}
+
+-- ---- noting the rows
+
+-- noting keeps the number of masks
+pub rows-length : (s t p d : List ℕ) (n : ℕ) → length (notedRows s t p d n) ≡ length d
+unfolding notedRows
+rows-length s t p d zero = refl
+rows-length s t p d (suc i) = marked-length 0 (notedRows s t p d i) (textRange (rowLevels s t i) p) (rowMask t i) ∙ rows-length s t p d i
+
+module _ (s t p d : List ℕ) where
+  -- no row is noted at first
+  pub rows-begin : d ≡ notedRows s t p d 0
+  unfolding notedRows
+  rows-begin = refl
+
+  -- one row more was noted, as the code took its levels and wrote
+  pub rows-next : (i : ℕ) (x y : List ℕ) (r : Range) → x ≡ notedRows s t p d i
+      → r ≡ textRange (take (rowEnd t i - rowStart t i) (drop (rowStart t i) s)) p → y ≡ marked 0 x r (rowMask t i) → y ≡ notedRows s t p d (i + 1)
+  unfolding notedRows part
+  rows-next i x y r e f g = g ∙ rw (add-one i, e, f)
+
+-- ---- one row more
+
+-- the table after a row was written
+abbrev pub written : List ℕ → ℕ → ℕ → ℕ → ℕ → List ℕ
+written t i a b m = set (set (set t (3 * i) a) (3 * i + 1) b) (3 * i + 2) m
+
+-- the row's second number has room once the first is written
+pub second-room : (t : List ℕ) (i a : ℕ) → 3 * i + 2 < length t → 3 * i + 1 < length (set t (3 * i) a)
+second-room t i a h = omega (arith, length-set t (3 * i) a)
+
+-- the third has room once these are
+pub third-room : (t : List ℕ) (i a b : ℕ) → 3 * i + 2 < length t → 3 * i + 2 < length (set (set t (3 * i) a) (3 * i + 1) b)
+third-room t i a b h = omega (arith, length-set t (3 * i) a, length-set (set t (3 * i) a) (3 * i + 1) b)
+
+module _ (t : List ℕ) (i a b m : ℕ) where
+  -- it has as many numbers
+  pub written-length : length (written t i a b m) ≡ length t
+  written-length =
+      length-set (set (set t (3 * i) a) (3 * i + 1) b) (3 * i + 2) m ∙ length-set (set t (3 * i) a) (3 * i + 1) b ∙ length-set t (3 * i) a
+
+  -- what stood before the row is kept
+  written-kept : (j : ℕ) → j < 3 * i → getD (written t i a b m) j 0 ≡ getD t j 0
+  written-kept j h =
+      getD-set-other (set (set t (3 * i) a) (3 * i + 1) b) (3 * i + 2) j m 0 (λ e. omega arith)
+      ∙ getD-set-other (set t (3 * i) a) (3 * i + 1) j b 0 (λ e. omega arith)
+      ∙ getD-set-other t (3 * i) j a 0 (λ e. omega arith)
+
+  -- the row has what was written
+  written-start : 3 * i < length t → rowStart (written t i a b m) i ≡ a
+  written-start h =
+      getD-set-other (set (set t (3 * i) a) (3 * i + 1) b) (3 * i + 2) (3 * i) m 0 (λ e. omega arith)
+      ∙ getD-set-other (set t (3 * i) a) (3 * i + 1) (3 * i) b 0 (λ e. omega arith)
+      ∙ getD-set-same t (3 * i) a 0 h
+
+  written-end : 3 * i + 1 < length t → rowEnd (written t i a b m) i ≡ b
+  written-end h =
+      getD-set-other (set (set t (3 * i) a) (3 * i + 1) b) (3 * i + 2) (3 * i + 1) m 0 (λ e. omega arith)
+      ∙ getD-set-same (set t (3 * i) a) (3 * i + 1) b 0 (omega (arith, length-set t (3 * i) a))
+
+  written-mask : 3 * i + 2 < length t → rowMask (written t i a b m) i ≡ m
+  written-mask h = getD-set-same (set (set t (3 * i) a) (3 * i + 1) b) (3 * i + 2) m 0 (third-room t i a b h)
+
+-- noting n rows looks at no more than these
+rows-kept : (s t u p d : List ℕ) (n : ℕ) → ((j : ℕ) → j < 3 * n → getD u j 0 ≡ getD t j 0) → notedRows s u p d n ≡ notedRows s t p d n
+unfolding notedRows
+rows-kept s t u p d zero h = refl
+rows-kept s t u p d (suc i) h =
+    rw (h (3 * i) (omega arith), h (3 * i + 1) (omega arith), h (3 * i + 2) (omega arith), rows-kept s t u p d i (λ j l. h j (omega arith)))
+
+-- ---- filling the table
+
+-- i rows are filled, `left` grants from `here` on are left, and there is room for them
+pub record Begun (s t : List ℕ) (i left here count at : ℕ) : Type 0 where
+  pub places : InPlace s t i
+  pub free : 3 * (i + left) ≤ length t
+  pub noted : (p d : List ℕ) → notedAt s p (notedRows s t p d i) left here ≡ notedAt s p d count at
+
+-- no row is filled at first
+pub begun-first : (s t : List ℕ) (count at : ℕ) → 3 * count ≤ length t → Begun s t 0 count at count at
+unfolding notedRows
+begun-first s t count at h =
+    record { places = record { room = omega arith; row = λ i l. absurd (omega arith) }; free = omega arith; noted = λ p d. refl }
+
+-- the rows that were in place and one that is are in place
+placed-next : (s t : List ℕ) (i a b m : ℕ) → InPlace s t i → 3 * i + 2 < length t → a ≤ b → b ≤ length s → InPlace s (written t i a b m) (i + 1)
+placed-next s t i a b m h l f g = record { room = omega (arith, written-length t i a b m); row = λ j k. go j k (decLt j i) }
+  where
+    go : (j : ℕ) → j < i + 1 → Dec (j < i)
+        → (rowStart (written t i a b m) j ≤ rowEnd (written t i a b m) j) × (rowEnd (written t i a b m) j ≤ length s)
+    go j k (yes n) =
+        let first : rowStart (written t i a b m) j ≡ rowStart t j = written-kept t i a b m (3 * j) (omega arith) in
+        let last : rowEnd (written t i a b m) j ≡ rowEnd t j = written-kept t i a b m (3 * j + 1) (omega arith) in
+        rw (first, last) (h .row j n)
+    go j k (no n) =
+        let this : j ≡ i = omega arith in
+        rw (this, written-start t i a b m (omega arith), written-end t i a b m (omega arith)) (f, g)
+
+-- after a row was written, noting it too is joining its mask
+written-noted : (s t p d : List ℕ) (i m start len : ℕ) → 3 * i + 2 < length t
+    → notedRows s (written t i (start + 46) (start + len) m) p d (i + 1) ≡ marked 0 (notedRows s t p d i) (textRange (part s (start + 46) (len - 46)) p) m
+unfolding notedRows
+written-noted s t p d i m start len l =
+    let a : ℕ = start + 46 in
+    let b : ℕ = start + len in
+    let e : b - a ≡ len - 46 = omega arith in
+    rw (
+      add-one i,
+      written-start t i a b m (omega arith),
+      written-end t i a b m (omega arith),
+      written-mask t i a b m l,
+      rows-kept s t (written t i a b m) p d i (written-kept t i a b m),
+      e,
+    )
+
+module _ (s t : List ℕ) (i left here count at : ℕ) (b : Begun s t i left here count at) where
+  -- one row more
+  pub begun-next : {g : GrantSeen} {next : ℕ} → 0 < left → got g next ≡ grantAt s here
+      → Begun s (written t i (g .pattern .start + 46) (g .pattern .start + g .pattern .len) (g .mask)) (i + 1) (left - 1) next count at
+  begun-next {g} {next} h e =
+      let room : (46 ≤ g .pattern .len) × (g .pattern .start + g .pattern .len ≤ length s) = pattern-room s here e in
+      let fits : 3 * i + 2 < length t = omega (arith, b .free) in
+      let size = written-length t i (g .pattern .start + 46) (g .pattern .start + g .pattern .len) (g .mask) in
+      record {
+        places = placed-next s t i (g .pattern .start + 46) (g .pattern .start + g .pattern .len) (g .mask) (b .places) fits (omega (arith, room .0)) (room .1);
+        free = omega (arith, size, b .free);
+        noted = λ p d. ap (λ (x : List ℕ). notedAt s p x (left - 1) next) (written-noted s t p d i (g .mask) (g .pattern .start) (g .pattern .len) fits)
+            ∙ noted-next s p (notedRows s t p d i) left here h e ∙ b .noted p d;
+      }
+
+  -- the next grant could not be read
+  pub begun-stop : 0 < left → refused ≡ grantAt s here → Filled s t i count at
+  begun-stop h e = record { places = b .places; noted = λ p d. noted-stop s p (notedRows s t p d i) left here h e ∙ b .noted p d }
+
+  -- none is left
+  pub begun-done : left ≤ 0 → Filled s t i count at
+  begun-done h = record { places = b .places; noted = λ p d. noted-done s p (notedRows s t p d i) left here h ∙ b .noted p d }
+
+-- ---- an escape
+
+module _ (s t : List ℕ) (n : ℕ) (own : Bool) (p : List ℕ) where
+  -- the masks, noted where the terminal id is the parent's
+  abbrev pub masksOf : List ℕ
+  masksOf = cond own (notedRows s t p zeros n) zeros
+
+  -- they are 128
+  pub masks-length : (d : List ℕ) → d ≡ masksOf → 128 ≡ length d
+  masks-length d e = sym (ap length e ∙ by own)
+    where
+      by : (b : Bool) → length (cond b (notedRows s t p zeros n) zeros) ≡ 128
+      by true = rows-length s t p zeros n ∙ length-replicate {A = ℕ} most 0
+      by false = length-replicate {A = ℕ} most 0
+
+  -- "**" takes one name or more
+  pub escape-deep : (mask : ℕ) (d : List ℕ) (b : Bool) → d ≡ masksOf → b ≡ endsDeep (levelsOf (levels p)) → b ≡ true
+      → EscapeOf s t n own p mask (lowestFrom d mask 1 128 0 4)
+  unfolding escapeIn
+  escape-deep mask d b e f g count at h =
+      ap (λ (x : List ℕ). lowestFrom x mask 1 128 0 4) (e ∙ ap (λ (x : List ℕ). cond own x zeros) (h .noted p zeros)) ∙ rw (sym f ∙ g)
+
+  -- without "**" there is none to take
+  pub escape-flat : (mask : ℕ) (d : List ℕ) (b : Bool) → d ≡ masksOf → b ≡ endsDeep (levelsOf (levels p)) → b ≡ false
+      → EscapeOf s t n own p mask (lowestFrom d mask 0 1 0 4)
+  unfolding escapeIn
+  escape-flat mask d b e f g count at h =
+      ap (λ (x : List ℕ). lowestFrom x mask 0 1 0 4) (e ∙ ap (λ (x : List ℕ). cond own x zeros) (h .noted p zeros)) ∙ rw (sym f ∙ g)
+
+-- ---- how many grants there are
+
+-- at most 256 where a descriptor was read
+abbrev Few : Reading → Type 0
+Few (reading.Read v) = v .grants ≤ 256
+Few reading.Structure = Unit {0}
+Few reading.Validity = Unit {0}
+
+-- as many as there are are seen
+view-few : (at : ℕ) (gs : List Grant) → length gs ≤ 256 → grantsView at gs .count ≤ 256
+view-few at [] h = omega arith
+view-few at (g ∷ gs) h = h
+
+few-read : (s : List ℕ) → AreBytes s → (a : Answer) → readOf s ≡ a → Few (readingOf a)
+few-read s b (read x) e =
+    let r = reads-exactly s b x .0 e in
+    subst (λ (y : Seen). y .payload .opening .grants .count ≤ 256) (sym (r .3)) (view-few _ (r .0 .payload .grants) (r .1 .formed .payload .most))
+few-read s b structure e = tt
+few-read s b validity e = tt
+
+-- a descriptor that reads has at most 256 grants
+pub grants-few : (s : List ℕ) (v : Fields) → AreBytes s → reading.Read v ≡ readingOf (readOf s) → v .grants ≤ 256
+grants-few s v b e = subst Few (sym e) (few-read s b (readOf s) refl)

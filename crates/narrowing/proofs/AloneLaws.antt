@@ -1,6 +1,6 @@
 -- Laws of a parent's grant that covers a child's grant alone (specs/Scan.antt): then no path escapes by the child's grant. Assumes nothing.
 use mathlib.Core.Path.{_≡_, refl, sym, ap, _∙_, subst}
-use mathlib.Core.Bool.{Bool, true, false, not, cond, _&&_, _||_}
+use mathlib.Core.Bool.{Bool, true, false, not, cond, _||_}
 use mathlib.Core.List.{List}
 use mathlib.Core.Option.{none}
 use Prim.Native.Nat.{ℕ, zero, suc, _+_, _-_, _≤_, _<_}
@@ -142,19 +142,7 @@ module _ (s t p : List ℕ) (i mask : ℕ) (deep : Bool) where
   covers-lacks h = sym (rw (ne-eqb (bitOr (rowMask t i) mask) (rowMask t i) h))
 
   -- it has all, and its range decides
-  covers-range : (r : Range) → bitOr (rowMask t i) mask ≡ rowMask t i
+  pub covers-range : (r : Range) → bitOr (rowMask t i) mask ≡ rowMask t i
       → r ≡ textRange (take (rowEnd t i - rowStart t i) (drop (rowStart t i) s)) p → fullRange r deep ≡ rowCovers s t i p mask deep
   unfolding rowCovers part
   covers-range r h e = sym (rw (eq-eqb (bitOr (rowMask t i) mask) (rowMask t i) h, e))
-
-  -- with "**" by all numbers that it can take
-  pub covers-deep : (r : Range) → bitOr (rowMask t i) mask ≡ rowMask t i
-      → r ≡ textRange (take (rowEnd t i - rowStart t i) (drop (rowStart t i) s)) p → deep ≡ true
-      → (leb (r .lo) 1 && leb 128 (r .hi)) ≡ rowCovers s t i p mask deep
-  covers-deep r h e d = sym (ap (fullRange r) d) ∙ covers-range r h e
-
-  -- without "**" by 0
-  pub covers-flat : (r : Range) → bitOr (rowMask t i) mask ≡ rowMask t i
-      → r ≡ textRange (take (rowEnd t i - rowStart t i) (drop (rowStart t i) s)) p → deep ≡ false
-      → (eqb (r .lo) 0 && ltb 0 (r .hi)) ≡ rowCovers s t i p mask deep
-  covers-flat r h e d = sym (ap (fullRange r) d) ∙ covers-range r h e

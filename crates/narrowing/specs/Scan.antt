@@ -101,9 +101,9 @@ fullRange r false = eqb (r .lo) 0 && ltb 0 (r .hi)
 unfoldable pub rowCovers : List ℕ → List ℕ → ℕ → List ℕ → ℕ → Bool → Bool
 rowCovers s t i p mask deep = cond (eqb (bitOr (rowMask t i) mask) (rowMask t i)) (fullRange (textRange (rowLevels s t i) p) deep) false
 
--- where r is a row of the table, no path escapes by a grant with the levels p and the mask
-abbrev pub AloneOf : List ℕ → List ℕ → ℕ → Bool → List ℕ → ℕ → ℕ → Type 0
-AloneOf s t n own p mask r = r < n → EscapeOf s t n own p mask Nothing
+-- where r is one of the n rows, its grant alone covers a grant with the levels p and the mask
+abbrev pub AloneOf : List ℕ → List ℕ → ℕ → List ℕ → ℕ → Bool → ℕ → Type 0
+AloneOf s t n p mask deep r = r < n → rowCovers s t r p mask deep ≡ true
 
 -- an escape by the grant at i, or what the next grants have
 abbrev pub orNext : ℕ → Found → Narrowing → Narrowing

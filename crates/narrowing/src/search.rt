@@ -13,7 +13,8 @@ ghost use Rattle.resource.specs.Pattern.{endsDeep};
 ghost use Rattle.resource.specs.Text.{levelsOf};
 ghost use Rattle.descriptor.specs.Reader.{hasMode};
 ghost use Rattle.narrowing.specs.Escape.{least, orElse};
-ghost use Rattle.narrowing.specs.Scan.{rowStart, rowEnd, notedRows, InPlace, Filled, lacksAt, lowestFrom, EscapeOf, rowCovers, AloneOf, FirstOf};
+ghost use Rattle.narrowing.specs.Range.{range};
+ghost use Rattle.narrowing.specs.Scan.{rowStart, rowEnd, notedRows, InPlace, Filled, lacksAt, lowestFrom, EscapeOf, fullRange, rowCovers, AloneOf, FirstOf};
 
 // A mode and a number of names.
 pub(crate) enum Found {
@@ -47,22 +48,6 @@ pub(crate) fn fill(parent: &[u8], at: usize, count: u64, table: &mut [usize]) ->
         left -= 1;
     }
     i
-}
-
-// Notes for each number of names the modes in which the grants of the table cover the levels p.
-fn note(parent: &[u8], table: &[usize], rows: usize, p: &[u8], d: &mut [u64])
-    requires { ⌜ InPlace (now parent) (now table) rows ⌝ }
-    ensures { λ r. ⌜ now (d .exit) ≡ notedRows (now (parent .entry)) (now (table .entry)) (now (p .entry)) (now (d .entry)) rows ⌝ }
-{
-    let mut i = 0;
-    while i < rows {
-        let k = 3 * i;
-        let start = table[k];
-        let end = table[k + 1];
-        let r = cover(&parent[start..end], p);
-        mark(d, r, table[k + 2] as u64);
-        i += 1;
-    }
 }
 
 // Whether the mask lacks the mode.
@@ -131,22 +116,17 @@ fn lowest(d: &[u64], mask: u64, from: usize, to: usize) -> Found
     Found::Nothing
 }
 
-// How a path escapes by a grant with the levels p and the mask; `own` where its terminal id is the parent's.
-fn escape(parent: &[u8], table: &[usize], rows: usize, own: bool, p: &[u8], mask: u64) -> Found
-    requires { ⌜ InPlace (now parent) (now table) rows ⌝ }
-    ensures { λ r. ⌜ EscapeOf (now (parent .entry)) (now (table .entry)) rows own (now (p .entry)) mask r ⌝ }
+// Whether the numbers from lo on and below hi are all that "**" can take; without "**" whether 0 is one of them.
+fn full(lo: usize, hi: usize, deep: bool) -> bool
+    ensures { λ r. ⌜ r ≡ fullRange (range lo hi) deep ⌝ }
 {
-    let mut d = [0u64; 128];
-    if own {
-        note(parent, table, rows, p, &mut d);
+    if deep {
+        return (lo <= 1) & (128 <= hi);
     }
-    if ends_deep(p) {
-        return lowest(&d, mask, 1, 128);
-    }
-    lowest(&d, mask, 0, 1)
+    (lo == 0) & (0 < hi)
 }
 
-// Whether the grant of row i has all modes of the mask and covers the levels p with each number of names; `deep` where these end with "**".
+// Whether the grant of row i alone covers a grant with the levels p and the mask; `deep` where the levels end with "**".
 fn covers_all(parent: &[u8], table: &[usize], i: usize, p: &[u8], mask: u64, deep: bool) -> bool
     requires { ⌜ (3 * i + 2 < length (now table)) × (rowStart (now table) i ≤ rowEnd (now table) i) × (rowEnd (now table) i ≤ length (now parent)) ⌝ }
     ensures { λ r. ⌜ r ≡ rowCovers (now (parent .entry)) (now (table .entry)) i (now (p .entry)) mask deep ⌝ }
@@ -159,13 +139,10 @@ fn covers_all(parent: &[u8], table: &[usize], i: usize, p: &[u8], mask: u64, dee
     let start = table[k];
     let end = table[k + 1];
     let r = cover(&parent[start..end], p);
-    if deep {
-        return (r.lo <= 1) & (128 <= r.hi);
-    }
-    (r.lo == 0) & (0 < r.hi)
+    full(r.lo, r.hi, deep)
 }
 
-// Row i, or the first where there is none.
+// Row i, or the first row where i is past the last.
 fn turned(i: usize, rows: usize) -> usize
     requires { ⌜ 0 < rows ⌝ }
     ensures { λ r. ⌜ r < rows ⌝ }
@@ -176,37 +153,119 @@ fn turned(i: usize, rows: usize) -> usize
     0
 }
 
-// A row, from `near` on and then from the first on, whose grant alone covers a grant with the levels p and the mask; `rows` where there is none.
+// The row `near` or the one after it, where its grant alone covers a grant with the levels p and the mask; else `rows`.
 fn alone(
     parent: &[u8],
     table: &[usize],
     rows: usize,
-    own: bool,
     near: usize,
     p: &[u8],
     mask: u64,
+    deep: bool,
 ) -> usize
     requires { ⌜ InPlace (now parent) (now table) rows ⌝ }
-    ensures { λ r. ⌜ AloneOf (now (parent .entry)) (now (table .entry)) rows own (now (p .entry)) mask r ⌝ }
+    ensures { λ r. ⌜ AloneOf (now (parent .entry)) (now (table .entry)) rows (now (p .entry)) mask deep r ⌝ }
 {
-    if !own {
+    if rows == 0 {
         return rows;
     }
-    let deep = ends_deep(p);
-    let mut i = near;
-    let mut tried: usize = 0;
-    while tried < rows {
-        let row = turned(i, rows);
-        if covers_all(parent, table, row, p, mask, deep) {
-            return row;
-        }
-        i = row + 1;
-        tried += 1;
+    let row = turned(near, rows);
+    if covers_all(parent, table, row, p, mask, deep) {
+        return row;
+    }
+    let next = turned(row + 1, rows);
+    if covers_all(parent, table, next, p, mask, deep) {
+        return next;
     }
     rows
 }
 
-// The first of the child's grants from `from` on by which a path escapes. A grant is tried first with the parent's grant that covered the one before it.
+// Notes for each number of names the modes in which the grants of the table cover the levels p, and answers `rows`. Where a grant alone covers a grant with these
+// levels and the mask, it stops and answers its row.
+fn note(
+    parent: &[u8],
+    table: &[usize],
+    rows: usize,
+    p: &[u8],
+    mask: u64,
+    deep: bool,
+    d: &mut [u64],
+) -> usize
+    requires { ⌜ InPlace (now parent) (now table) rows ⌝ }
+    ensures alone { λ r. ⌜ AloneOf (now (parent .entry)) (now (table .entry)) rows (now (p .entry)) mask deep r ⌝ }
+    ensures noted { λ r. ⌜ (rows ≤ r → now (d .exit) ≡ notedRows (now (parent .entry)) (now (table .entry)) (now (p .entry)) (now (d .entry)) rows) ⌝ }
+{
+    let mut i = 0;
+    while i < rows {
+        let k = 3 * i;
+        let start = table[k];
+        let end = table[k + 1];
+        let modes = table[k + 2] as u64;
+        let r = cover(&parent[start..end], p);
+        if modes | mask == modes {
+            if full(r.lo, r.hi, deep) {
+                return i;
+            }
+        }
+        mark(d, r, modes);
+        i += 1;
+    }
+    rows
+}
+
+// How a path escapes by a grant with the levels p and the mask; `own` where its terminal id is the parent's. Where one row alone covers the grant,
+// `near` becomes that row.
+fn escape(
+    parent: &[u8],
+    table: &[usize],
+    rows: usize,
+    own: bool,
+    p: &[u8],
+    mask: u64,
+    near: &mut usize,
+) -> Found
+    requires { ⌜ InPlace (now parent) (now table) rows ⌝ }
+    ensures { λ r. ⌜ EscapeOf (now (parent .entry)) (now (table .entry)) rows own (now (p .entry)) mask r ⌝ }
+{
+    let mut d = [0u64; 128];
+    let deep = ends_deep(p);
+    if own {
+        let row = note(parent, table, rows, p, mask, deep, &mut d);
+        if row < rows {
+            *near = row;
+            return Found::Nothing;
+        }
+    }
+    if deep {
+        return lowest(&d, mask, 1, 128);
+    }
+    lowest(&d, mask, 0, 1)
+}
+
+// The same, with the row `near` and the one after it tried first: a child's grants often stand in the order of the parent's.
+fn escape_near(
+    parent: &[u8],
+    table: &[usize],
+    rows: usize,
+    own: bool,
+    p: &[u8],
+    mask: u64,
+    near: &mut usize,
+) -> Found
+    requires { ⌜ InPlace (now parent) (now table) rows ⌝ }
+    ensures { λ r. ⌜ EscapeOf (now (parent .entry)) (now (table .entry)) rows own (now (p .entry)) mask r ⌝ }
+{
+    if own {
+        let row = alone(parent, table, rows, *near, p, mask, ends_deep(p));
+        if row < rows {
+            *near = row;
+            return Found::Nothing;
+        }
+    }
+    escape(parent, table, rows, own, p, mask, near)
+}
+
+// The first of the child's grants from `from` on by which a path escapes.
 pub(crate) fn first(
     parent: &[u8],
     table: &[usize],
@@ -228,15 +287,13 @@ pub(crate) fn first(
         };
         let end = fields.pattern + fields.len;
         let p = &child[fields.pattern + 46..end];
-        near = alone(parent, table, rows, own, near, p, fields.mask);
-        if rows <= near {
-            if let Found::At { mode, levels } = escape(parent, table, rows, own, p, fields.mask) {
-                return Narrowing::NotCovered {
-                    grant: i,
-                    mode,
-                    levels,
-                };
-            }
+        let found = escape_near(parent, table, rows, own, p, fields.mask, &mut near);
+        if let Found::At { mode, levels } = found {
+            return Narrowing::NotCovered {
+                grant: i,
+                mode,
+                levels,
+            };
         }
         here = next;
         i += 1;

@@ -1,6 +1,7 @@
 -- `covers_all` meets its contract. Assumes nothing.
+use mathlib.Core.Path.{_∙_}
 use borrow.Author.Needs.{needs}
-use Rattle.narrowing.proofs.AloneLaws.{covers-lacks, covers-deep, covers-flat}
+use Rattle.narrowing.proofs.AloneLaws.{covers-lacks, covers-range}
 use Rattle.narrowing.proofs.search.covers_all.Statement.{statement}
 use Rattle.narrowing.proofs.search.covers_all.Tie as tie
 
@@ -46,17 +47,13 @@ part-cover-end c = search needs
 cover-requires : tie.Need-cover-requires
 cover-requires c κs = search needs
 
+full-requires : tie.Need-full-requires
+full-requires c κs = search needs
+
 returns-2 : tie.Need-returns-2
 returns-2 c =
-    let b = c .before .before in
-    let v = b .before in
-    covers-deep _ _ _ _ _ _ _ (v .before .before .before .before .if1 .left) (v .cover .ensures) (b .if2 .taken)
-
-returns-3 : tie.Need-returns-3
-returns-3 c =
-    let b = c .before .before in
-    let v = b .before in
-    covers-flat _ _ _ _ _ _ _ (v .before .before .before .before .if1 .left) (v .cover .ensures) (b .if2 .left)
+    let v = c .before in
+    c .full .ensures ∙ covers-range _ _ _ _ _ _ _ (v .before .before .before .before .if1 .left) (v .cover .ensures)
 
 pub covers-all-spec : {M : Type 1} → statement M
 covers-all-spec =
@@ -76,5 +73,5 @@ covers-all-spec =
     part-cover-start
     part-cover-end
     cover-requires
-    returns-2
-    returns-3)
+    full-requires
+    returns-2)

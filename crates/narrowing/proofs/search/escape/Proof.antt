@@ -5,21 +5,25 @@ use native.Mathlib.Omega.{arith}
 use lib.ListN.{length}
 use borrow.Author.Needs.{needs}
 use Rattle.narrowing.proofs.TableLaws.{masksOf, masks-length, escape-deep, escape-flat}
+use Rattle.narrowing.proofs.AloneLaws.{covers-nothing}
 use Rattle.narrowing.proofs.search.escape.Statement.{statement}
 use Rattle.narrowing.proofs.search.escape.Tie as tie
 
 -- where the two ways meet, the masks are noted or none is
 noted : (j : tie.Joined1)
     → j .if1 .d
-    ≡ masksOf (j .before .before .before .before .args .parent .now) (j .before .before .before .before .args .table .now) (j .before .before .before .before .args .rows)
-    (j .before .before .before .before .args .own) (j .before .before .before .before .args .p .now)
-noted j = ⊎-elim (λ w. w .4 ∙ w .2 .ensures ∙ rw (w .0 .taken)) (λ w. w .1 ∙ rw (w .0 .left)) (j .if1 .came)
+    ≡ masksOf (j .before .before .before .before .before .args .parent .now) (j .before .before .before .before .before .args .table .now) (j .before .before .before .before .before .args .rows)
+    (j .before .before .before .before .before .args .own) (j .before .before .before .before .before .args .p .now)
+noted j = ⊎-elim (λ w. w .5 ∙ w .2 .ensures .1 (w .4 .left) ∙ rw (w .0 .taken)) (λ w. w .1 ∙ rw (w .0 .left)) (j .if1 .came)
 
 -- they are 128
 full : (j : tie.Joined1) → 128 ≡ length (j .if1 .d)
 full j =
-    let a = j .before .before .before .before .args in
+    let a = j .before .before .before .before .before .args in
     masks-length (a .parent .now) (a .table .now) (a .rows) (a .own) (a .p .now) (j .if1 .d) (noted j)
+
+ends-deep-requires : tie.Need-ends-deep-requires
+ends-deep-requires c κs = search needs
 
 slice-aggregate-note : tie.Need-slice-aggregate-note
 slice-aggregate-note c = search needs
@@ -27,43 +31,47 @@ slice-aggregate-note c = search needs
 note-requires : tie.Need-note-requires
 note-requires c κs = search needs
 
-ends-deep-requires : tie.Need-ends-deep-requires
-ends-deep-requires c κs = search needs
-
-slice-aggregate-lowest : tie.Need-slice-aggregate-lowest
-slice-aggregate-lowest c = full (c .before .before .before)
-
-lowest-requires : tie.Need-lowest-requires
-lowest-requires c κs = (omega arith, omega (arith, full (c .before .before .before)))
-
 returns : tie.Need-returns
 returns c =
-    let t = c .before .before in
-    let j = t .before .before in
-    λ count at f. c .lowest .ensures ∙ escape-deep _ _ _ _ _ _ _ _ (noted j) (t .before .ends-deep .ensures) (t .if2 .taken) count at f
+    let n = c .before .before in
+    let t = n .before .before in
+    covers-nothing _ _ _ _ _ _ _ _ (t .if1 .taken) (t .before .ends-deep .ensures) (c .if2 .taken) (n .note .ensures .0 (c .if2 .taken))
 
-slice-aggregate-lowest-2 : tie.Need-slice-aggregate-lowest-2
-slice-aggregate-lowest-2 c = full (c .before .before .before)
+slice-aggregate-lowest : tie.Need-slice-aggregate-lowest
+slice-aggregate-lowest c = full (c .before .before)
 
-lowest-requires-2 : tie.Need-lowest-requires-2
-lowest-requires-2 c κs = (omega arith, omega (arith, full (c .before .before .before)))
+lowest-requires : tie.Need-lowest-requires
+lowest-requires c κs = (omega arith, omega (arith, full (c .before .before)))
 
 returns-2 : tie.Need-returns-2
 returns-2 c =
     let t = c .before .before in
-    let j = t .before .before in
-    λ count at f. c .lowest2 .ensures ∙ escape-flat _ _ _ _ _ _ _ _ (noted j) (t .before .ends-deep .ensures) (t .if2 .left) count at f
+    let j = t .before in
+    λ count at f. c .lowest .ensures ∙ escape-deep _ _ _ _ _ _ _ _ (noted j) (j .before .ends-deep .ensures) (t .if3 .taken) count at f
+
+slice-aggregate-lowest-2 : tie.Need-slice-aggregate-lowest-2
+slice-aggregate-lowest-2 c = full (c .before .before)
+
+lowest-requires-2 : tie.Need-lowest-requires-2
+lowest-requires-2 c κs = (omega arith, omega (arith, full (c .before .before)))
+
+returns-3 : tie.Need-returns-3
+returns-3 c =
+    let t = c .before .before in
+    let j = t .before in
+    λ count at f. c .lowest2 .ensures ∙ escape-flat _ _ _ _ _ _ _ _ (noted j) (j .before .ends-deep .ensures) (t .if3 .left) count at f
 
 pub escape-spec : {M : Type 1} → statement M
 escape-spec =
     tie.close
     (tie.spec
+    ends-deep-requires
     slice-aggregate-note
     note-requires
-    ends-deep-requires
+    returns
     slice-aggregate-lowest
     lowest-requires
-    returns
+    returns-2
     slice-aggregate-lowest-2
     lowest-requires-2
-    returns-2)
+    returns-3)

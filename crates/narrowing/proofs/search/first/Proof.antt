@@ -1,6 +1,5 @@
 -- `first` meets its contract. Assumes nothing.
 use mathlib.Core.Path.{_≡_, sym, ap, _∙_}
-use mathlib.Core.Logic.{⊎-elim}
 use Prim.Native.Nat.{ℕ, _+_, _-_, _≤_}
 use native.Mathlib.Omega.{arith}
 use lib.ListN.{length}
@@ -67,22 +66,19 @@ part-p-start c = omega (arith, inside (c .before .before .before) .0, inside (c 
 part-p-end : tie.Need-part-p-end Inv-loop μ-loop
 part-p-end c = omega (arith, inside (c .before .before .before) .0, inside (c .before .before .before) .1)
 
-alone-requires : tie.Need-alone-requires Inv-loop μ-loop
-alone-requires c κs = search needs
+escape-near-requires : tie.Need-escape-near-requires Inv-loop μ-loop
+escape-near-requires c κs = search needs
 
-escape-requires : tie.Need-escape-requires Inv-loop μ-loop
-escape-requires c κs = search needs
-
-enum-known-mode : tie.Need-enum-known-mode Inv-loop μ-loop
-enum-known-mode c = search needs
+enum-known-found : tie.Need-enum-known-found Inv-loop μ-loop
+enum-known-found c = search needs
 
 returns-2 : tie.Need-returns-2 Inv-loop μ-loop
 returns-2 c =
     let m = c .before in
     let e = m .before .before in
-    let k = e .before .before .before .before .before .before .before in
+    let k = e .before .before .before .before .before .before in
     let l = k .before .before .before in
-    λ count at f. first-hit _ _ _ _ _ _ _ _ (l .loop-test .taken) (seen k) (sym (m .mode .given .1) ∙ e .escape .ensures count at f) ∙ l .before .loop .inv .1 count at f
+    λ count at f. first-hit _ _ _ _ _ _ _ _ (l .loop-test .taken) (seen k) (sym (m .found .given .1) ∙ e .escape-near .ensures count at f) ∙ l .before .loop .inv .1 count at f
 
 enum-told-2 : tie.Need-enum-told-2 Inv-loop μ-loop
 enum-told-2 c = search needs
@@ -95,12 +91,11 @@ loop-less c = search needs
 
 loop-again : tie.Need-loop-again Inv-loop μ-loop
 loop-again c =
-    let a = c .before in
-    let k = a .before .before .before .before .before in
+    let e = c .before .before in
+    let k = e .before .before .before .before .before .before in
     let l = k .before .before .before in (
       omega (arith, l .loop-test .taken),
-      λ count at f. first-next _ _ _ _ _ _ _ _ (l .loop-test .taken) (seen k)
-          (⊎-elim (λ w. sym (w .3 .given .1) ∙ w .1 .ensures count at f) (λ w. a .alone .ensures (w .left) count at f) (c .if1 .came)) ∙ l .before .loop .inv .1 count at f,
+      λ count at f. first-next _ _ _ _ _ _ _ _ (l .loop-test .taken) (seen k) (sym (c .enum-told2 .given .1) ∙ e .escape-near .ensures count at f) ∙ l .before .loop .inv .1 count at f,
     )
 
 returns-3 : tie.Need-returns-3 Inv-loop μ-loop
@@ -122,9 +117,8 @@ first-spec =
     sub-p
     part-p-start
     part-p-end
-    alone-requires
-    escape-requires
-    enum-known-mode
+    escape-near-requires
+    enum-known-found
     returns-2
     enum-told-2
     add-i

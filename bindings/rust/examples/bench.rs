@@ -34,12 +34,10 @@ fn main() {
         let bytes = rooms(grants).bytes();
         narrowing(&format!("narrowing, grants {grants}"), &bytes, &bytes);
     }
-    let (parent, child) = slow_to_narrow();
-    narrowing(
-        "narrowing, grants 256, worst case",
-        &parent.bytes(),
-        &child.bytes(),
-    );
+    narrowing_of("narrowing, 256, another order", (rooms(256), other_order()));
+    narrowing_of("narrowing, 256, one covers all", one_covers_all());
+    narrowing_of("narrowing, 256, long, another order", long_other_order());
+    narrowing_of("narrowing, 256, two cover each", two_cover_each());
     for rows in [1, 63] {
         submission(rows);
     }
@@ -118,6 +116,11 @@ fn matching(levels: usize) {
     );
 }
 
+/// Narrowing of a child under a parent.
+fn narrowing_of(case: &str, (parent, child): (Model, Model)) {
+    narrowing(case, &parent.bytes(), &child.bytes());
+}
+
 /// Narrowing of a child that the parent covers.
 fn narrowing(case: &str, parent: &[u8], child: &[u8]) {
     race_and_print(
@@ -162,31 +165,65 @@ fn rooms(count: usize) -> Model {
     )
 }
 
-/// A parent and a child of 256 grants, of which each grant of the parent matches each of the child up to the last level, where only the last does.
-fn slow_to_narrow() -> (Model, Model) {
-    let stars = vec!["*"; 14].join("/");
-    let start = |number: usize| {
-        (0..8)
-            .map(|bit| ["n/", "*/"][number >> bit & 1])
-            .collect::<String>()
+/// The grants of 256 rooms in an order in which neighbours are far apart.
+fn other_order() -> Model {
+    Model::with(
+        (0..256)
+            .map(|room| grant(&["read"], &format!("lab/room-{:03}/camera/*", apart(room))))
+            .collect(),
+    )
+}
+
+/// A number below 256 for each, far from that of its neighbour.
+fn apart(number: usize) -> usize {
+    (number * 101 + 57) % 256
+}
+
+/// Eight levels that match eight names "n", other ones for each number below 256.
+fn start(number: usize) -> String {
+    (0..8).map(|bit| ["n/", "*/"][number >> bit & 1]).collect()
+}
+
+/// So many levels of the same text.
+fn levels(text: &str, count: usize) -> String {
+    vec![text; count].join("/")
+}
+
+/// A descriptor that grants reading by each of the patterns.
+fn readers(patterns: impl Iterator<Item = String>) -> Model {
+    Model::with(patterns.map(|levels| grant(&["read"], &levels)).collect())
+}
+
+/// A parent and a child of 256 grants: the parent's match the child's up to the last level, where only the last of them does, for each of the child's.
+fn one_covers_all() -> (Model, Model) {
+    let (stars, names) = (levels("*", 14), levels("n", 22));
+    let last = |number: usize| match number {
+        255 => "*".to_string(),
+        _ => format!("{number:03}"),
     };
-    let mut parent: Vec<String> = (0..255)
-        .map(|number| format!("{}{stars}/{number:03}", start(number)))
-        .collect();
-    parent.push(format!("{}{stars}/*", start(255)));
-    let names = vec!["n"; 22].join("/");
-    let child: Vec<String> = (0..256)
-        .map(|number| format!("{names}/x{number:02x}"))
-        .collect();
-    let model = |patterns: Vec<String>| {
-        Model::with(
-            patterns
-                .iter()
-                .map(|levels| grant(&["read"], levels))
-                .collect(),
-        )
-    };
-    (model(parent), model(child))
+    (
+        readers((0..256).map(|n| format!("{}{stars}/{}", start(n), last(n)))),
+        readers((0..256).map(|n| format!("{names}/x{n:02x}"))),
+    )
+}
+
+/// A parent and a child of 256 long grants, each of the child's covered by one of the parent's, in another order.
+fn long_other_order() -> (Model, Model) {
+    let (stars, names) = (levels("*", 14), levels("n", 22));
+    (
+        readers((0..256).map(|n| format!("{}{stars}/x{n:02x}", start(n)))),
+        readers((0..256).map(|n| format!("{names}/x{:02x}", apart(n)))),
+    )
+}
+
+/// A parent of 256 long grants and a child of 128, each of the child's covered by two of the parent's together and by none alone.
+fn two_cover_each() -> (Model, Model) {
+    let (stars, names) = (levels("*", 10), levels("n", 18));
+    let tail = |number: usize| ["*", "*/**"][number % 2];
+    (
+        readers((0..256).map(|n| format!("{}{stars}/x{:02x}/{}", start(n), n / 2, tail(n)))),
+        readers((0..128).map(|n| format!("{names}/x{n:02x}/**"))),
+    )
 }
 
 /// Times the two and prints the time of a call.

@@ -3,7 +3,10 @@
 SHELL := bash
 CARGO := cargo --offline
 
-.PHONY: test lib example match bench header differential
+# cargo's own folder, where it is not on the path
+export PATH := $(PATH):$(shell getent passwd "$$(id -u)" | cut -d: -f6)/.cargo/bin
+
+.PHONY: test lib example match bench header differential tools
 
 # proves every crate of crates.txt from nothing, tries the must-fail edits, runs the programs, and compares the library with ordinary Rust
 test:
@@ -29,11 +32,15 @@ header:
 	cc -std=c99 -Wall -Wextra -pedantic -Werror -fsyntax-only -x c include/cap.h
 	c++ -Wall -Wextra -pedantic -Werror -fsyntax-only -x c++ include/cap.h
 
+# cargo, from Debian where it is missing
+tools:
+	command -v cargo > /dev/null || apt-get install -y cargo
+
 # the library compared with the ordinary Rust implementation, and that with the stored vectors
-differential: lib
+differential: lib tools
 	cd bindings/reference && $(CARGO) test --release
 	cd bindings/rust && $(CARGO) test --release
 
 # the library timed beside the ordinary Rust implementation
-bench: lib
+bench: lib tools
 	cd bindings/rust && $(CARGO) run --release --example bench

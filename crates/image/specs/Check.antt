@@ -115,6 +115,12 @@ abbrev pub isSound : Survey → Bool
 isSound (Sound n end h) = true
 isSound Unsound = false
 
+-- a body with the id is held
+abbrev pub isHeld : Survey → Bool
+isHeld (Sound n end (Body at len f)) = true
+isHeld (Sound n end Missing) = false
+isHeld Unsound = false
+
 -- where the body is held
 abbrev pub heldAt : Held → Finding
 heldAt (Body at n f) = Found at n

@@ -15,14 +15,14 @@ use Rattle.steps.proofs.OrderLaws.{Decides, ends, passes, fails, decided}
 use Rattle.image.specs.declared.Held.the-variants.{Missing, Body}
 use Rattle.image.specs.declared.Survey.{Survey}
 use Rattle.image.specs.declared.Survey.the-variants.{Sound, Unsound}
-use Rattle.image.specs.Check.{surveyOf, isSound}
+use Rattle.image.specs.Check.{surveyOf, isSound, isHeld}
 use Rattle.image.proofs.CodeLaws.{lent-part}
 use Rattle.request.specs.declared.Decision.{Decision}
 use Rattle.request.specs.declared.Decision.the-variants as answers
 use Rattle.request.specs.declared.search.Matched.{Matched}
 use Rattle.request.specs.declared.search.Matched.the-variants.{IsAt, Nothing}
 use Rattle.request.specs.Asked.{Asked, wellFormed}
-use Rattle.request.specs.Decision.{laterSteps, stepsBy, grantedBy, factsOf, firstFrom, matchedOn, decidedOn, isHeld, factsIn, matchedIn, stepsOf, decisionOf}
+use Rattle.request.specs.Decision.{laterSteps, stepsBy, grantedBy, factsOf, firstFrom, matchedOn, decidedOn, factsIn, matchedIn, stepsOf, decisionOf}
 use Rattle.request.specs.Stages.{signedBy}
 
 -- The code compares a part that it lends.

@@ -15,7 +15,7 @@ use Rattle.image.specs.declared.Held.the-variants.{Missing, Body}
 use Rattle.image.specs.declared.Survey.{Survey}
 use Rattle.image.specs.declared.Survey.the-variants.{Sound, Unsound}
 use Rattle.image.specs.Image.{reading, imageOf, hasId, Holds, bodyWith}
-use Rattle.image.specs.Check.{surveyOf, isSound}
+use Rattle.image.specs.Check.{surveyOf, isSound, isHeld}
 use Rattle.image.proofs.HeldLaws.{HeldIs}
 use Rattle.image.proofs.SurveyLaws.{survey-complete}
 use Rattle.image.proofs.Promises.{editions-known}
@@ -23,7 +23,7 @@ use Rattle.request.specs.declared.Decision.{Decision}
 use Rattle.request.specs.declared.Decision.the-variants as answers
 use Rattle.request.specs.declared.search.Matched.{Matched}
 use Rattle.request.specs.Asked.{Asked, wellFormed}
-use Rattle.request.specs.Decision.{Facts, stepsBy, isHeld, factsOf, matchedOn, factsIn, matchedIn, stepsOf, decisionOf}
+use Rattle.request.specs.Decision.{Facts, stepsBy, factsOf, matchedOn, factsIn, matchedIn, stepsOf, decisionOf}
 use Rattle.request.specs.Promises.{isGranted, HeldExactly, NotHeldAnswered, EditionsRefused}
 use Rattle.request.proofs.StepLaws.{decidedBy, granted-exactly}
 

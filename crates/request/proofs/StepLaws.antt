@@ -5,13 +5,13 @@ use mathlib.Core.Bool.{Bool, true, false, false≢true}
 use mathlib.Core.List.{List, [], _∷_}
 use Rattle.steps.specs.Order.{Step, orElse, inOrder, AllPass, FirstFails}
 use Rattle.steps.proofs.Promises.{fail-exactly}
-use Rattle.image.specs.Check.{surveyOf, isSound}
+use Rattle.image.specs.Check.{surveyOf, isSound, isHeld}
 use Rattle.request.specs.declared.Decision.{Decision}
 use Rattle.request.specs.declared.Decision.the-variants as answers
 use Rattle.request.specs.declared.search.Matched.{Matched}
 use Rattle.request.specs.declared.search.Matched.the-variants.{IsAt, Nothing}
 use Rattle.request.specs.Asked.{Asked}
-use Rattle.request.specs.Decision.{Facts, laterSteps, stepsBy, grantedBy, isHeld, factsIn, matchedIn, stepsOf, decisionOf}
+use Rattle.request.specs.Decision.{Facts, laterSteps, stepsBy, grantedBy, factsIn, matchedIn, stepsOf, decisionOf}
 use Rattle.request.specs.Promises.{isGranted, GrantedExactly, RefusedExactly}
 
 -- ---- steps that all refuse

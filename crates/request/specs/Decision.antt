@@ -14,7 +14,7 @@ use Rattle.steps.specs.Key.{bad, noKey, isThat, keyOpen}
 use Rattle.image.specs.declared.Held.the-variants.{Missing, Body}
 use Rattle.image.specs.declared.Survey.{Survey}
 use Rattle.image.specs.declared.Survey.the-variants.{Sound, Unsound}
-use Rattle.image.specs.Check.{surveyOf, isSound}
+use Rattle.image.specs.Check.{surveyOf, isSound, isHeld}
 use Rattle.request.specs.declared.Decision.{Decision}
 use Rattle.request.specs.declared.Decision.the-variants as answers
 use Rattle.request.specs.declared.search.Matched.{Matched}
@@ -93,12 +93,6 @@ decidedOn q b f =
     let x = factsOf b f in
     let m = matchedOn b f (q .resource) (q .mode) in
     inOrder (laterSteps q x m) (grantedBy q x m)
-
--- the id is held
-abbrev pub isHeld : Survey → Bool
-isHeld (Sound n end (Body at len f)) = true
-isHeld (Sound n end Missing) = false
-isHeld Unsound = false
 
 -- the facts of the body that was found
 abbrev pub factsIn : List ℕ → Survey → Facts

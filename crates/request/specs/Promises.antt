@@ -16,13 +16,13 @@ use Rattle.steps.specs.declared.Window.{Window}
 use Rattle.steps.specs.Order.{AllPass, FirstFails}
 use Rattle.image.specs.Layout.{imageEdition, modeEdition, idSize}
 use Rattle.image.specs.Image.{idOf, hasId, Holds, bodyWith}
-use Rattle.image.specs.Check.{surveyOf}
+use Rattle.image.specs.Check.{surveyOf, isHeld}
 use Rattle.submission.specs.declared.Submission.the-variants as submission
 use Rattle.submission.specs.Submission.{submitted, afterOf}
 use Rattle.request.specs.declared.Decision.{Decision}
 use Rattle.request.specs.declared.Decision.the-variants as answers
 use Rattle.request.specs.Asked.{Asked, wellFormed, isListed}
-use Rattle.request.specs.Decision.{stepsOf, decisionOf, isHeld}
+use Rattle.request.specs.Decision.{stepsOf, decisionOf}
 use Rattle.request.specs.Meaning.{grantServes, decidedFor}
 
 -- the request is granted

@@ -23,13 +23,13 @@ use Rattle.image.specs.declared.Survey.{Survey}
 use Rattle.image.specs.declared.Survey.the-variants.{Sound, Unsound}
 use Rattle.image.specs.Layout.{rowSize, mostRows}
 use Rattle.image.specs.Image.{reading, idOf}
-use Rattle.image.specs.Check.{surveyOf}
+use Rattle.image.specs.Check.{surveyOf, isHeld}
 use Rattle.submission.specs.declared.Submission.{Submission}
 use Rattle.submission.specs.declared.Submission.the-variants as answers
 use Rattle.submission.specs.declared.choose.Choice.{Choice}
 use Rattle.submission.specs.declared.choose.Choice.the-variants.{Answer, Store}
 use Rattle.submission.specs.declared.choose.Admission.{Admission}
-use Rattle.submission.specs.Submission.{longestLead, isHeld, stepsBy, numberOf, afterAnswer}
+use Rattle.submission.specs.Submission.{longestLead, stepsBy, numberOf, afterAnswer}
 use Rattle.submission.specs.Stages.{admitted, placed, whenAdmitted, chosenRead, chosenUnread, chosenBy, choiceOf}
 
 -- ---- the buffer after a refusal

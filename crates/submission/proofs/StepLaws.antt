@@ -15,10 +15,10 @@ use Rattle.steps.proofs.OrderLaws.{passes, fails, decided}
 use Rattle.steps.proofs.Promises as order
 use Rattle.image.specs.declared.Survey.the-variants.{Unsound}
 use Rattle.image.specs.Image.{reading, isRead, idOf}
-use Rattle.image.specs.Check.{surveyOf, isSound}
+use Rattle.image.specs.Check.{surveyOf, isSound, isHeld}
 use Rattle.submission.specs.declared.Submission.{Submission}
 use Rattle.submission.specs.declared.Submission.the-variants as answers
-use Rattle.submission.specs.Submission.{isStructure, isValidity, isHeld, agrees, hasRoom, stepsBy, steps, submitted, numberOf}
+use Rattle.submission.specs.Submission.{isStructure, isValidity, agrees, hasRoom, stepsBy, steps, submitted, numberOf}
 use Rattle.submission.specs.Promises.{DoneExactly, RefusedExactly}
 
 -- ---- the two promises of the steps

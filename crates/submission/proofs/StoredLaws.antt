@@ -19,14 +19,14 @@ use Rattle.image.specs.declared.Survey.{Survey}
 use Rattle.image.specs.declared.Survey.the-variants.{Sound}
 use Rattle.image.specs.Layout.{rowSize, mostRows}
 use Rattle.image.specs.Image.{idOf, imageOf, hasId, Holds, bodyWith}
-use Rattle.image.specs.Check.{surveyOf, findOf, bodyFound}
+use Rattle.image.specs.Check.{surveyOf, findOf, bodyFound, isHeld}
 use Rattle.image.proofs.RowLaws.{id-length}
 use Rattle.image.proofs.ListLaws.{same-true, true-same, with-new, with-other}
 use Rattle.image.proofs.HeldLaws.{HeldBody, HeldIs}
 use Rattle.image.proofs.SurveyLaws.{survey-complete}
 use Rattle.image.proofs.Promises.{bodies-once, lookup-exactly, editions-known}
 use Rattle.submission.specs.declared.Submission.the-variants as answers
-use Rattle.submission.specs.Submission.{isHeld, agrees, hasRoom, submitted, numberOf, afterOf}
+use Rattle.submission.specs.Submission.{agrees, hasRoom, submitted, numberOf, afterOf}
 use Rattle.submission.specs.Promises.{RefusalKeeps, RepeatKeeps, StoredLast, StoredFound, OthersFound, DuplicateExactly, FullExactly, EditionsRefused}
 use Rattle.submission.proofs.ChoiceLaws.{kept-or-done, refused-keeps}
 use Rattle.submission.proofs.GrowLaws.{length-more, bodies-more}

@@ -12,14 +12,14 @@ use Rattle.steps.specs.declared.Window.{Window}
 use Rattle.image.specs.declared.Held.the-variants.{Missing}
 use Rattle.image.specs.declared.Survey.{Survey}
 use Rattle.image.specs.Image.{reading, idOf, joined, imageOf}
-use Rattle.image.specs.Check.{surveyOf, bodiesOf}
+use Rattle.image.specs.Check.{surveyOf, bodiesOf, isHeld}
 use Rattle.image.proofs.BodyLaws.{read-in}
 use Rattle.image.proofs.RowLaws.{image-length}
 use Rattle.image.proofs.SurveyLaws.{survey-sound}
 use Rattle.submission.specs.declared.Submission.{Submission}
 use Rattle.submission.specs.declared.Submission.the-variants as answers
 use Rattle.submission.specs.declared.choose.Choice.the-variants.{Answer, Store}
-use Rattle.submission.specs.Submission.{isHeld, steps, submitted, withBody, afterAnswer, afterOf}
+use Rattle.submission.specs.Submission.{steps, submitted, withBody, afterAnswer, afterOf}
 use Rattle.submission.specs.Stages.{choiceOf, grown}
 use Rattle.submission.proofs.ChoiceLaws.{Storing, ChoiceIs, choice-is}
 use Rattle.submission.proofs.GrowLaws.{grown-image}

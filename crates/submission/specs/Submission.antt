@@ -16,7 +16,7 @@ use Rattle.image.specs.declared.Survey.{Survey}
 use Rattle.image.specs.declared.Survey.the-variants.{Sound, Unsound}
 use Rattle.image.specs.Layout.{rowSize, mostRows}
 use Rattle.image.specs.Image.{reading, idOf, imageOf}
-use Rattle.image.specs.Check.{surveyOf, isSound, bodiesOf}
+use Rattle.image.specs.Check.{surveyOf, isSound, isHeld, bodiesOf}
 use Rattle.submission.specs.declared.Submission.{Submission}
 use Rattle.submission.specs.declared.Submission.the-variants as answers
 
@@ -43,12 +43,6 @@ abbrev pub begins : Reading → ℕ
 begins (Read f) = f .before
 begins Structure = 0
 begins Validity = 0
-
--- a body with the id is held
-abbrev pub isHeld : Survey → Bool
-isHeld (Sound n end (Body at len f)) = true
-isHeld (Sound n end Missing) = false
-isHeld Unsound = false
 
 -- the body that is held under the id, if any, is the same bytes
 abbrev pub agrees : List ℕ → List ℕ → Survey → Bool

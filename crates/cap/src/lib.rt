@@ -2,11 +2,19 @@
 // and fields are those of include/cap.h. None has a requirement.
 mod numbers;
 
+use cbor_item::ItemNumbers;
+use descriptor::DescriptorNumbers;
+use descriptor::GrantNumbers;
+use image::StoredNumbers;
+use narrowing::NarrowingNumbers;
+use request::DecisionNumbers;
+use resource::MatchingNumbers;
 ghost use mathlib.Core.Path.{_≡_};
 ghost use Rattle.cbor_item.specs.Item as items;
 ghost use Rattle.resource.specs.Text as texts;
 ghost use Rattle.descriptor.specs.Reader.{readOf};
 ghost use Rattle.descriptor.specs.Answer.{readingOf};
+ghost use Rattle.descriptor.specs.Numbers as descriptors;
 ghost use Rattle.grant_reader.specs.Walk.{nthOf};
 ghost use Rattle.image.specs.Check as images;
 ghost use Rattle.image.specs.Fresh as fresh;
@@ -14,89 +22,12 @@ ghost use Rattle.submission.specs.Submission as submissions;
 ghost use Rattle.request.specs.Asked.{asked};
 ghost use Rattle.request.specs.Decision as requests;
 ghost use Rattle.narrowing.specs.Narrow as narrowings;
-ghost use Rattle.cap.specs.Numbers.{itemNumbers, descriptorNumbers, grantNumbers, matchingNumbers, storedNumbers, decisionNumbers, narrowingNumbers, windowOf};
-
-#[repr(C)]
-pub struct ItemNumbers {
-    pub answer: u64,
-    pub kind: u64,
-    pub number: u64,
-    pub content_at: u64,
-    pub content_len: u64,
-    pub next: u64,
-}
-
-#[repr(C)]
-pub struct DescriptorNumbers {
-    pub answer: u64,
-    pub payload_at: u64,
-    pub payload_len: u64,
-    pub issued_at: u64,
-    pub not_before: u64,
-    pub not_after: u64,
-    pub id_at: u64,
-    pub issuer_at: u64,
-    pub issuer_len: u64,
-    pub grantor_at: u64,
-    pub grantor_len: u64,
-    pub fay_at: u64,
-    pub terminal_at: u64,
-    pub grants: u64,
-    pub metadata_at: u64,
-    pub metadata_pairs: u64,
-    pub constraint_pairs: u64,
-    pub mask: u64,
-    pub key_id_at: u64,
-    pub key_id_len: u64,
-    pub algorithm: u64,
-    pub signature_at: u64,
-    pub signature_len: u64,
-}
-
-#[repr(C)]
-pub struct GrantNumbers {
-    pub found: u64,
-    pub pattern_at: u64,
-    pub pattern_len: u64,
-    pub mask: u64,
-    pub modes_at: u64,
-    pub constraints_at: u64,
-    pub constraint_pairs: u64,
-}
-
-#[repr(C)]
-pub struct MatchingNumbers {
-    pub answer: u64,
-    pub yes: u64,
-}
-
-#[repr(C)]
-pub struct StoredNumbers {
-    pub answer: u64,
-    pub body_at: u64,
-    pub body_len: u64,
-}
-
-#[repr(C)]
-pub struct DecisionNumbers {
-    pub answer: u64,
-    pub grant: u64,
-    pub mask: u64,
-    pub session_end: u64,
-}
-
-#[repr(C)]
-pub struct NarrowingNumbers {
-    pub answer: u64,
-    pub grant: u64,
-    pub mode: u64,
-    pub levels: u64,
-}
+ghost use Rattle.cap.specs.Numbers.{windowOf};
 
 // The item at the place.
 #[no_mangle]
 pub extern "C" fn cap_item_read(bytes: &[u8], place: u64) -> ItemNumbers
-    ensures { λ r. ⌜ r ≡ itemNumbers (items.numbersOf (items.itemAt (now (bytes .entry)) place)) ⌝ }
+    ensures { λ r. ⌜ r ≡ items.numbersOf (items.itemAt (now (bytes .entry)) place) ⌝ }
 {
     numbers::of_item(cbor_item::read_item(bytes, place as usize))
 }
@@ -104,7 +35,7 @@ pub extern "C" fn cap_item_read(bytes: &[u8], place: u64) -> ItemNumbers
 // Reads a descriptor.
 #[no_mangle]
 pub extern "C" fn cap_descriptor_read(bytes: &[u8]) -> DescriptorNumbers
-    ensures { λ r. ⌜ r ≡ descriptorNumbers (readingOf (readOf (now (bytes .entry)))) ⌝ }
+    ensures { λ r. ⌜ r ≡ descriptors.numbersOf (readingOf (readOf (now (bytes .entry)))) ⌝ }
 {
     numbers::of_reading(descriptor::read_descriptor(bytes))
 }
@@ -112,7 +43,7 @@ pub extern "C" fn cap_descriptor_read(bytes: &[u8]) -> DescriptorNumbers
 // The grant with the index, counted from 0.
 #[no_mangle]
 pub extern "C" fn cap_grant_at(bytes: &[u8], index: u64) -> GrantNumbers
-    ensures { λ r. ⌜ r ≡ grantNumbers (nthOf (now (bytes .entry)) index) ⌝ }
+    ensures { λ r. ⌜ r ≡ descriptors.grantNumbers (nthOf (now (bytes .entry)) index) ⌝ }
 {
     numbers::of_grant(grant_reader::nth(bytes, index))
 }
@@ -120,7 +51,7 @@ pub extern "C" fn cap_grant_at(bytes: &[u8], index: u64) -> GrantNumbers
 // Whether the pattern matches the resource id.
 #[no_mangle]
 pub extern "C" fn cap_match(pattern: &[u8], resource: &[u8]) -> MatchingNumbers
-    ensures { λ r. ⌜ r ≡ matchingNumbers (texts.numbersOf (texts.matching (now (pattern .entry)) (now (resource .entry)))) ⌝ }
+    ensures { λ r. ⌜ r ≡ texts.numbersOf (texts.matching (now (pattern .entry)) (now (resource .entry))) ⌝ }
 {
     numbers::of_matching(resource::match_texts(pattern, resource))
 }
@@ -136,7 +67,7 @@ pub extern "C" fn cap_image_new(image: &mut [u8]) -> u64
 // Looks for the body with the id.
 #[no_mangle]
 pub extern "C" fn cap_image_find(image: &[u8], id: &[u8]) -> StoredNumbers
-    ensures { λ r. ⌜ r ≡ storedNumbers (images.numbersOf (images.findOf (now (image .entry)) (now (id .entry)))) ⌝ }
+    ensures { λ r. ⌜ r ≡ images.numbersOf (images.findOf (now (image .entry)) (now (id .entry))) ⌝ }
 {
     numbers::of_finding(image::find(image, id))
 }
@@ -175,7 +106,7 @@ pub extern "C" fn cap_request(
     has_valid_until: u64,
     valid_until: u64,
 ) -> DecisionNumbers
-    ensures { λ r. ⌜ r ≡ decisionNumbers (requests.numbersOf (requests.decisionOf (now (image .entry)) (asked (now (id .entry)) (now (fay .entry)) (now (terminal .entry)) (now (resource .entry)) mode clock «session_length» (now (revoked .entry)) verdict (windowOf «valid_from» «has_valid_until» «valid_until»)))) ⌝ }
+    ensures { λ r. ⌜ r ≡ requests.numbersOf (requests.decisionOf (now (image .entry)) (asked (now (id .entry)) (now (fay .entry)) (now (terminal .entry)) (now (resource .entry)) mode clock «session_length» (now (revoked .entry)) verdict (windowOf «valid_from» «has_valid_until» «valid_until»))) ⌝ }
 {
     let key = numbers::window(valid_from, has_valid_until, valid_until);
     numbers::of_decision(request::request(
@@ -196,7 +127,7 @@ pub extern "C" fn cap_request(
 // Narrows the child under the parent.
 #[no_mangle]
 pub extern "C" fn cap_narrow(parent: &[u8], child: &[u8]) -> NarrowingNumbers
-    ensures { λ r. ⌜ r ≡ narrowingNumbers (narrowings.numbersOf (narrowings.narrow (now (parent .entry)) (now (child .entry)))) ⌝ }
+    ensures { λ r. ⌜ r ≡ narrowings.numbersOf (narrowings.narrow (now (parent .entry)) (now (child .entry))) ⌝ }
 {
     numbers::of_narrowing(narrowing::narrow(parent, child))
 }

@@ -1,32 +1,33 @@
 // The numbers of each answer.
-use crate::DecisionNumbers;
-use crate::DescriptorNumbers;
-use crate::GrantNumbers;
-use crate::ItemNumbers;
-use crate::MatchingNumbers;
-use crate::NarrowingNumbers;
-use crate::StoredNumbers;
 use cbor_item::Item;
+use cbor_item::ItemNumbers;
+use descriptor::DescriptorNumbers;
 use descriptor::Fields;
+use descriptor::GrantNumbers;
 use descriptor::GrantRead;
 use descriptor::Reading;
 use image::Finding;
 use image::Made;
+use image::StoredNumbers;
 use narrowing::Narrowing;
+use narrowing::NarrowingNumbers;
 use request::Decision;
+use request::DecisionNumbers;
 use resource::Matching;
+use resource::MatchingNumbers;
 use steps::Window;
 use submission::Submission;
 ghost use mathlib.Core.Path.{_≡_};
 ghost use Rattle.cbor_item.specs.Item as items;
 ghost use Rattle.resource.specs.Text as texts;
-ghost use Rattle.descriptor.specs.Answer as descriptors;
+ghost use Rattle.descriptor.specs.Answer.{grantRead};
+ghost use Rattle.descriptor.specs.Numbers as descriptors;
 ghost use Rattle.image.specs.Check as images;
 ghost use Rattle.image.specs.Fresh as fresh;
 ghost use Rattle.submission.specs.Submission as submissions;
 ghost use Rattle.request.specs.Decision as requests;
 ghost use Rattle.narrowing.specs.Narrow as narrowings;
-ghost use Rattle.cap.specs.Numbers.{itemNumbers, descriptorNumbers, fieldNumbers, noFields, grantNumbers, matchingNumbers, storedNumbers, decisionNumbers, narrowingNumbers, windowOf};
+ghost use Rattle.cap.specs.Numbers.{windowOf};
 
 // The key's window.
 pub(crate) fn window(from: u64, has_until: u64, until: u64) -> Window
@@ -41,7 +42,7 @@ pub(crate) fn window(from: u64, has_until: u64, until: u64) -> Window
 
 // An item's.
 pub(crate) fn of_item(item: Item) -> ItemNumbers
-    ensures { λ r. ⌜ r ≡ itemNumbers (items.numbersOf item) ⌝ }
+    ensures { λ r. ⌜ r ≡ items.numbersOf item ⌝ }
 {
     match item {
         Item::Unsigned { value, next } => numbered(0, value, 0, 0, next),
@@ -62,7 +63,7 @@ pub(crate) fn of_item(item: Item) -> ItemNumbers
 
 // Those of an item that was read.
 fn numbered(kind: u64, number: u64, at: usize, len: usize, next: usize) -> ItemNumbers
-    ensures { λ r. ⌜ r ≡ itemNumbers (record { answer = 0; kind = kind; number = number; contentAt = at; contentLen = len; next = next }) ⌝ }
+    ensures { λ r. ⌜ r ≡ record { answer = 0; kind = kind; number = number; «content_at» = at; «content_len» = len; next = next } ⌝ }
 {
     ItemNumbers {
         answer: 0,
@@ -76,7 +77,7 @@ fn numbered(kind: u64, number: u64, at: usize, len: usize, next: usize) -> ItemN
 
 // A descriptor's.
 pub(crate) fn of_reading(reading: Reading) -> DescriptorNumbers
-    ensures { λ r. ⌜ r ≡ descriptorNumbers reading ⌝ }
+    ensures { λ r. ⌜ r ≡ descriptors.numbersOf reading ⌝ }
 {
     match reading {
         Reading::Read(fields) => of_fields(fields),
@@ -87,7 +88,7 @@ pub(crate) fn of_reading(reading: Reading) -> DescriptorNumbers
 
 // Those of what was read.
 fn of_fields(f: Fields) -> DescriptorNumbers
-    ensures { λ r. ⌜ r ≡ fieldNumbers f ⌝ }
+    ensures { λ r. ⌜ r ≡ descriptors.fieldNumbers f ⌝ }
 {
     let payload = f.payload;
     let issuer = f.issuer;
@@ -123,7 +124,7 @@ fn of_fields(f: Fields) -> DescriptorNumbers
 
 // Those of a refusal.
 fn no_descriptor(answer: u64) -> DescriptorNumbers
-    ensures { λ r. ⌜ r ≡ noFields answer ⌝ }
+    ensures { λ r. ⌜ r ≡ descriptors.noFields answer ⌝ }
 {
     DescriptorNumbers {
         answer,
@@ -154,7 +155,7 @@ fn no_descriptor(answer: u64) -> DescriptorNumbers
 
 // A grant's; zeros where there is none.
 pub(crate) fn of_grant(grant: GrantRead) -> GrantNumbers
-    ensures { λ r. ⌜ r ≡ grantNumbers (descriptors.grantRead grant) ⌝ }
+    ensures { λ r. ⌜ r ≡ descriptors.grantNumbers (grantRead grant) ⌝ }
 {
     match grant {
         GrantRead::IsGrant { fields, next: _ } => GrantNumbers {
@@ -180,7 +181,7 @@ pub(crate) fn of_grant(grant: GrantRead) -> GrantNumbers
 
 // A matching's.
 pub(crate) fn of_matching(answer: Matching) -> MatchingNumbers
-    ensures { λ r. ⌜ r ≡ matchingNumbers (texts.numbersOf answer) ⌝ }
+    ensures { λ r. ⌜ r ≡ texts.numbersOf answer ⌝ }
 {
     match answer {
         Matching::Yes => MatchingNumbers { answer: 0, yes: 1 },
@@ -201,7 +202,7 @@ pub(crate) fn of_made(answer: Made) -> u64
 
 // A lookup's.
 pub(crate) fn of_finding(finding: Finding) -> StoredNumbers
-    ensures { λ r. ⌜ r ≡ storedNumbers (images.numbersOf finding) ⌝ }
+    ensures { λ r. ⌜ r ≡ images.numbersOf finding ⌝ }
 {
     match finding {
         Finding::Found { at, len } => stored(0, at, len),
@@ -213,7 +214,7 @@ pub(crate) fn of_finding(finding: Finding) -> StoredNumbers
 
 // The answer, and where the body lies.
 fn stored(answer: u64, at: usize, len: usize) -> StoredNumbers
-    ensures { λ r. ⌜ r ≡ storedNumbers (record { answer = answer; at = at; len = len }) ⌝ }
+    ensures { λ r. ⌜ r ≡ record { answer = answer; «body_at» = at; «body_len» = len } ⌝ }
 {
     StoredNumbers {
         answer,
@@ -242,7 +243,7 @@ pub(crate) fn of_submission(answer: Submission) -> u64
 
 // A request's.
 pub(crate) fn of_decision(decision: Decision) -> DecisionNumbers
-    ensures { λ r. ⌜ r ≡ decisionNumbers (requests.numbersOf decision) ⌝ }
+    ensures { λ r. ⌜ r ≡ requests.numbersOf decision ⌝ }
 {
     match decision {
         Decision::Granted { grant, mask, end } => DecisionNumbers {
@@ -267,7 +268,7 @@ pub(crate) fn of_decision(decision: Decision) -> DecisionNumbers
 
 // Those of a refused request.
 fn refused(answer: u64) -> DecisionNumbers
-    ensures { λ r. ⌜ r ≡ decisionNumbers (requests.refusal answer) ⌝ }
+    ensures { λ r. ⌜ r ≡ requests.refusal answer ⌝ }
 {
     DecisionNumbers {
         answer,
@@ -279,7 +280,7 @@ fn refused(answer: u64) -> DecisionNumbers
 
 // A narrowing's.
 pub(crate) fn of_narrowing(answer: Narrowing) -> NarrowingNumbers
-    ensures { λ r. ⌜ r ≡ narrowingNumbers (narrowings.numbersOf answer) ⌝ }
+    ensures { λ r. ⌜ r ≡ narrowings.numbersOf answer ⌝ }
 {
     match answer {
         Narrowing::Accepted => narrowed(0),
@@ -303,7 +304,7 @@ pub(crate) fn of_narrowing(answer: Narrowing) -> NarrowingNumbers
 
 // Those of an answer other than 20.
 fn narrowed(answer: u64) -> NarrowingNumbers
-    ensures { λ r. ⌜ r ≡ narrowingNumbers (narrowings.plain answer) ⌝ }
+    ensures { λ r. ⌜ r ≡ narrowings.plain answer ⌝ }
 {
     NarrowingNumbers {
         answer,

@@ -8,7 +8,6 @@ use lib.Dec.{eqb}
 use Rattle.cbor_item.specs.Bytes.{hasAt}
 use Rattle.cbor_item.specs.Reads.{Got, got, refused, bind, guard}
 use Rattle.cbor_item.specs.Head.{Span, spanOf}
-use Rattle.cbor_item.specs.Item.{inside}
 use Rattle.resource.specs.Identifier.{isFay, isTerminal}
 use Rattle.resource.specs.Text.{patternOk}
 use Rattle.descriptor.specs.declared.value.CountRead.{CountRead}
@@ -224,15 +223,3 @@ abbrev pub readingOf : Answer → Reading
 readingOf (read v) = Read (fieldsOf v)
 readingOf structure = Structure
 readingOf validity = Validity
-
--- document 01's number of an answer
-abbrev pub numberOf : Reading → ℕ
-numberOf (Read f) = 0
-numberOf Structure = 1
-numberOf Validity = 2
-
--- where the payload of what was read stands in s; nothing at the start on a refusal
-abbrev pub payloadSpan : List ℕ → Reading → Span
-payloadSpan s (Read f) = inside s (f .payload .at) (f .payload .len)
-payloadSpan s Structure = spanOf 0 0
-payloadSpan s Validity = spanOf 0 0

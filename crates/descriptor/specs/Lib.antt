@@ -5,4 +5,5 @@ pub mod Value
 pub mod Reader
 pub mod View
 pub mod Answer
+pub mod Numbers
 pub mod Promises

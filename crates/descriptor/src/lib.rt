@@ -14,7 +14,8 @@ mod value;
 ghost use mathlib.Core.Path.{_≡_};
 ghost use Rattle.cbor_item.specs.Bytes.{PartOf};
 ghost use Rattle.descriptor.specs.Reader.{readOf, grantAt};
-ghost use Rattle.descriptor.specs.Answer.{readingOf, payloadSpan, grantRead};
+ghost use Rattle.descriptor.specs.Answer.{readingOf, grantRead};
+ghost use Rattle.descriptor.specs.Numbers.{payloadSpan};
 
 // A part of the bytes: its place and its length; both 0 for what is absent.
 pub struct Part {
@@ -68,6 +69,46 @@ pub struct GrantFields {
 pub enum GrantRead {
     IsGrant { fields: GrantFields, next: usize },
     NoGrant,
+}
+
+// A descriptor in document 01's numbers, as include/cap.h has them: the answer, 0, 1 or 2; and with 0 its parts, places and numbers.
+#[repr(C)]
+pub struct DescriptorNumbers {
+    pub answer: u64,
+    pub payload_at: u64,
+    pub payload_len: u64,
+    pub issued_at: u64,
+    pub not_before: u64,
+    pub not_after: u64,
+    pub id_at: u64,
+    pub issuer_at: u64,
+    pub issuer_len: u64,
+    pub grantor_at: u64,
+    pub grantor_len: u64,
+    pub fay_at: u64,
+    pub terminal_at: u64,
+    pub grants: u64,
+    pub metadata_at: u64,
+    pub metadata_pairs: u64,
+    pub constraint_pairs: u64,
+    pub mask: u64,
+    pub key_id_at: u64,
+    pub key_id_len: u64,
+    pub algorithm: u64,
+    pub signature_at: u64,
+    pub signature_len: u64,
+}
+
+// A grant in numbers, as include/cap.h has them: 1 and its parts, places and numbers, or zeros where there is none.
+#[repr(C)]
+pub struct GrantNumbers {
+    pub found: u64,
+    pub pattern_at: u64,
+    pub pattern_len: u64,
+    pub mask: u64,
+    pub modes_at: u64,
+    pub constraints_at: u64,
+    pub constraint_pairs: u64,
 }
 
 // Reads s as a descriptor.

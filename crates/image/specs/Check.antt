@@ -17,6 +17,7 @@ use Rattle.image.specs.declared.Held.the-variants.{Missing, Body}
 use Rattle.image.specs.declared.Survey.{Survey}
 use Rattle.image.specs.declared.Survey.the-variants.{Sound, Unsound}
 use Rattle.image.specs.declared.Finding.{Finding}
+use Rattle.image.specs.declared.StoredNumbers.{StoredNumbers}
 use Rattle.image.specs.declared.Finding.the-variants.{Found, BadId, BadImage, NotHeld}
 use Rattle.image.specs.declared.rows.RowRead.{RowRead}
 use Rattle.image.specs.declared.rows.RowRead.the-variants.{IsRow, NoRow}
@@ -135,16 +136,11 @@ unfoldable pub findOf : List ℕ → List ℕ → Finding
 findOf s id = elim (eqb (length id) idSize) [ true ↦ foundIn (surveyOf s id) | false ↦ BadId ]
 
 -- document 01's answer for a lookup, and the place and length of the body
-pub record Numbers : Type 0 where
-  pub answer : ℕ
-  pub at : ℕ
-  pub len : ℕ
-
-abbrev pub numbersOf : Finding → Numbers
-numbersOf (Found at n) = record { answer = 0; at = at; len = n }
-numbersOf BadId = record { answer = 15; at = 0; len = 0 }
-numbersOf BadImage = record { answer = 16; at = 0; len = 0 }
-numbersOf NotHeld = record { answer = 7; at = 0; len = 0 }
+abbrev pub numbersOf : Finding → StoredNumbers
+numbersOf (Found at n) = record { answer = 0; «body_at» = at; «body_len» = n }
+numbersOf BadId = record { answer = 15; «body_at» = 0; «body_len» = 0 }
+numbersOf BadImage = record { answer = 16; «body_at» = 0; «body_len» = 0 }
+numbersOf NotHeld = record { answer = 7; «body_at» = 0; «body_len» = 0 }
 
 -- where the body that was found stands in s; nothing at the start where none was
 abbrev pub bodySpan : List ℕ → Finding → Span

@@ -32,6 +32,14 @@ pub enum Finding {
     NotHeld,
 }
 
+// A lookup in document 01's numbers, as include/cap.h has them: the answer, 0, 15, 16 or 7; and with 0 the place and the length of the body.
+#[repr(C)]
+pub struct StoredNumbers {
+    pub answer: u64,
+    pub body_at: u64,
+    pub body_len: u64,
+}
+
 // What making a new image answers: 0 or 17.
 pub enum Made {
     Done,

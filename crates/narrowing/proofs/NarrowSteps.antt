@@ -16,7 +16,8 @@ use Rattle.descriptor.specs.declared.Reading.{Reading}
 use Rattle.descriptor.specs.declared.Reading.the-variants as reading
 use Rattle.descriptor.specs.Reader.{GrantSeen, grantAt, Seen, Answer, read, structure, validity, readOf}
 use Rattle.descriptor.specs.View.{descriptorView}
-use Rattle.descriptor.specs.Answer.{fieldsOf, readingOf, numberOf}
+use Rattle.descriptor.specs.Answer.{fieldsOf, readingOf}
+use Rattle.descriptor.specs.Numbers.{numberOf}
 use Rattle.descriptor_laws.proofs.Promises.{reads-exactly}
 use Rattle.descriptor_laws.proofs.places.PlaceLaws.{terminal-part}
 use Rattle.descriptor.proofs.WordLaws.{terminal-length}

@@ -9,6 +9,7 @@ use Rattle.cbor_item.specs.Reads.{Got, got, refused}
 use Rattle.resource.specs.Text.{patternOf}
 use Rattle.descriptor.specs.Reader.{GrantSeen, grantAt, Seen, Answer, read, structure, validity, readOf}
 use Rattle.narrowing.specs.declared.Narrowing.{Narrowing}
+use Rattle.narrowing.specs.declared.NarrowingNumbers.{NarrowingNumbers}
 use Rattle.narrowing.specs.declared.Narrowing.the-variants.{Accepted, NoParent, Structure, Validity, Constrained, Period, NotCovered}
 use Rattle.narrowing.specs.Escape.{Rule, fewestNames, lowestMode, ruleAt, firstRule, orZero}
 
@@ -64,18 +65,11 @@ withParent s validity t = NoParent
 unfoldable pub narrow : List ℕ → List ℕ → Narrowing
 narrow s t = withParent s (readOf s) t
 
--- document 01's answer and numbers
-pub record Numbers : Type 0 where
-  pub answer : ℕ
-  pub grant : ℕ
-  pub mode : ℕ
-  pub levels : ℕ
-
--- the other numbers are 0 but for 20
-abbrev pub plain : ℕ → Numbers
+-- document 01's answer and numbers; the other numbers are 0 but for 20
+abbrev pub plain : ℕ → NarrowingNumbers
 plain n = record { answer = n; grant = 0; mode = 0; levels = 0 }
 
-abbrev pub numbersOf : Narrowing → Numbers
+abbrev pub numbersOf : Narrowing → NarrowingNumbers
 numbersOf Accepted = plain 0
 numbersOf NoParent = plain 21
 numbersOf Structure = plain 1

@@ -24,6 +24,15 @@ pub enum Narrowing {
     NotCovered { grant: u64, mode: u64, levels: u64 },
 }
 
+// A narrowing in document 01's numbers, as include/cap.h has them: the answer; and with 20 the grant's place, the mode and the levels.
+#[repr(C)]
+pub struct NarrowingNumbers {
+    pub answer: u64,
+    pub grant: u64,
+    pub mode: u64,
+    pub levels: u64,
+}
+
 // Whether the terminal ids at a of s and at b of t are equal.
 fn same_terminal(s: &[u8], a: usize, t: &[u8], b: usize) -> bool
     requires { ⌜ (a + 45 ≤ length (now s)) × (b + 45 ≤ length (now t)) ⌝ }

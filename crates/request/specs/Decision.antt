@@ -16,6 +16,7 @@ use Rattle.image.specs.declared.Survey.{Survey}
 use Rattle.image.specs.declared.Survey.the-variants.{Sound, Unsound}
 use Rattle.image.specs.Check.{surveyOf, isSound, isHeld}
 use Rattle.request.specs.declared.Decision.{Decision}
+use Rattle.request.specs.declared.DecisionNumbers.{DecisionNumbers}
 use Rattle.request.specs.declared.Decision.the-variants as answers
 use Rattle.request.specs.declared.search.Matched.{Matched}
 use Rattle.request.specs.declared.search.Matched.the-variants.{IsAt, Nothing}
@@ -116,19 +117,13 @@ decisionOf s q = let v = surveyOf s (q .id) in inOrder (stepsOf s q) (grantedBy 
 
 -- ---- document 01's numbers
 
--- the answer, and what is granted
-pub record Numbers : Type 0 where
-  pub answer : ℕ
-  pub grant : ℕ
-  pub mask : ℕ
-  pub sessionEnd : ℕ
-
 -- a refusal's other numbers are 0
-abbrev pub refusal : ℕ → Numbers
-refusal n = record { answer = n; grant = 0; mask = 0; sessionEnd = 0 }
+abbrev pub refusal : ℕ → DecisionNumbers
+refusal n = record { answer = n; grant = 0; mask = 0; «session_end» = 0 }
 
-abbrev pub numbersOf : Decision → Numbers
-numbersOf (answers.Granted grant mask end) = record { answer = 0; grant = grant; mask = mask; sessionEnd = end }
+-- the answer, and what is granted
+abbrev pub numbersOf : Decision → DecisionNumbers
+numbersOf (answers.Granted grant mask end) = record { answer = 0; grant = grant; mask = mask; «session_end» = end }
 numbersOf answers.Malformed = refusal 15
 numbersOf answers.BadImage = refusal 16
 numbersOf answers.NotFound = refusal 7

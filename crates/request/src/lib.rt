@@ -29,6 +29,15 @@ pub enum Decision {
     BadSignature,
 }
 
+// A decision in document 01's numbers, as include/cap.h has them: the answer; and with 0 the grant's place, its mask and the session's end.
+#[repr(C)]
+pub struct DecisionNumbers {
+    pub answer: u64,
+    pub grant: u64,
+    pub mask: u64,
+    pub session_end: u64,
+}
+
 // Decides a request for the descriptor with the id.
 pub fn request(
     image: &[u8],

@@ -18,6 +18,13 @@ pub enum Matching {
     Malformed,
 }
 
+// A matching in document 01's numbers, as include/cap.h has them: the answer, 0 or 15; and 1 for yes.
+#[repr(C)]
+pub struct MatchingNumbers {
+    pub answer: u64,
+    pub yes: u64,
+}
+
 // The first levels of a pattern and of a path: they do not match; they match and are the last; or they match, and "/" follows the
 // p bytes of the one and the r bytes of the other.
 pub enum Step {

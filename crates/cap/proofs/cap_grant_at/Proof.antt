@@ -1,6 +1,6 @@
 -- `cap_grant_at` meets its contract. Assumes nothing.
 use mathlib.Core.Path.{_≡_, sym, ap, _∙_}
-use Rattle.cap.specs.Numbers.{grantNumbers}
+use Rattle.descriptor.specs.Numbers.{grantNumbers}
 use borrow.Author.Needs.{needs}
 use Rattle.cap.proofs.cap_grant_at.Statement.{statement}
 use Rattle.cap.proofs.cap_grant_at.Tie as tie

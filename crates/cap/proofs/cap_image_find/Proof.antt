@@ -2,8 +2,7 @@
 use mathlib.Core.Path.{_≡_, sym, ap, _∙_}
 use Rattle.image.specs.declared.Finding.{Finding}
 use Rattle.image.specs.Check.{numbersOf}
-use Rattle.cap.specs.declared.StoredNumbers.{StoredNumbers}
-use Rattle.cap.specs.Numbers.{storedNumbers}
+use Rattle.image.specs.declared.StoredNumbers.{StoredNumbers}
 use borrow.Author.Needs.{needs}
 use Rattle.cap.proofs.cap_image_find.Statement.{statement}
 use Rattle.cap.proofs.cap_image_find.Tie as tie
@@ -14,7 +13,7 @@ use Rattle.image.proofs.find.Reads as find-reads
 
 -- The numbers of a lookup.
 abbrev shown : Finding → StoredNumbers
-shown v = storedNumbers (numbersOf v)
+shown v = numbersOf v
 
 find-requires : tie.Need-find-requires
 find-requires c κs = search needs

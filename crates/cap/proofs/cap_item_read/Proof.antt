@@ -2,8 +2,7 @@
 use mathlib.Core.Path.{_≡_, sym, ap, _∙_}
 use Rattle.cbor_item.specs.declared.Item.{Item}
 use Rattle.cbor_item.specs.Item.{numbersOf}
-use Rattle.cap.specs.declared.ItemNumbers.{ItemNumbers}
-use Rattle.cap.specs.Numbers.{itemNumbers}
+use Rattle.cbor_item.specs.declared.ItemNumbers.{ItemNumbers}
 use borrow.Author.Needs.{needs}
 use Rattle.cap.proofs.cap_item_read.Statement.{statement}
 use Rattle.cap.proofs.cap_item_read.Tie as tie
@@ -14,7 +13,7 @@ use Rattle.cbor_item.proofs.read_item.Reads as read-item-reads
 
 -- The numbers of an item.
 abbrev shown : Item → ItemNumbers
-shown v = itemNumbers (numbersOf v)
+shown v = numbersOf v
 
 read-item-requires : tie.Need-read-item-requires
 read-item-requires c κs = search needs

@@ -2,8 +2,7 @@
 use mathlib.Core.Path.{_≡_, sym, ap, _∙_}
 use Rattle.resource.specs.declared.Matching.{Matching}
 use Rattle.resource.specs.Text.{numbersOf}
-use Rattle.cap.specs.declared.MatchingNumbers.{MatchingNumbers}
-use Rattle.cap.specs.Numbers.{matchingNumbers}
+use Rattle.resource.specs.declared.MatchingNumbers.{MatchingNumbers}
 use borrow.Author.Needs.{needs}
 use Rattle.cap.proofs.cap_match.Statement.{statement}
 use Rattle.cap.proofs.cap_match.Tie as tie
@@ -14,7 +13,7 @@ use Rattle.resource.proofs.match_texts.Reads as match-texts-reads
 
 -- The numbers of a matching.
 abbrev shown : Matching → MatchingNumbers
-shown v = matchingNumbers (numbersOf v)
+shown v = numbersOf v
 
 match-texts-requires : tie.Need-match-texts-requires
 match-texts-requires c κs = search needs

@@ -2,8 +2,7 @@
 use mathlib.Core.Path.{_≡_, sym, ap, _∙_}
 use Rattle.narrowing.specs.declared.Narrowing.{Narrowing}
 use Rattle.narrowing.specs.Narrow.{numbersOf}
-use Rattle.cap.specs.declared.NarrowingNumbers.{NarrowingNumbers}
-use Rattle.cap.specs.Numbers.{narrowingNumbers}
+use Rattle.narrowing.specs.declared.NarrowingNumbers.{NarrowingNumbers}
 use borrow.Author.Needs.{needs}
 use Rattle.cap.proofs.cap_narrow.Statement.{statement}
 use Rattle.cap.proofs.cap_narrow.Tie as tie
@@ -14,7 +13,7 @@ use Rattle.narrowing.proofs.narrow.Reads as narrow-reads
 
 -- The numbers of a narrowing.
 abbrev shown : Narrowing → NarrowingNumbers
-shown v = narrowingNumbers (numbersOf v)
+shown v = numbersOf v
 
 narrow-requires : tie.Need-narrow-requires
 narrow-requires c κs = search needs

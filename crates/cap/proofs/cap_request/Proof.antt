@@ -6,7 +6,6 @@ use Rattle.steps.specs.declared.Window.{Window}
 use Rattle.request.specs.declared.Decision.{Decision}
 use Rattle.request.specs.Asked.{asked}
 use Rattle.request.specs.Decision.{decisionOf, numbersOf}
-use Rattle.cap.specs.Numbers.{decisionNumbers}
 use borrow.Author.Needs.{needs}
 use Rattle.cap.proofs.cap_request.Statement.{statement}
 use Rattle.cap.proofs.cap_request.Tie as tie
@@ -19,10 +18,10 @@ use Rattle.request.proofs.request.Reads as request-reads
 -- The numbers of a request with the key's window w′.
 shown-asked : (s id fay terminal resource : List ℕ) (mode clock session : ℕ) (revoked : List ℕ) (verdict : ℕ) (w w′ : Window) (r : Decision) → w ≡ w′
     → r ≡ decisionOf s (asked id fay terminal resource mode clock session revoked verdict w)
-    → decisionNumbers (numbersOf r) ≡ decisionNumbers (numbersOf (decisionOf s (asked id fay terminal resource mode clock session revoked verdict w′)))
+    → numbersOf r ≡ numbersOf (decisionOf s (asked id fay terminal resource mode clock session revoked verdict w′))
 shown-asked s id fay terminal resource mode clock session revoked verdict w w′ r e k =
-    ap (λ (x : Decision). decisionNumbers (numbersOf x)) k
-    ∙ ap (λ (x : Window). decisionNumbers (numbersOf (decisionOf s (asked id fay terminal resource mode clock session revoked verdict x)))) e
+    ap numbersOf k
+    ∙ ap (λ (x : Window). numbersOf (decisionOf s (asked id fay terminal resource mode clock session revoked verdict x))) e
 
 window-requires : tie.Need-window-requires
 window-requires c κs = search needs

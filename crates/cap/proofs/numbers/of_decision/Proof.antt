@@ -2,8 +2,7 @@
 use mathlib.Core.Path.{_≡_, sym, ap, _∙_}
 use Rattle.request.specs.declared.Decision.{Decision}
 use Rattle.request.specs.Decision.{numbersOf}
-use Rattle.cap.specs.declared.DecisionNumbers.{DecisionNumbers}
-use Rattle.cap.specs.Numbers.{decisionNumbers}
+use Rattle.request.specs.declared.DecisionNumbers.{DecisionNumbers}
 use borrow.Author.Needs.{needs}
 use Rattle.cap.proofs.numbers.of_decision.Statement.{statement}
 use Rattle.cap.proofs.numbers.of_decision.Tie as tie
@@ -13,7 +12,7 @@ use Rattle.cap.proofs.numbers.refused.Reads as refused-reads
 
 -- The numbers of a decision.
 abbrev shown : Decision → DecisionNumbers
-shown v = decisionNumbers (numbersOf v)
+shown v = numbersOf v
 
 enum-known-decision : tie.Need-enum-known-decision
 enum-known-decision c = search needs

@@ -2,8 +2,7 @@
 use mathlib.Core.Path.{_≡_, sym, ap, _∙_}
 use Rattle.image.specs.declared.Finding.{Finding}
 use Rattle.image.specs.Check.{numbersOf}
-use Rattle.cap.specs.declared.StoredNumbers.{StoredNumbers}
-use Rattle.cap.specs.Numbers.{storedNumbers}
+use Rattle.image.specs.declared.StoredNumbers.{StoredNumbers}
 use borrow.Author.Needs.{needs}
 use Rattle.cap.proofs.numbers.of_finding.Statement.{statement}
 use Rattle.cap.proofs.numbers.of_finding.Tie as tie
@@ -13,7 +12,7 @@ use Rattle.cap.proofs.numbers.stored.Reads as stored-reads
 
 -- The numbers of a lookup.
 abbrev shown : Finding → StoredNumbers
-shown v = storedNumbers (numbersOf v)
+shown v = numbersOf v
 
 enum-known-finding : tie.Need-enum-known-finding
 enum-known-finding c = search needs

@@ -2,8 +2,8 @@
 use mathlib.Core.Path.{_≡_, sym, ap, _∙_}
 use Rattle.descriptor.specs.declared.GrantRead.{GrantRead}
 use Rattle.descriptor.specs.Answer.{grantRead}
-use Rattle.cap.specs.declared.GrantNumbers.{GrantNumbers}
-use Rattle.cap.specs.Numbers.{grantNumbers}
+use Rattle.descriptor.specs.declared.GrantNumbers.{GrantNumbers}
+use Rattle.descriptor.specs.Numbers.{grantNumbers}
 use borrow.Author.Needs.{needs}
 use Rattle.cap.proofs.numbers.of_grant.Statement.{statement}
 use Rattle.cap.proofs.numbers.of_grant.Tie as tie

@@ -2,8 +2,7 @@
 use mathlib.Core.Path.{_≡_, sym, ap, _∙_}
 use Rattle.cbor_item.specs.declared.Item.{Item}
 use Rattle.cbor_item.specs.Item.{numbersOf}
-use Rattle.cap.specs.declared.ItemNumbers.{ItemNumbers}
-use Rattle.cap.specs.Numbers.{itemNumbers}
+use Rattle.cbor_item.specs.declared.ItemNumbers.{ItemNumbers}
 use borrow.Author.Needs.{needs}
 use Rattle.cap.proofs.numbers.of_item.Statement.{statement}
 use Rattle.cap.proofs.numbers.of_item.Tie as tie
@@ -13,7 +12,7 @@ use Rattle.cap.proofs.numbers.numbered.Reads as numbered-reads
 
 -- The numbers of an item.
 abbrev shown : Item → ItemNumbers
-shown v = itemNumbers (numbersOf v)
+shown v = numbersOf v
 
 enum-known-item : tie.Need-enum-known-item
 enum-known-item c = search needs

@@ -2,8 +2,7 @@
 use mathlib.Core.Path.{_≡_, sym, ap, _∙_}
 use Rattle.resource.specs.declared.Matching.{Matching}
 use Rattle.resource.specs.Text.{numbersOf}
-use Rattle.cap.specs.declared.MatchingNumbers.{MatchingNumbers}
-use Rattle.cap.specs.Numbers.{matchingNumbers}
+use Rattle.resource.specs.declared.MatchingNumbers.{MatchingNumbers}
 use borrow.Author.Needs.{needs}
 use Rattle.cap.proofs.numbers.of_matching.Statement.{statement}
 use Rattle.cap.proofs.numbers.of_matching.Tie as tie
@@ -12,7 +11,7 @@ use Rattle.cap.proofs.numbers.of_matching.Lts as lts
 
 -- The numbers of a matching.
 abbrev shown : Matching → MatchingNumbers
-shown v = matchingNumbers (numbersOf v)
+shown v = numbersOf v
 
 enum-told : tie.Need-enum-told
 enum-told c = search needs

@@ -2,8 +2,7 @@
 use mathlib.Core.Path.{_≡_, sym, ap, _∙_}
 use Rattle.narrowing.specs.declared.Narrowing.{Narrowing}
 use Rattle.narrowing.specs.Narrow.{numbersOf}
-use Rattle.cap.specs.declared.NarrowingNumbers.{NarrowingNumbers}
-use Rattle.cap.specs.Numbers.{narrowingNumbers}
+use Rattle.narrowing.specs.declared.NarrowingNumbers.{NarrowingNumbers}
 use borrow.Author.Needs.{needs}
 use Rattle.cap.proofs.numbers.of_narrowing.Statement.{statement}
 use Rattle.cap.proofs.numbers.of_narrowing.Tie as tie
@@ -13,7 +12,7 @@ use Rattle.cap.proofs.numbers.narrowed.Reads as narrowed-reads
 
 -- The numbers of a narrowing.
 abbrev shown : Narrowing → NarrowingNumbers
-shown v = narrowingNumbers (numbersOf v)
+shown v = numbersOf v
 
 enum-told : tie.Need-enum-told
 enum-told c = search needs

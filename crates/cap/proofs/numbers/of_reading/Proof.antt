@@ -1,6 +1,6 @@
 -- `of_reading` meets its contract. Assumes nothing.
 use mathlib.Core.Path.{_≡_, sym, ap, _∙_}
-use Rattle.cap.specs.Numbers.{descriptorNumbers}
+use Rattle.descriptor.specs.Numbers.{numbersOf}
 use borrow.Author.Needs.{needs}
 use Rattle.cap.proofs.numbers.of_reading.Statement.{statement}
 use Rattle.cap.proofs.numbers.of_reading.Tie as tie
@@ -28,13 +28,13 @@ no-descriptor-requires-2 : tie.Need-no-descriptor-requires-2
 no-descriptor-requires-2 c κs = search needs
 
 returns : tie.Need-returns
-returns c = c .of-fields .ensures ∙ sym (ap descriptorNumbers (c .before .before .reading .given .1))
+returns c = c .of-fields .ensures ∙ sym (ap numbersOf (c .before .before .reading .given .1))
 
 returns-2 : tie.Need-returns-2
-returns-2 c = c .no-descriptor .ensures ∙ sym (ap descriptorNumbers (c .before .enum-told .given .1))
+returns-2 c = c .no-descriptor .ensures ∙ sym (ap numbersOf (c .before .enum-told .given .1))
 
 returns-3 : tie.Need-returns-3
-returns-3 c = c .no-descriptor2 .ensures ∙ sym (ap descriptorNumbers (c .before .enum-told2 .given .1))
+returns-3 c = c .no-descriptor2 .ensures ∙ sym (ap numbersOf (c .before .enum-told2 .given .1))
 
 pub of-reading-spec : {M : Type 1} → statement M
 of-reading-spec =

@@ -1,9 +1,9 @@
 pub mod Keys
 pub mod Model
 pub mod Allowed
+pub mod Modes
 pub mod Value
 pub mod Reader
 pub mod View
 pub mod Answer
 pub mod Numbers
-pub mod Promises

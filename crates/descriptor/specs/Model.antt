@@ -46,6 +46,11 @@ pub record Descriptor : Type 0 where
   pub payload : Payload
   pub signature : Signature
 
+-- how many pairs an optional map has
+abbrev pub pairCount : Option (List Pair) → ℕ
+pairCount none = 0
+pairCount (some ps) = length ps
+
 -- ---- its encoding: heads, keys and contents one after the other
 
 -- a byte string

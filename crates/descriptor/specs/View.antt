@@ -2,13 +2,13 @@
 use mathlib.Core.List.{List, [], _∷_, _++_}
 use mathlib.Core.Option.{Option}
 use Prim.Native.Nat.{ℕ, _+_, _^_}
-use lib.ListN.{length}
+use lib.ListN.{length, take}
 use lib.Bits.{bitOr}
 use Rattle.cbor_item.specs.Encoding.{head}
-use Rattle.cbor_item.specs.Reads.{encOpt, viewOpt}
+use Rattle.cbor_item.specs.Reads.{encOpt, encAll, viewOpt}
 use Rattle.cbor_item.specs.Head.{Span, spanOf}
 use Rattle.descriptor.specs.Keys.{kGrants, kMetadata, kIssuedAt, kIssuerId, kNotAfter, kGrantorId, kNotBefore, kTerminalId, kDescriptorId, kSubjectFayId, kAlgorithm, kSignatureValue, kModes, kConstraints, kResourcePattern}
-use Rattle.descriptor.specs.Model.{Pair, Grant, Payload, Signature, Descriptor, size, encBytes, encText, encPairs, encModes, encGrants, encodePayload, encAlgorithm}
+use Rattle.descriptor.specs.Model.{Pair, Grant, Payload, Signature, Descriptor, size, encBytes, encText, encPairs, encModes, encGrant, encGrants, encodePayload, encAlgorithm}
 use Rattle.descriptor.specs.Reader.{GrantSeen, Sum, GrantsSeen, Opening, Middle, Closing, PayloadSeen, SignatureSeen, Seen, placeOf, pairsOf, beforePayload, beforeKeyId}
 
 -- the mask of modes after a mask: 1, 2, 4 and 8 for the modes 0 to 3
@@ -146,3 +146,7 @@ descriptorView at d =
       payload = payloadView n (d .payload);
       signature = signatureView (n₁ + length beforeKeyId) (d .signature);
     }
+
+-- the place of the i-th grant of a descriptor
+abbrev pub grantPlace : Descriptor → ℕ → ℕ
+grantPlace d i = descriptorView 0 d .payload .opening .grants .start + length (encAll encGrant (take i (d .payload .grants)))

@@ -6,7 +6,7 @@ use Rattle.descriptor.specs.Keys.{kPayload, kVersion, kSignature, kGrants, kMet
 use Rattle.descriptor.specs.Model.{encMode, encAlgorithm}
 use Rattle.descriptor.specs.Allowed.{before}
 use Rattle.descriptor.specs.View.{maskFrom}
-use Rattle.descriptor.specs.Promises.{NamesEncoded, KeysAscend, ModesFixed, AlgorithmsFixed, ReadsExactly, ValidityExactly, StructureExactly, OneReading, CoveredPayload, GrantsWalk}
+use Rattle.descriptor_laws.specs.Promises.{NamesEncoded, KeysAscend, ModesFixed, AlgorithmsFixed, ReadsExactly, ValidityExactly, StructureExactly, OneReading, CoveredPayload, GrantsWalk}
 use Rattle.descriptor_laws.proofs.whole.AnswerLaws as answer
 use Rattle.descriptor_laws.proofs.places.SeenLaws as seen
 

@@ -3,3 +3,4 @@ pub mod GrantLaws
 pub mod GrantsLaws
 pub mod WalkLaws
 pub mod LevelLaws
+pub mod MaskLaws

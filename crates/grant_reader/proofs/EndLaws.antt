@@ -22,7 +22,7 @@ use Rattle.descriptor.specs.Allowed.{Formed}
 use Rattle.descriptor.specs.Value.{within, countAt}
 use Rattle.descriptor.specs.Reader.{grantAt, beforePayload}
 use Rattle.descriptor.specs.View.{keysOf, grantsView}
-use Rattle.descriptor.specs.Promises.{grantPlace}
+use Rattle.descriptor.specs.View.{grantPlace}
 use Rattle.descriptor_laws.proofs.payload.PieceLaws.{encFront}
 use Rattle.descriptor_laws.proofs.payload.PayloadLaws.{frontOf, pieces-encode}
 use Rattle.descriptor_laws.proofs.places.SeenLaws.{payload-here}

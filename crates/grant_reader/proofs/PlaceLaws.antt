@@ -10,7 +10,7 @@ use Rattle.descriptor.specs.Model.{Descriptor, encode}
 use Rattle.descriptor.specs.Allowed.{Formed, Allowed}
 use Rattle.descriptor.specs.Reader.{grantAt}
 use Rattle.descriptor.specs.View.{descriptorView}
-use Rattle.descriptor.specs.Promises.{grantPlace}
+use Rattle.descriptor.specs.View.{grantPlace}
 use Rattle.descriptor_laws.proofs.Promises.{reads-exactly, grants-walk}
 use Rattle.grant_reader.specs.Walk.{startOf, placeAfter, placeFrom}
 use Rattle.grant_reader.specs.Promises.{ReaderPlaces, EachInTurn, NonePast, NoneUnread}

@@ -9,7 +9,7 @@ use Rattle.descriptor.specs.Model.{Grant, Descriptor, encode}
 use Rattle.descriptor.specs.Allowed.{Allowed}
 use Rattle.descriptor.specs.Reader.{Seen, read, readOf, grantAt}
 use Rattle.descriptor.specs.View.{grantView}
-use Rattle.descriptor.specs.Promises.{grantPlace}
+use Rattle.descriptor.specs.View.{grantPlace}
 use Rattle.grant_reader.specs.Walk.{startOf, placeFrom, nthOf}
 
 -- of an allowed descriptor the reader stands, after i grants, at the place of the i-th

@@ -8,7 +8,6 @@ pub mod RunLaws
 pub mod SoundLaws
 pub mod SurveyLaws
 pub mod FreshLaws
-pub mod MaskLaws
 pub mod ReadLaws
 pub mod Promises
 pub mod CodeLaws

@@ -2,20 +2,21 @@
 use mathlib.Core.Path.{_≡_, refl, ap, ap₂, _∙_}
 use mathlib.Core.Bool.{true, false≢true}
 use mathlib.Core.List.{List}
-use Prim.Native.Nat.{ℕ, _<_}
+use Prim.Native.Nat.{ℕ}
 use Rattle.cbor_item.specs.Bytes.{part}
 use Rattle.descriptor.specs.Model.{Descriptor, encode}
 use Rattle.descriptor.specs.Allowed.{Formed}
-use Rattle.descriptor.specs.Reader.{hasMode, Seen, Answer, read, structure, validity, readOf}
+use Rattle.descriptor.specs.Modes.{unionOf}
+use Rattle.descriptor.specs.Reader.{Seen, Answer, read, structure, validity, readOf}
 use Rattle.descriptor.specs.View.{descriptorView}
 use Rattle.descriptor.specs.Answer.{fieldsOf, readingOf}
 use Rattle.descriptor_laws.proofs.Promises.{reads-exactly}
+use Rattle.descriptor_laws.proofs.grants.MaskLaws.{grants-union}
 use Rattle.descriptor_laws.proofs.places.PlaceLaws.{id-part}
 use Rattle.image.specs.Layout.{idSize}
 use Rattle.image.specs.Image.{reading, isRead, idOf, modesOf}
-use Rattle.image.specs.Promises.{anyHas, RowOfBody}
+use Rattle.image.specs.Promises.{RowOfBody}
 use Rattle.image.proofs.RowLaws.{id-read, modes-read}
-use Rattle.image.proofs.MaskLaws.{grants-has}
 
 -- Of a body that reads something was seen.
 seen-of : (b : List ℕ) → isRead (reading b) ≡ true → (v : Seen) × (readOf b ≡ read v)
@@ -29,13 +30,12 @@ seen-of b t = go (readOf b) t
 
 -- The id and the modes of the encoding of an allowed descriptor are the descriptor's.
 seen-row : (b : List ℕ) (v : Seen) (d : Descriptor) → Formed d → readOf b ≡ read v → b ≡ encode d → v ≡ descriptorView 0 d
-    → (idOf b ≡ d .payload .id) × ((m : ℕ) → m < 4 → hasMode (modesOf b) m ≡ anyHas m (d .payload .grants))
+    → (idOf b ≡ d .payload .id) × (modesOf b ≡ unionOf (d .payload .grants))
 unfolding reading
 seen-row b v d q e i j =
     let r = ap readingOf e in (
       id-read b (fieldsOf v) r ∙ ap₂ (λ (x : List ℕ) (u : Seen). part x (u .payload .closing .id) idSize) i j ∙ id-part d q,
-      λ m h. ap (λ (n : ℕ). hasMode n m) (modes-read b (fieldsOf v) r ∙ ap (λ (u : Seen). u .payload .opening .grants .sum .mask) j)
-          ∙ grants-has _ (d .payload .grants) m h (q .payload .grants),
+      modes-read b (fieldsOf v) r ∙ ap (λ (u : Seen). u .payload .opening .grants .sum .mask) j ∙ grants-union _ (d .payload .grants) (q .payload .grants),
     )
 
 -- `RowOfBody`.

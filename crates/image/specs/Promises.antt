@@ -1,15 +1,15 @@
 -- What is promised of stored images, and nothing else. Each statement `NameOfIt` is proved in proofs/Promises.antt as `name-of-it`.
 use mathlib.Core.Path.{_≡_}
 use mathlib.Core.Logic.{_↔_, _⊎_}
-use mathlib.Core.Bool.{Bool, true, false, _||_}
-use mathlib.Core.List.{List, [], _∷_, _++_}
-use Prim.Native.Nat.{ℕ, _≤_, _<_}
+use mathlib.Core.Bool.{true}
+use mathlib.Core.List.{List, [], _++_}
+use Prim.Native.Nat.{ℕ, _≤_}
 use lib.ListN.{length, drop}
 use Rattle.cbor_item.specs.Bytes.{AreBytes}
 use Rattle.cbor_item.specs.Head.{numberAt}
-use Rattle.descriptor.specs.Model.{Grant, Descriptor, encode}
-use Rattle.descriptor.specs.Allowed.{isIn, Allowed}
-use Rattle.descriptor.specs.Reader.{hasMode}
+use Rattle.descriptor.specs.Model.{Descriptor, encode}
+use Rattle.descriptor.specs.Allowed.{Allowed}
+use Rattle.descriptor.specs.Modes.{unionOf}
 use Rattle.image.specs.declared.Survey.the-variants.{Unsound}
 use Rattle.image.specs.declared.Finding.the-variants.{BadImage}
 use Rattle.image.specs.Layout.{imageEdition, modeEdition, headerSize, idSize}
@@ -33,15 +33,10 @@ EditionsKnown = (s id : List ℕ) → (numberAt s 0 2 ≡ imageEdition → ⊥) 
 abbrev pub LookupExactly : Type 0
 LookupExactly = (s id : List ℕ) (bs : List (List ℕ)) → Holds s bs → length id ≡ idSize → bodyFound s (findOf s id) ≡ bodyWith id bs
 
--- some grant has the mode
-abbrev pub anyHas : ℕ → List Grant → Bool
-anyHas m [] = false
-anyHas m (g ∷ gs) = isIn m (g .modes) || anyHas m gs
-
--- a body that reads with 0 is the encoding of an allowed descriptor; its row has that descriptor's id, and a mode's bit exactly where a grant names the mode
+-- a body that reads with 0 is the encoding of an allowed descriptor; its row has that descriptor's id, and the union of its modes as the mask
 abbrev pub RowOfBody : Type 0
 RowOfBody = (b : List ℕ) → AreBytes b → isRead (reading b) ≡ true
-    → (d : Descriptor) × Allowed d × (b ≡ encode d) × (idOf b ≡ d .payload .id) × ((m : ℕ) → m < 4 → hasMode (modesOf b) m ≡ anyHas m (d .payload .grants))
+    → (d : Descriptor) × Allowed d × (b ≡ encode d) × (idOf b ≡ d .payload .id) × (modesOf b ≡ unionOf (d .payload .grants))
 
 -- a new image is the image of no bodies, followed by what stood there
 abbrev pub NewEmpty : Type 0

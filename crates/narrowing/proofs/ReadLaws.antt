@@ -17,7 +17,7 @@ use Rattle.descriptor.specs.Model.{Grant, Descriptor, encode}
 use Rattle.descriptor.specs.Allowed.{Formed}
 use Rattle.descriptor.specs.Reader.{GrantSeen, Sum, pairsOf, grantAt}
 use Rattle.descriptor.specs.View.{maskOf, countOf, sumFrom, grantView, grantsView, descriptorView}
-use Rattle.descriptor.specs.Promises.{grantPlace}
+use Rattle.descriptor.specs.View.{grantPlace}
 use Rattle.descriptor_laws.proofs.Promises.{grants-walk}
 use Rattle.descriptor_laws.proofs.grants.WalkLaws.{dropped, count-of, pairs-of}
 use Rattle.narrowing.specs.Escape.{Rule}

@@ -13,7 +13,7 @@ use Rattle.descriptor.specs.Model.{Grant, Descriptor, encode}
 use Rattle.descriptor.specs.Allowed.{GrantOk, All, Formed}
 use Rattle.descriptor.specs.Reader.{GrantSeen, Seen, read, readOf}
 use Rattle.descriptor.specs.View.{grantView, descriptorView}
-use Rattle.descriptor.specs.Promises.{grantPlace}
+use Rattle.descriptor.specs.View.{grantPlace}
 use Rattle.descriptor_laws.proofs.Promises.{reads-exactly, grants-walk}
 use Rattle.descriptor_laws.proofs.grants.GrantsLaws.{OwnedBy}
 use Rattle.descriptor_laws.proofs.grants.WalkLaws.{dropped, count-of}

@@ -2,13 +2,13 @@
 use mathlib.Core.Path.{_≡_}
 use mathlib.Core.Logic.{_↔_}
 use mathlib.Core.List.{List, [], _∷_}
-use mathlib.Core.Option.{Option, none, some}
+use mathlib.Core.Option.{none}
 use Prim.Native.Nat.{ℕ, zero, suc, _+_, _≤_, _<_}
 use lib.ListN.{length, getD}
 use Rattle.cbor_item.specs.Bytes.{AreBytes}
 use Rattle.resource.specs.Pattern.{Path, IsPath}
 use Rattle.resource.specs.Text.{patternOf}
-use Rattle.descriptor.specs.Model.{Pair, Grant, Descriptor, encode}
+use Rattle.descriptor.specs.Model.{Grant, Descriptor, pairCount, encode}
 use Rattle.descriptor.specs.Allowed.{Allowed}
 use Rattle.descriptor.specs.View.{maskOf}
 use Rattle.descriptor.specs.Reader.{Seen, read, structure, validity, readOf}
@@ -16,11 +16,6 @@ use Rattle.narrowing.specs.declared.Narrowing.the-variants.{Accepted, No
 use Rattle.narrowing.specs.Meaning.{Admits, Escapes, takenBy}
 use Rattle.narrowing.specs.Escape.{Rule, witnessPath}
 use Rattle.narrowing.specs.Narrow.{narrow}
-
--- how many constraint pairs a grant has
-abbrev pub pairCount : Option (List Pair) → ℕ
-pairCount none = 0
-pairCount (some ps) = length ps
 
 -- no grant has a constraint pair
 abbrev pub NoPairs : List Grant → Type 0

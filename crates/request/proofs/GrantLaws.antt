@@ -11,12 +11,12 @@ use Rattle.cbor_item.specs.Bytes.{AreBytes, part, same as sameBytes}
 use Rattle.cbor_item.specs.Reads.{got}
 use Rattle.resource.specs.Pattern.{admits}
 use Rattle.resource.specs.Text.{resourceOk, pathOf, patternOf, levelsMatch}
-use Rattle.descriptor.specs.Model.{Grant, Descriptor, encode}
+use Rattle.descriptor.specs.Model.{Grant, Descriptor, pairCount, encode}
 use Rattle.descriptor.specs.Allowed.{isIn, GrantOk, All, Formed}
 use Rattle.descriptor.specs.Reader.{GrantSeen, grantAt}
 use Rattle.descriptor.specs.View.{maskOf, grantView, descriptorView}
 use Rattle.descriptor.specs.Answer.{fieldsOf}
-use Rattle.descriptor.specs.Promises.{grantPlace}
+use Rattle.descriptor.specs.View.{grantPlace}
 use Rattle.descriptor_laws.proofs.values.ModeLaws.{mask-exact}
 use Rattle.descriptor_laws.proofs.grants.GrantsLaws.{OwnedBy}
 use Rattle.descriptor_laws.proofs.grants.WalkLaws.{dropped, count-of, pairs-of}
@@ -26,7 +26,7 @@ use Rattle.descriptor_laws.proofs.Promises.{grants-walk}
 use Rattle.request.specs.declared.search.Matched.{Matched}
 use Rattle.request.specs.declared.search.Matched.the-variants.{Nothing}
 use Rattle.request.specs.Decision.{serves, orNext, firstFrom, matchedOn}
-use Rattle.request.specs.Meaning.{pairCount, grantServes, firstServing}
+use Rattle.request.specs.Meaning.{grantServes, firstServing}
 use Rattle.request.proofs.MatchLaws.{admits-text}
 
 -- ---- one grant

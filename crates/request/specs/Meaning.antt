@@ -1,13 +1,11 @@
 -- What a request is decided on, in document 01's words: the descriptor itself, with `resource`'s matching. Nothing here knows of bytes.
 use mathlib.Core.Bool.{Bool, true, _&&_}
 use mathlib.Core.List.{List, [], _∷_}
-use mathlib.Core.Option.{Option, none, some}
 use Prim.Native.Nat.{ℕ, _+_}
-use lib.ListN.{length}
 use lib.Dec.{eqb}
 use Rattle.resource.specs.Pattern.{Path, admits}
 use Rattle.resource.specs.Text.{pathOf, patternOf}
-use Rattle.descriptor.specs.Model.{Pair, Grant, Descriptor}
+use Rattle.descriptor.specs.Model.{Grant, Descriptor, pairCount}
 use Rattle.descriptor.specs.Allowed.{isIn}
 use Rattle.descriptor.specs.View.{maskOf}
 use Rattle.steps.specs.Order.{inOrder}
@@ -16,11 +14,6 @@ use Rattle.request.specs.declared.search.Matched.{Matched}
 use Rattle.request.specs.declared.search.Matched.the-variants.{Nothing}
 use Rattle.request.specs.Asked.{Asked}
 use Rattle.request.specs.Decision.{Facts, orNext, stepsBy, grantedBy}
-
--- how many constraint pairs a grant has
-abbrev pub pairCount : Option (List Pair) → ℕ
-pairCount none = 0
-pairCount (some ps) = length ps
 
 -- a grant serves: it has the mode, a matching pattern and no constraint pair
 abbrev pub grantServes : Grant → ℕ → Path → Bool

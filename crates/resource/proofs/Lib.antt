@@ -1,5 +1,6 @@
 pub mod Flags
 pub mod LevelLaws
+pub mod CharLaws
 pub mod FormLaws
 pub mod ScanLaws
 pub mod TextLaws

@@ -1,3 +1,4 @@
+pub mod Characters
 pub mod Identifier
 pub mod Level
 pub mod Pattern

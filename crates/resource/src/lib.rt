@@ -5,10 +5,8 @@ mod levels;
 mod matcher;
 
 ghost use mathlib.Core.Path.{_≡_};
-ghost use mathlib.Core.Bool.{true};
 ghost use Rattle.resource.specs.Identifier.{isFay, isTerminal};
-ghost use Rattle.resource.specs.Level.{levels as levelsIn, levelsOk};
-ghost use Rattle.resource.specs.Text.{resourceOk, patternOk, levelsMatch, matching};
+ghost use Rattle.resource.specs.Text.{resourceOk, patternOk, matching};
 ghost use Rattle.resource.specs.Scan.{stepOf};
 
 // What matching two texts answers; Malformed is document 01's 15.
@@ -59,20 +57,6 @@ pub fn is_pattern(s: &[u8]) -> bool
     ensures { λ r. ⌜ r ≡ patternOk (now (s .entry)) ⌝ }
 {
     levels::pattern(s)
-}
-
-// Whether s is the levels of a pattern, what follows its terminal id and "/".
-pub fn is_pattern_levels(s: &[u8]) -> bool
-    ensures { λ r. ⌜ r ≡ levelsOk true (levelsIn (now (s .entry))) ⌝ }
-{
-    levels::all(s, true)
-}
-
-// Whether the levels p of a pattern match the levels r of a path, both without terminal id.
-pub fn match_levels(p: &[u8], r: &[u8]) -> bool
-    ensures { λ o. ⌜ o ≡ levelsMatch (now (p .entry)) (now (r .entry)) ⌝ }
-{
-    matcher::levels(p, r)
 }
 
 // The first level of a pattern's levels p against the first level of r: a name against the same bytes, "*" against any. Where r is a pattern's

@@ -5,7 +5,7 @@ use mathlib.Core.Option.{Option, none, some}
 use Prim.Native.Nat.{ℕ, zero, suc, _<_}
 use native.Mathlib.Omega.{arith}
 use lib.ListN.{length, getD, drop}
-use Rattle.descriptor.specs.Model.{Pair, Grant}
+use Rattle.descriptor.specs.Model.{Pair, Grant, pairCount}
 use Rattle.descriptor.specs.Reader.{pairsOf}
 use Rattle.descriptor.specs.View.{countOf, grantsView}
 
@@ -22,12 +22,7 @@ pub count-of : (at : ℕ) (gs : List Grant) → grantsView at gs .count ≡ leng
 count-of at [] = refl
 count-of at (g ∷ gs) = refl
 
--- how many pairs there are
-abbrev pub pairCount : Option (List Pair) → ℕ
-pairCount none = 0
-pairCount (some ps) = length ps
-
--- as many are seen
+-- as many pairs are seen as there are
 pub pairs-of : (ps : Option (List Pair)) → pairsOf (countOf ps) ≡ pairCount ps
 pairs-of none = refl
 pairs-of (some ps) = refl

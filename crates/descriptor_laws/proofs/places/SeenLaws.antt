@@ -14,8 +14,8 @@ use Rattle.cbor_item.proofs.CountedLaws.{all-at}
 use Rattle.descriptor.specs.Model.{Grant, Payload, Descriptor, encGrant, encGrants, encodePayload, encode}
 use Rattle.descriptor.specs.Allowed.{GrantOk, All, Formed}
 use Rattle.descriptor.specs.Reader.{beforePayload}
-use Rattle.descriptor.specs.View.{grantView, grantsView, descriptorView}
-use Rattle.descriptor.specs.Promises.{CoveredPayload, grantPlace, GrantsWalk}
+use Rattle.descriptor.specs.View.{grantView, grantsView, descriptorView, grantPlace}
+use Rattle.descriptor_laws.specs.Promises.{CoveredPayload, GrantsWalk}
 use Rattle.descriptor_laws.proofs.grants.GrantLaws.{grant-exact}
 use Rattle.descriptor_laws.proofs.grants.GrantsLaws.{pattern-at}
 use Rattle.descriptor_laws.proofs.payload.PieceLaws.{encFront}

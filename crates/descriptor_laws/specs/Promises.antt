@@ -1,17 +1,17 @@
--- What is promised of descriptors, and nothing else. Each statement `NameOfIt` is proved in descriptor_laws/proofs/Promises.antt as `name-of-it`.
+-- What is promised of descriptors, and nothing else. Each statement `NameOfIt` is proved in proofs/Promises.antt as `name-of-it`.
 use mathlib.Core.Path.{_≡_}
 use mathlib.Core.Logic.{_↔_}
 use mathlib.Core.Bool.{Bool, true, false, _&&_}
 use mathlib.Core.List.{List, [], _∷_, _++_}
 use Prim.Native.Nat.{ℕ, _+_, _^_, _≤_, _<_}
-use lib.ListN.{length, take, drop, getD}
+use lib.ListN.{length, drop, getD}
 use Rattle.cbor_item.specs.Bytes.{AreBytes, part, same}
-use Rattle.cbor_item.specs.Reads.{got, encAll}
+use Rattle.cbor_item.specs.Reads.{got}
 use Rattle.descriptor.specs.Keys.{kPayload, kVersion, kSignature, kGrants, kMetadata, kIssuedAt, kIssuerId, kNotAfter, kGrantorId, kNotBefore, kTerminalId, kDescriptorId, kSubjectFayId, kKeyId, kAlgorithm, kSignatureValue, kModes, kConstraints, kResourcePattern, ed25519, ecdsaP256Sha256, mRead, mWrite, mExecute, mConfigure}
-use Rattle.descriptor.specs.Model.{Grant, Descriptor, encText, encMode, encGrant, encAlgorithm, encodePayload, encode}
+use Rattle.descriptor.specs.Model.{Grant, Descriptor, encText, encMode, encAlgorithm, encodePayload, encode}
 use Rattle.descriptor.specs.Allowed.{before, longestPeriod, period, Formed, Allowed}
 use Rattle.descriptor.specs.Reader.{Seen, read, structure, validity, readOf, grantAt}
-use Rattle.descriptor.specs.View.{maskOf, grantView, descriptorView}
+use Rattle.descriptor.specs.View.{maskOf, grantView, descriptorView, grantPlace}
 
 -- ---- the fixed byte strings
 
@@ -76,10 +76,6 @@ OneReading = (s : List ℕ) → AreBytes s → (d e : Descriptor) → Formed d �
 -- the covered part holds the bytes of the payload
 abbrev pub CoveredPayload : Type 0
 CoveredPayload = (d : Descriptor) → let v = descriptorView 0 d in part (encode d) (v .covered .start) (v .covered .len) ≡ encodePayload (d .payload)
-
--- the place of the i-th grant of a descriptor
-abbrev pub grantPlace : Descriptor → ℕ → ℕ
-grantPlace d i = descriptorView 0 d .payload .opening .grants .start + length (encAll encGrant (take i (d .payload .grants)))
 
 -- reading the grant at that place gives the i-th grant, and the place of the next
 abbrev pub GrantsWalk : Type 0

@@ -6,7 +6,7 @@ CARGO := cargo --offline
 # cargo's own folder, where it is not on the path
 export PATH := $(PATH):$(shell getent passwd "$$(id -u)" | cut -d: -f6)/.cargo/bin
 
-.PHONY: test lib example match bench header differential tools
+.PHONY: test lib example match bench promises header calls differential tools
 
 # proves every crate of crates.txt from nothing, tries the must-fail edits, runs the programs, and compares the library with ordinary Rust
 test:
@@ -32,9 +32,19 @@ header:
 	cc -std=c99 -Wall -Wextra -pedantic -Werror -fsyntax-only -x c include/cap.h
 	c++ -Wall -Wextra -pedantic -Werror -fsyntax-only -x c++ include/cap.h
 
-# cargo, from Debian where it is missing
+# cargo and python3, from Debian where they are missing
 tools:
 	command -v cargo > /dev/null || apt-get install -y cargo
+	command -v python3 > /dev/null || apt-get install -y python3
+
+# every promise has its proof and its row
+promises: tools
+	tests/promises
+
+# each call of the header with known input, every field compared
+calls: lib
+	cc -std=c99 -Wall -Wextra -pedantic -Werror -Iinclude tests/calls.c target/staticlib/libcap.a -o target/calls
+	target/calls
 
 # the library compared with the ordinary Rust implementation, and that with the stored vectors
 differential: lib tools

@@ -1,8 +1,9 @@
 /* The gate of the Control Authority Protocol: reading of items and descriptors, matching, the stored image, submission, requests and narrowing.
  *
  * Link libcap.a. Every function takes any bytes and any numbers, ends, and answers; none allocates, keeps a pointer or uses a global.
- * A slice is a pointer and a length. An empty slice is passed with any pointer that is not null. Where one slice of a call is mutable, no other
- * slice of that call overlaps it: copy a body out of an image before submitting it again.
+ * A slice is a pointer and a length. An empty slice is passed with any pointer that is not null, as CAP_EMPTY: a slice of the library is a reference, which the
+ * compiler may take to be no null pointer, whatever its length. Where one slice of a call is mutable, no other slice of that call overlaps it: copy a body out of
+ * an image before submitting it again.
  * A refusal changes no byte, and its other numbers are 0, except narrowing's for CAP_GRANT_NOT_COVERED.
  * A place or a length counts bytes of the slice that was passed; `grant` and `index` count grants from 0. `has_...` is 0 for absent, anything
  * else for present; what it marks as absent is not looked at.
@@ -17,7 +18,10 @@
 extern "C" {
 #endif
 
-/* The answers of every call, by the numbers of the published table. */
+/* A pointer for an empty slice. */
+#define CAP_EMPTY ((const uint8_t *)"")
+
+/* The answers of the calls, by the numbers of the published table; `found` of cap_grant_at is none of them. */
 enum cap_answer {
     CAP_DONE = 0,                        /* done, granted, accepted */
     CAP_INVALID_STRUCTURE = 1,           /* E_INVALID_STRUCTURE: not the deterministic encoding of an allowed item or descriptor */
@@ -33,7 +37,7 @@ enum cap_answer {
     CAP_SUBJECT_MISMATCH = 11,           /* E_SUBJECT_MISMATCH: another fay */
     CAP_TERMINAL_MISMATCH = 12,          /* E_TERMINAL_MISMATCH: another terminal */
     CAP_AUTHORIZATION_INSUFFICIENT = 13, /* E_AUTHORIZATION_INSUFFICIENT: no grant has the mode, a matching pattern and no constraint */
-    CAP_VERIFICATION_KEY_INVALID = 14,   /* E_VERIFICATION_KEY_INVALID: the clock is outside the key's window */
+    CAP_VERIFICATION_KEY_INVALID = 14,   /* E_VERIFICATION_KEY_INVALID: the clock is outside the key's window; in a request also that the host has no such key (verdict 2) */
     CAP_MALFORMED_ARGUMENTS = 15,        /* malformed arguments */
     CAP_BAD_IMAGE = 16,                  /* bad image, also one of an unknown edition */
     CAP_OUTPUT_TOO_SHORT = 17,           /* output too short */

@@ -10,6 +10,7 @@ use narrowing::NarrowingNumbers;
 use request::DecisionNumbers;
 use resource::MatchingNumbers;
 ghost use mathlib.Core.Path.{_≡_};
+ghost use Rattle.cbor_item.specs.Bytes.{AreBytes};
 ghost use Rattle.cbor_item.specs.Item as items;
 ghost use Rattle.resource.specs.Text as texts;
 ghost use Rattle.descriptor.specs.Reader.{readOf};
@@ -27,7 +28,8 @@ ghost use Rattle.cap.specs.Numbers.{windowOf};
 // The item at the place.
 #[no_mangle]
 pub extern "C" fn cap_item_read(bytes: &[u8], place: u64) -> ItemNumbers
-    ensures { λ r. ⌜ r ≡ items.numbersOf (items.itemAt (now (bytes .entry)) place) ⌝ }
+    ensures answer { λ r. ⌜ r ≡ items.numbersOf (items.itemAt (now (bytes .entry)) place) ⌝ }
+    ensures lent { λ _. ⌜ AreBytes (now (bytes .entry)) ⌝ }
 {
     numbers::of_item(cbor_item::read_item(bytes, place as usize))
 }
@@ -35,7 +37,8 @@ pub extern "C" fn cap_item_read(bytes: &[u8], place: u64) -> ItemNumbers
 // Reads a descriptor.
 #[no_mangle]
 pub extern "C" fn cap_descriptor_read(bytes: &[u8]) -> DescriptorNumbers
-    ensures { λ r. ⌜ r ≡ descriptors.numbersOf (readingOf (readOf (now (bytes .entry)))) ⌝ }
+    ensures answer { λ r. ⌜ r ≡ descriptors.numbersOf (readingOf (readOf (now (bytes .entry)))) ⌝ }
+    ensures lent { λ _. ⌜ AreBytes (now (bytes .entry)) ⌝ }
 {
     numbers::of_reading(descriptor::read_descriptor(bytes))
 }
@@ -43,7 +46,8 @@ pub extern "C" fn cap_descriptor_read(bytes: &[u8]) -> DescriptorNumbers
 // The grant with the index, counted from 0.
 #[no_mangle]
 pub extern "C" fn cap_grant_at(bytes: &[u8], index: u64) -> GrantNumbers
-    ensures { λ r. ⌜ r ≡ descriptors.grantNumbers (nthOf (now (bytes .entry)) index) ⌝ }
+    ensures answer { λ r. ⌜ r ≡ descriptors.grantNumbers (nthOf (now (bytes .entry)) index) ⌝ }
+    ensures lent { λ _. ⌜ AreBytes (now (bytes .entry)) ⌝ }
 {
     numbers::of_grant(grant_reader::nth(bytes, index))
 }
@@ -51,7 +55,8 @@ pub extern "C" fn cap_grant_at(bytes: &[u8], index: u64) -> GrantNumbers
 // Whether the pattern matches the resource id.
 #[no_mangle]
 pub extern "C" fn cap_match(pattern: &[u8], resource: &[u8]) -> MatchingNumbers
-    ensures { λ r. ⌜ r ≡ texts.numbersOf (texts.matching (now (pattern .entry)) (now (resource .entry))) ⌝ }
+    ensures answer { λ r. ⌜ r ≡ texts.numbersOf (texts.matching (now (pattern .entry)) (now (resource .entry))) ⌝ }
+    ensures lent { λ _. ⌜ AreBytes (now (pattern .entry)) × AreBytes (now (resource .entry)) ⌝ }
 {
     numbers::of_matching(resource::match_texts(pattern, resource))
 }
@@ -59,7 +64,8 @@ pub extern "C" fn cap_match(pattern: &[u8], resource: &[u8]) -> MatchingNumbers
 // Makes a new image.
 #[no_mangle]
 pub extern "C" fn cap_image_new(image: &mut [u8]) -> u64
-    ensures { λ r. ⌜ (r ≡ fresh.numberOf (fresh.madeOf (now (image .entry)))) × (now (image .exit) ≡ fresh.afterNew (now (image .entry))) ⌝ }
+    ensures answer { λ r. ⌜ (r ≡ fresh.numberOf (fresh.madeOf (now (image .entry)))) × (now (image .exit) ≡ fresh.afterNew (now (image .entry))) ⌝ }
+    ensures lent { λ _. ⌜ AreBytes (now (image .entry)) ⌝ }
 {
     numbers::of_made(image::new_image(image))
 }
@@ -67,7 +73,8 @@ pub extern "C" fn cap_image_new(image: &mut [u8]) -> u64
 // Looks for the body with the id.
 #[no_mangle]
 pub extern "C" fn cap_image_find(image: &[u8], id: &[u8]) -> StoredNumbers
-    ensures { λ r. ⌜ r ≡ images.numbersOf (images.findOf (now (image .entry)) (now (id .entry))) ⌝ }
+    ensures answer { λ r. ⌜ r ≡ images.numbersOf (images.findOf (now (image .entry)) (now (id .entry))) ⌝ }
+    ensures lent { λ _. ⌜ AreBytes (now (image .entry)) × AreBytes (now (id .entry)) ⌝ }
 {
     numbers::of_finding(image::find(image, id))
 }
@@ -83,7 +90,8 @@ pub extern "C" fn cap_submit(
     has_valid_until: u64,
     valid_until: u64,
 ) -> u64
-    ensures { λ r. ⌜ (r ≡ submissions.numberOf (submissions.submitted (now (image .entry)) (now (descriptor .entry)) clock verdict (windowOf «valid_from» «has_valid_until» «valid_until»))) × (now (image .exit) ≡ submissions.afterOf (now (image .entry)) (now (descriptor .entry)) clock verdict (windowOf «valid_from» «has_valid_until» «valid_until»)) ⌝ }
+    ensures answer { λ r. ⌜ (r ≡ submissions.numberOf (submissions.submitted (now (image .entry)) (now (descriptor .entry)) clock verdict (windowOf «valid_from» «has_valid_until» «valid_until»))) × (now (image .exit) ≡ submissions.afterOf (now (image .entry)) (now (descriptor .entry)) clock verdict (windowOf «valid_from» «has_valid_until» «valid_until»)) ⌝ }
+    ensures lent { λ _. ⌜ AreBytes (now (image .entry)) × AreBytes (now (descriptor .entry)) ⌝ }
 {
     let key = numbers::window(valid_from, has_valid_until, valid_until);
     numbers::of_submission(submission::submit(image, descriptor, clock, verdict, key))
@@ -106,7 +114,8 @@ pub extern "C" fn cap_request(
     has_valid_until: u64,
     valid_until: u64,
 ) -> DecisionNumbers
-    ensures { λ r. ⌜ r ≡ requests.numbersOf (requests.decisionOf (now (image .entry)) (asked (now (id .entry)) (now (fay .entry)) (now (terminal .entry)) (now (resource .entry)) mode clock «session_length» (now (revoked .entry)) verdict (windowOf «valid_from» «has_valid_until» «valid_until»))) ⌝ }
+    ensures answer { λ r. ⌜ r ≡ requests.numbersOf (requests.decisionOf (now (image .entry)) (asked (now (id .entry)) (now (fay .entry)) (now (terminal .entry)) (now (resource .entry)) mode clock «session_length» (now (revoked .entry)) verdict (windowOf «valid_from» «has_valid_until» «valid_until»))) ⌝ }
+    ensures lent { λ _. ⌜ AreBytes (now (image .entry)) × AreBytes (now (id .entry)) × AreBytes (now (fay .entry)) × AreBytes (now (terminal .entry)) × AreBytes (now (resource .entry)) × AreBytes (now (revoked .entry)) ⌝ }
 {
     let key = numbers::window(valid_from, has_valid_until, valid_until);
     numbers::of_decision(request::request(
@@ -127,7 +136,8 @@ pub extern "C" fn cap_request(
 // Narrows the child under the parent.
 #[no_mangle]
 pub extern "C" fn cap_narrow(parent: &[u8], child: &[u8]) -> NarrowingNumbers
-    ensures { λ r. ⌜ r ≡ narrowings.numbersOf (narrowings.narrow (now (parent .entry)) (now (child .entry))) ⌝ }
+    ensures answer { λ r. ⌜ r ≡ narrowings.numbersOf (narrowings.narrow (now (parent .entry)) (now (child .entry))) ⌝ }
+    ensures lent { λ _. ⌜ AreBytes (now (parent .entry)) × AreBytes (now (child .entry)) ⌝ }
 {
     numbers::of_narrowing(narrowing::narrow(parent, child))
 }

@@ -1,6 +1,7 @@
 -- `cap_descriptor_read` meets its contract. Assumes nothing.
 use mathlib.Core.Path.{_≡_, sym, ap, _∙_}
 use Rattle.descriptor.specs.Numbers.{numbersOf}
+use Rattle.cbor_item.proofs.BytesLaws.{are-bytes}
 use borrow.Author.Needs.{needs}
 use Rattle.cap.proofs.cap_descriptor_read.Statement.{statement}
 use Rattle.cap.proofs.cap_descriptor_read.Tie as tie
@@ -16,7 +17,7 @@ of-reading-requires : tie.Need-of-reading-requires
 of-reading-requires c κs = search needs
 
 returns : tie.Need-returns
-returns c = c .of-reading .ensures ∙ ap numbersOf (c .before .read-descriptor .ensures)
+returns c = (c .of-reading .ensures ∙ ap numbersOf (c .before .read-descriptor .ensures), are-bytes (c .before .before .before .args .bytes .now) (c .before .before .shared-slice-known .given))
 
 pub cap-descriptor-read-spec : {M : Type 1} → statement M
 cap-descriptor-read-spec =

@@ -1,6 +1,7 @@
 -- `cap_grant_at` meets its contract. Assumes nothing.
 use mathlib.Core.Path.{_≡_, sym, ap, _∙_}
 use Rattle.descriptor.specs.Numbers.{grantNumbers}
+use Rattle.cbor_item.proofs.BytesLaws.{are-bytes}
 use borrow.Author.Needs.{needs}
 use Rattle.cap.proofs.cap_grant_at.Statement.{statement}
 use Rattle.cap.proofs.cap_grant_at.Tie as tie
@@ -16,7 +17,7 @@ of-grant-requires : tie.Need-of-grant-requires
 of-grant-requires c κs = search needs
 
 returns : tie.Need-returns
-returns c = c .of-grant .ensures ∙ ap grantNumbers (c .before .nth .ensures)
+returns c = (c .of-grant .ensures ∙ ap grantNumbers (c .before .nth .ensures), are-bytes (c .before .before .before .args .bytes .now) (c .before .before .shared-slice-known .given))
 
 pub cap-grant-at-spec : {M : Type 1} → statement M
 cap-grant-at-spec = tie.close (tie.spec nth-requires of-grant-requires returns)

@@ -1,8 +1,7 @@
 -- `cap_image_find` meets its contract. Assumes nothing.
 use mathlib.Core.Path.{_≡_, sym, ap, _∙_}
-use Rattle.image.specs.declared.Finding.{Finding}
 use Rattle.image.specs.Check.{numbersOf}
-use Rattle.image.specs.declared.StoredNumbers.{StoredNumbers}
+use Rattle.cbor_item.proofs.BytesLaws.{are-bytes}
 use borrow.Author.Needs.{needs}
 use Rattle.cap.proofs.cap_image_find.Statement.{statement}
 use Rattle.cap.proofs.cap_image_find.Tie as tie
@@ -11,10 +10,6 @@ use Rattle.cap.proofs.cap_image_find.Lts as lts
 use Rattle.cap.proofs.numbers.of_finding.Reads as of-finding-reads
 use Rattle.image.proofs.find.Reads as find-reads
 
--- The numbers of a lookup.
-abbrev shown : Finding → StoredNumbers
-shown v = numbersOf v
-
 find-requires : tie.Need-find-requires
 find-requires c κs = search needs
 
@@ -22,7 +17,9 @@ of-finding-requires : tie.Need-of-finding-requires
 of-finding-requires c κs = search needs
 
 returns : tie.Need-returns
-returns c = c .of-finding .ensures ∙ ap shown (c .before .find .ensures)
+returns c =
+    let k = c .before .before in
+    let a = k .before .before .args in (c .of-finding .ensures ∙ ap numbersOf (c .before .find .ensures), (are-bytes (a .image .now) (k .before .shared-slice-known .given), are-bytes (a .id .now) (k .shared-slice-known2 .given)))
 
 pub cap-image-find-spec : {M : Type 1} → statement M
 cap-image-find-spec = tie.close (tie.spec find-requires of-finding-requires returns)

@@ -1,6 +1,7 @@
 -- `cap_image_new` meets its contract. Assumes nothing.
 use mathlib.Core.Path.{_≡_, sym, ap, _∙_}
 use Rattle.image.specs.Fresh.{numberOf}
+use Rattle.cbor_item.proofs.BytesLaws.{are-bytes}
 use borrow.Author.Needs.{needs}
 use Rattle.cap.proofs.cap_image_new.Statement.{statement}
 use Rattle.cap.proofs.cap_image_new.Tie as tie
@@ -19,7 +20,9 @@ same-length : tie.Need-same-length
 same-length c = search needs
 
 returns : tie.Need-returns
-returns c = let e = c .before .before .before .new-image .ensures in (c .of-made .ensures ∙ ap numberOf (e .0), e .1)
+returns c =
+    let e = c .before .before .before .new-image .ensures in
+    ((c .of-made .ensures ∙ ap numberOf (e .0), e .1), are-bytes (c .before .before .before .before .before .before .args .image .now) (c .before .before .before .before .before .slice-known .given))
 
 pub cap-image-new-spec : {M : Type 1} → statement M
 cap-image-new-spec = tie.close (tie.spec new-image-requires of-made-requires same-length returns)

@@ -1,8 +1,7 @@
 -- `cap_match` meets its contract. Assumes nothing.
 use mathlib.Core.Path.{_≡_, sym, ap, _∙_}
-use Rattle.resource.specs.declared.Matching.{Matching}
 use Rattle.resource.specs.Text.{numbersOf}
-use Rattle.resource.specs.declared.MatchingNumbers.{MatchingNumbers}
+use Rattle.cbor_item.proofs.BytesLaws.{are-bytes}
 use borrow.Author.Needs.{needs}
 use Rattle.cap.proofs.cap_match.Statement.{statement}
 use Rattle.cap.proofs.cap_match.Tie as tie
@@ -11,10 +10,6 @@ use Rattle.cap.proofs.cap_match.Lts as lts
 use Rattle.cap.proofs.numbers.of_matching.Reads as of-matching-reads
 use Rattle.resource.proofs.match_texts.Reads as match-texts-reads
 
--- The numbers of a matching.
-abbrev shown : Matching → MatchingNumbers
-shown v = numbersOf v
-
 match-texts-requires : tie.Need-match-texts-requires
 match-texts-requires c κs = search needs
 
@@ -22,7 +17,9 @@ of-matching-requires : tie.Need-of-matching-requires
 of-matching-requires c κs = search needs
 
 returns : tie.Need-returns
-returns c = c .of-matching .ensures ∙ ap shown (c .before .match-texts .ensures)
+returns c =
+    let k = c .before .before in
+    let a = k .before .before .args in (c .of-matching .ensures ∙ ap numbersOf (c .before .match-texts .ensures), (are-bytes (a .pattern .now) (k .before .shared-slice-known .given), are-bytes (a .resource .now) (k .shared-slice-known2 .given)))
 
 pub cap-match-spec : {M : Type 1} → statement M
 cap-match-spec = tie.close (tie.spec match-texts-requires of-matching-requires returns)

@@ -1,8 +1,7 @@
 -- `cap_narrow` meets its contract. Assumes nothing.
 use mathlib.Core.Path.{_≡_, sym, ap, _∙_}
-use Rattle.narrowing.specs.declared.Narrowing.{Narrowing}
 use Rattle.narrowing.specs.Narrow.{numbersOf}
-use Rattle.narrowing.specs.declared.NarrowingNumbers.{NarrowingNumbers}
+use Rattle.cbor_item.proofs.BytesLaws.{are-bytes}
 use borrow.Author.Needs.{needs}
 use Rattle.cap.proofs.cap_narrow.Statement.{statement}
 use Rattle.cap.proofs.cap_narrow.Tie as tie
@@ -11,10 +10,6 @@ use Rattle.cap.proofs.cap_narrow.Lts as lts
 use Rattle.cap.proofs.numbers.of_narrowing.Reads as of-narrowing-reads
 use Rattle.narrowing.proofs.narrow.Reads as narrow-reads
 
--- The numbers of a narrowing.
-abbrev shown : Narrowing → NarrowingNumbers
-shown v = numbersOf v
-
 narrow-requires : tie.Need-narrow-requires
 narrow-requires c κs = search needs
 
@@ -22,7 +17,9 @@ of-narrowing-requires : tie.Need-of-narrowing-requires
 of-narrowing-requires c κs = search needs
 
 returns : tie.Need-returns
-returns c = c .of-narrowing .ensures ∙ ap shown (c .before .narrow .ensures)
+returns c =
+    let k = c .before .before in
+    let a = k .before .before .args in (c .of-narrowing .ensures ∙ ap numbersOf (c .before .narrow .ensures), (are-bytes (a .parent .now) (k .before .shared-slice-known .given), are-bytes (a .child .now) (k .shared-slice-known2 .given)))
 
 pub cap-narrow-spec : {M : Type 1} → statement M
 cap-narrow-spec = tie.close (tie.spec narrow-requires of-narrowing-requires returns)

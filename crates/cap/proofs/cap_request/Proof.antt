@@ -6,6 +6,7 @@ use Rattle.steps.specs.declared.Window.{Window}
 use Rattle.request.specs.declared.Decision.{Decision}
 use Rattle.request.specs.Asked.{asked}
 use Rattle.request.specs.Decision.{decisionOf, numbersOf}
+use Rattle.cbor_item.proofs.BytesLaws.{are-bytes}
 use borrow.Author.Needs.{needs}
 use Rattle.cap.proofs.cap_request.Statement.{statement}
 use Rattle.cap.proofs.cap_request.Tie as tie
@@ -33,7 +34,19 @@ of-decision-requires : tie.Need-of-decision-requires
 of-decision-requires c κs = search needs
 
 returns : tie.Need-returns
-returns c = c .of-decision .ensures ∙ shown-asked _ _ _ _ _ _ _ _ _ _ _ _ _ (c .before .before .window .ensures) (c .before .request .ensures)
+returns c =
+    let k = c .before .before .before in
+    let a = k .before .before .before .before .before .before .args in (
+      c .of-decision .ensures ∙ shown-asked _ _ _ _ _ _ _ _ _ _ _ _ _ (c .before .before .window .ensures) (c .before .request .ensures),
+      (
+        are-bytes (a .image .now) (k .before .before .before .before .before .shared-slice-known .given),
+        are-bytes (a .id .now) (k .before .before .before .before .shared-slice-known2 .given),
+        are-bytes (a .fay .now) (k .before .before .before .shared-slice-known3 .given),
+        are-bytes (a .terminal .now) (k .before .before .shared-slice-known4 .given),
+        are-bytes (a .resource .now) (k .before .shared-slice-known5 .given),
+        are-bytes (a .revoked .now) (k .shared-slice-known6 .given),
+      ),
+    )
 
 pub cap-request-spec : {M : Type 1} → statement M
 cap-request-spec =

@@ -5,6 +5,7 @@ use Prim.Native.Nat.{ℕ}
 use Rattle.steps.specs.declared.Window.{Window}
 use Rattle.submission.specs.declared.Submission.{Submission}
 use Rattle.submission.specs.Submission.{submitted, afterOf, numberOf}
+use Rattle.cbor_item.proofs.BytesLaws.{are-bytes}
 use borrow.Author.Needs.{needs}
 use Rattle.cap.proofs.cap_submit.Statement.{statement}
 use Rattle.cap.proofs.cap_submit.Tie as tie
@@ -34,7 +35,12 @@ same-length : tie.Need-same-length
 same-length c = search needs
 
 returns : tie.Need-returns
-returns c = let w = c .before .before .before in let k = shown-submitted _ _ _ _ _ _ _ _ (w .before .before .window .ensures) (w .submit .ensures) in (c .of-submission .ensures ∙ k .0, k .1)
+returns c =
+    let w = c .before .before .before in
+    let k = shown-submitted _ _ _ _ _ _ _ _ (w .before .before .window .ensures) (w .submit .ensures) in
+    let b = w .before .before .before in
+    let a = b .before .before .args in
+    ((c .of-submission .ensures ∙ k .0, k .1), (are-bytes (a .image .now) (b .before .slice-known .given), are-bytes (a .descriptor .now) (b .shared-slice-known .given)))
 
 pub cap-submit-spec : {M : Type 1} → statement M
 cap-submit-spec =

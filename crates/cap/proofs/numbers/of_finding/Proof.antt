@@ -1,18 +1,12 @@
 -- `of_finding` meets its contract. Assumes nothing.
 use mathlib.Core.Path.{_≡_, sym, ap, _∙_}
-use Rattle.image.specs.declared.Finding.{Finding}
 use Rattle.image.specs.Check.{numbersOf}
-use Rattle.image.specs.declared.StoredNumbers.{StoredNumbers}
 use borrow.Author.Needs.{needs}
 use Rattle.cap.proofs.numbers.of_finding.Statement.{statement}
 use Rattle.cap.proofs.numbers.of_finding.Tie as tie
 use Rattle.cap.proofs.numbers.of_finding.Reads as reads
 use Rattle.cap.proofs.numbers.of_finding.Lts as lts
 use Rattle.cap.proofs.numbers.stored.Reads as stored-reads
-
--- The numbers of a lookup.
-abbrev shown : Finding → StoredNumbers
-shown v = numbersOf v
 
 enum-known-finding : tie.Need-enum-known-finding
 enum-known-finding c = search needs
@@ -39,16 +33,16 @@ stored-requires-4 : tie.Need-stored-requires-4
 stored-requires-4 c κs = search needs
 
 returns : tie.Need-returns
-returns c = c .stored .ensures ∙ sym (ap shown (c .before .before .finding .given .1))
+returns c = c .stored .ensures ∙ sym (ap numbersOf (c .before .before .finding .given .1))
 
 returns-2 : tie.Need-returns-2
-returns-2 c = c .stored2 .ensures ∙ sym (ap shown (c .before .enum-told .given .1))
+returns-2 c = c .stored2 .ensures ∙ sym (ap numbersOf (c .before .enum-told .given .1))
 
 returns-3 : tie.Need-returns-3
-returns-3 c = c .stored3 .ensures ∙ sym (ap shown (c .before .enum-told2 .given .1))
+returns-3 c = c .stored3 .ensures ∙ sym (ap numbersOf (c .before .enum-told2 .given .1))
 
 returns-4 : tie.Need-returns-4
-returns-4 c = c .stored4 .ensures ∙ sym (ap shown (c .before .enum-told3 .given .1))
+returns-4 c = c .stored4 .ensures ∙ sym (ap numbersOf (c .before .enum-told3 .given .1))
 
 pub of-finding-spec : {M : Type 1} → statement M
 of-finding-spec =

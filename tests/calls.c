@@ -1,0 +1,482 @@
+/* Each call of include/cap.h with known input: every field of every answer is compared, by its name in the header. The descriptors are made here, by a small
+ * writer that notes where it puts what; the values are all different, so that two fields of the header cannot be exchanged unnoticed. */
+#include "cap.h"
+
+#include <stdio.h>
+#include <string.h>
+
+/* ---- comparing */
+
+static const char *what = "";
+static unsigned compared, different;
+
+static void same(const char *field, uint64_t found, uint64_t expected) {
+    compared++;
+    if (found != expected) {
+        different++;
+        printf("%s: %s is %llu, expected %llu\n", what, field, (unsigned long long)found, (unsigned long long)expected);
+    }
+}
+
+#define SAME(answer, field, expected) same(#field, (answer).field, expected)
+
+/* ---- writing CBOR */
+
+typedef struct bytes {
+    uint8_t at[32768];
+    size_t len;
+} bytes;
+
+static void put(bytes *b, const void *s, size_t n) {
+    memcpy(b->at + b->len, s, n);
+    b->len += n;
+}
+
+static void head(bytes *b, unsigned major, unsigned n) {
+    uint8_t h[5] = {(uint8_t)(major << 5), (uint8_t)(n >> 24), (uint8_t)(n >> 16), (uint8_t)(n >> 8), (uint8_t)n};
+    if (n < 24) {
+        h[0] |= (uint8_t)n;
+        put(b, h, 1);
+    } else if (n < 256) {
+        h[0] |= 24;
+        put(b, h, 1);
+        put(b, h + 4, 1);
+    } else if (n < 65536) {
+        h[0] |= 25;
+        put(b, h, 1);
+        put(b, h + 3, 2);
+    } else {
+        h[0] |= 26;
+        put(b, h, 5);
+    }
+}
+
+/* A string of a major type; where its content starts. */
+static size_t string(bytes *b, unsigned major, const void *s, size_t n) {
+    head(b, major, (unsigned)n);
+    put(b, s, n);
+    return b->len - n;
+}
+
+static size_t text(bytes *b, const char *s) { return string(b, 3, s, strlen(s)); }
+
+/* ---- descriptors */
+
+#define T "terminal:00000000-0000-7000-8000-000000000001"
+#define OTHER_T "terminal:00000000-0000-7000-8000-000000000002"
+#define FAY "fay:01927b34-7e21-7c4d-a89f-1234567890ab"
+#define OTHER_FAY "fay:01927b34-7e21-7c4d-a89f-1234567890ac"
+
+static const char *const modes[] = {"read", "write", "execute", "configure"};
+
+typedef struct grant {
+    const char *modes; /* digits */
+    const char *pattern;
+    unsigned constraints; /* how many pairs; 0: absent */
+} grant;
+
+/* What to write. */
+typedef struct fields {
+    grant grants[4]; /* up to one without a pattern */
+    unsigned pairs;  /* of metadata; 0: absent */
+    const char *grantor;
+    unsigned issued_at, not_before, not_after;
+    uint8_t id;
+    unsigned algorithm, signature_len;
+} fields;
+
+/* Where it was put. */
+typedef struct places {
+    size_t payload, payload_len, id, issuer, grantor, fay, terminal, metadata, key_id, signature;
+    size_t pattern[4], modes[4], constraints[4];
+} places;
+
+/* A map of some pairs. */
+static void pairs(bytes *b, unsigned n) {
+    static const char *const keys[] = {"a", "b", "c", "d"};
+    head(b, 5, n);
+    for (unsigned i = 0; i < n; i++) {
+        text(b, keys[i]);
+        text(b, "value");
+    }
+}
+
+static void put_grant(bytes *b, const grant *g, size_t i, places *at) {
+    head(b, 5, g->constraints != 0 ? 3 : 2);
+    text(b, "modes");
+    at->modes[i] = b->len;
+    head(b, 4, (unsigned)strlen(g->modes));
+    for (const char *m = g->modes; *m != 0; m++) {
+        text(b, modes[*m - '0']);
+    }
+    if (g->constraints != 0) {
+        text(b, "constraints");
+        at->constraints[i] = b->len;
+        pairs(b, g->constraints);
+    }
+    text(b, "resource_pattern");
+    at->pattern[i] = text(b, g->pattern);
+}
+
+static void put_grants(bytes *b, const fields *f, places *at) {
+    unsigned n = 0;
+    while (n < 4 && f->grants[n].pattern != NULL) {
+        n++;
+    }
+    text(b, "grants");
+    head(b, 4, n);
+    for (unsigned i = 0; i < n; i++) {
+        put_grant(b, &f->grants[i], i, at);
+    }
+}
+
+static void put_payload(bytes *b, const fields *f, places *at) {
+    uint8_t id[16];
+    memset(id, f->id, 16);
+    at->payload = b->len;
+    head(b, 5, 8 + (f->pairs != 0) + (f->grantor != NULL));
+    put_grants(b, f, at);
+    if (f->pairs != 0) {
+        text(b, "metadata");
+        at->metadata = b->len;
+        pairs(b, f->pairs);
+    }
+    text(b, "issued_at");
+    head(b, 0, f->issued_at);
+    text(b, "issuer_id");
+    at->issuer = text(b, "university");
+    text(b, "not_after");
+    head(b, 0, f->not_after);
+    if (f->grantor != NULL) {
+        text(b, "grantor_id");
+        at->grantor = text(b, f->grantor);
+    }
+    text(b, "not_before");
+    head(b, 0, f->not_before);
+    text(b, "terminal_id");
+    at->terminal = text(b, T);
+    text(b, "descriptor_id");
+    at->id = string(b, 2, id, 16);
+    text(b, "subject_fay_id");
+    at->fay = text(b, FAY);
+    at->payload_len = b->len - at->payload;
+}
+
+static places make(bytes *b, const fields *f) {
+    static const char *const algorithms[] = {"ed25519", "ecdsa-p256-sha256"};
+    static const uint8_t signature[72] = {0};
+    places at;
+    memset(&at, 0, sizeof at);
+    b->len = 0;
+    head(b, 5, 3);
+    text(b, "payload");
+    put_payload(b, f, &at);
+    text(b, "version");
+    head(b, 0, 1);
+    text(b, "signature");
+    head(b, 5, 3);
+    text(b, "key_id");
+    at.key_id = text(b, "key-1");
+    text(b, "algorithm");
+    text(b, algorithms[f->algorithm]);
+    text(b, "signature_value");
+    at.signature = string(b, 2, signature, f->signature_len);
+    return at;
+}
+
+/* ---- the calls */
+
+static void item(const char *name, const char *s, size_t n, uint64_t place, cap_item expected) {
+    what = name;
+    cap_item i = cap_item_read((const uint8_t *)s, n, place);
+    SAME(i, answer, expected.answer);
+    SAME(i, kind, expected.kind);
+    SAME(i, number, expected.number);
+    SAME(i, content_at, expected.content_at);
+    SAME(i, content_len, expected.content_len);
+    SAME(i, next, expected.next);
+}
+
+static void items(void) {
+    item("item 24", "\x18\x18", 2, 0, (cap_item){.answer = 0, .kind = 0, .number = 24, .content_at = 0, .content_len = 0, .next = 2});
+    item("byte string at 3", "...\x43" "abc.", 8, 3, (cap_item){.answer = 0, .kind = 2, .number = 3, .content_at = 4, .content_len = 3, .next = 7});
+    item("text", "\x62hi", 3, 0, (cap_item){.answer = 0, .kind = 3, .number = 2, .content_at = 1, .content_len = 2, .next = 3});
+    item("array", "\x83", 1, 0, (cap_item){.answer = 0, .kind = 4, .number = 3, .content_at = 0, .content_len = 0, .next = 1});
+    item("map", "\xa2", 1, 0, (cap_item){.answer = 0, .kind = 5, .number = 2, .content_at = 0, .content_len = 0, .next = 1});
+    item("23 in two bytes", "\x18\x17", 2, 0, (cap_item){.answer = 1});
+    item("past the end", "\x17", 1, 1, (cap_item){.answer = 1});
+    item("no bytes", (const char *)CAP_EMPTY, 0, 0, (cap_item){.answer = 1});
+}
+
+static void descriptor(const char *name, const uint8_t *s, size_t n, cap_descriptor expected) {
+    what = name;
+    cap_descriptor d = cap_descriptor_read(s, n);
+    SAME(d, answer, expected.answer);
+    SAME(d, payload_at, expected.payload_at);
+    SAME(d, payload_len, expected.payload_len);
+    SAME(d, issued_at, expected.issued_at);
+    SAME(d, not_before, expected.not_before);
+    SAME(d, not_after, expected.not_after);
+    SAME(d, id_at, expected.id_at);
+    SAME(d, issuer_at, expected.issuer_at);
+    SAME(d, issuer_len, expected.issuer_len);
+    SAME(d, grantor_at, expected.grantor_at);
+    SAME(d, grantor_len, expected.grantor_len);
+    SAME(d, fay_at, expected.fay_at);
+    SAME(d, terminal_at, expected.terminal_at);
+    SAME(d, grants, expected.grants);
+    SAME(d, metadata_at, expected.metadata_at);
+    SAME(d, metadata_pairs, expected.metadata_pairs);
+    SAME(d, constraint_pairs, expected.constraint_pairs);
+    SAME(d, mask, expected.mask);
+    SAME(d, key_id_at, expected.key_id_at);
+    SAME(d, key_id_len, expected.key_id_len);
+    SAME(d, algorithm, expected.algorithm);
+    SAME(d, signature_at, expected.signature_at);
+    SAME(d, signature_len, expected.signature_len);
+}
+
+static void one_grant(const char *name, const uint8_t *s, size_t n, uint64_t index, cap_grant expected) {
+    what = name;
+    cap_grant g = cap_grant_at(s, n, index);
+    SAME(g, found, expected.found);
+    SAME(g, pattern_at, expected.pattern_at);
+    SAME(g, pattern_len, expected.pattern_len);
+    SAME(g, mask, expected.mask);
+    SAME(g, modes_at, expected.modes_at);
+    SAME(g, constraints_at, expected.constraints_at);
+    SAME(g, constraint_pairs, expected.constraint_pairs);
+}
+
+static const fields every_field = {
+    .grants = {{"0", T "/door", 0}, {"31", T "/furnace/*", 4}},
+    .pairs = 3,
+    .grantor = "laboratory-7",
+    .issued_at = 1000,
+    .not_before = 2000,
+    .not_after = 3000,
+    .id = 7,
+    .algorithm = 1,
+    .signature_len = 70,
+};
+
+static void descriptors(void) {
+    static bytes b;
+    fields f = every_field;
+    places at = make(&b, &f);
+    descriptor("a descriptor with every field", b.at, b.len,
+               (cap_descriptor){.answer = 0,
+                                .payload_at = at.payload,
+                                .payload_len = at.payload_len,
+                                .issued_at = 1000,
+                                .not_before = 2000,
+                                .not_after = 3000,
+                                .id_at = at.id,
+                                .issuer_at = at.issuer,
+                                .issuer_len = 10,
+                                .grantor_at = at.grantor,
+                                .grantor_len = 12,
+                                .fay_at = at.fay,
+                                .terminal_at = at.terminal,
+                                .grants = 2,
+                                .metadata_at = at.metadata,
+                                .metadata_pairs = 3,
+                                .constraint_pairs = 4,
+                                .mask = 11,
+                                .key_id_at = at.key_id,
+                                .key_id_len = 5,
+                                .algorithm = 1,
+                                .signature_at = at.signature,
+                                .signature_len = 70});
+    descriptor("a byte short", b.at, b.len - 1, (cap_descriptor){.answer = 1});
+    one_grant("grant 0", b.at, b.len, 0,
+              (cap_grant){.found = 1, .pattern_at = at.pattern[0], .pattern_len = 50, .mask = 1, .modes_at = at.modes[0], .constraints_at = 0, .constraint_pairs = 0});
+    one_grant("grant 1", b.at, b.len, 1,
+              (cap_grant){.found = 1,
+                          .pattern_at = at.pattern[1],
+                          .pattern_len = 55,
+                          .mask = 10,
+                          .modes_at = at.modes[1],
+                          .constraints_at = at.constraints[1],
+                          .constraint_pairs = 4});
+    one_grant("past the last grant", b.at, b.len, 2, (cap_grant){.found = 0});
+    f.not_after = f.not_before + 7776001;
+    make(&b, &f);
+    descriptor("valid for over 90 days", b.at, b.len, (cap_descriptor){.answer = 2});
+}
+
+static void matched(const char *pattern, const char *resource, uint64_t answer, uint64_t yes) {
+    what = pattern;
+    cap_matching m = cap_match((const uint8_t *)pattern, strlen(pattern), (const uint8_t *)resource, strlen(resource));
+    SAME(m, answer, answer);
+    SAME(m, yes, yes);
+}
+
+static void matchings(void) {
+    matched(T "/d/*", T "/d/a", 0, 1);
+    matched(T "/d/*", T "/d/a/b", 0, 0);
+    matched(T "/d/**", T "/d/a/b", 0, 1);
+    matched(T "/cam*", T "/camera", 15, 0);
+    matched(T "/d", "", 15, 0);
+}
+
+/* The descriptor that is stored: read on the door, write and execute on what is below a. */
+static const fields stored = {
+    .grants = {{"0", T "/door", 0}, {"12", T "/a/**", 0}},
+    .issued_at = 1000,
+    .not_before = 2000,
+    .not_after = 3000,
+    .id = 7,
+    .signature_len = 64,
+};
+
+static void found(const char *name, const uint8_t *image, size_t n, size_t id_len, uint8_t id, cap_stored expected) {
+    uint8_t key[17];
+    memset(key, id, 17);
+    what = name;
+    cap_stored s = cap_image_find(image, n, key, id_len);
+    SAME(s, answer, expected.answer);
+    SAME(s, body_at, expected.body_at);
+    SAME(s, body_len, expected.body_len);
+}
+
+static void submitted(const char *name, uint8_t *image, size_t n, const bytes *b, uint64_t now, uint64_t verdict, uint64_t from, uint64_t has, uint64_t until,
+                      uint64_t expected) {
+    what = name;
+    same("answer", cap_submit(image, n, b->at, b->len, now, verdict, from, has, until), expected);
+}
+
+static void images(void) {
+    static uint8_t image[4096];
+    static bytes b, c;
+    fields f = stored;
+    what = "a new image";
+    same("answer of 7 bytes", cap_image_new(image, 7), 17);
+    same("answer of 8 bytes", cap_image_new(image, 8), 0);
+    same("its bytes", memcmp(image, "\0\1\0\1\0\0\0\0", 8) == 0, 1);
+    make(&b, &f);
+    found("an id of 17 bytes", image, sizeof image, 17, 7, (cap_stored){.answer = 15});
+    found("bytes that are no image", b.at, b.len, 16, 7, (cap_stored){.answer = 16});
+    found("an id that is not held", image, sizeof image, 16, 7, (cap_stored){.answer = 7});
+    submitted("a verdict of 3", image, sizeof image, &b, 2500, 3, 0, 0, 0, 15);
+    submitted("no image", b.at, b.len, &c, 2500, 0, 0, 0, 0, 16);
+    submitted("no bytes", image, sizeof image, &c, 2500, 0, 0, 0, 0, 1);
+    submitted("a descriptor", image, sizeof image, &b, 2500, 0, 0, 0, 0, 0);
+    found("the body that was stored", image, sizeof image, 16, 7, (cap_stored){.answer = 0, .body_at = 40, .body_len = b.len});
+    submitted("the same bytes", image, sizeof image, &b, 2500, 0, 0, 0, 0, 0);
+    f.not_after = 3001;
+    make(&b, &f);
+    submitted("other bytes under the id", image, sizeof image, &b, 2500, 0, 0, 0, 0, 5);
+    f.id = 8;
+    make(&b, &f);
+    submitted("no such key", image, sizeof image, &b, 2500, 2, 0, 0, 0, 3);
+    submitted("before the key's window", image, sizeof image, &b, 2500, 0, 2501, 0, 0, 14);
+    submitted("after the key's window", image, sizeof image, &b, 2500, 0, 0, 9, 2499, 14);
+    submitted("at the end of the key's window, bad signature", image, sizeof image, &b, 2500, 1, 0, 9, 2500, 4);
+    submitted("no room", image, 40 + b.len + 31 + b.len, &b, 2500, 0, 0, 0, 0, 6);
+    f.not_before = 90000;
+    f.not_after = 90001;
+    make(&b, &f);
+    submitted("a day and a second ahead", image, sizeof image, &b, 3599, 0, 0, 0, 0, 2);
+    submitted("a day ahead", image, sizeof image, &b, 3600, 0, 0, 0, 0, 0);
+}
+
+/* A request: what differs from one that is granted. */
+typedef struct asked {
+    const char *name;
+    uint8_t id;
+    const char *fay, *terminal, *resource;
+    uint64_t mode, now;
+    size_t revoked_len;
+    uint64_t verdict, valid_from, has_valid_until, valid_until;
+    cap_decision expected;
+} asked;
+
+static void decided(const uint8_t *image, size_t n, const asked *q) {
+    uint8_t id[16], revoked[32] = {0};
+    memset(id, q->id, 16);
+    memset(revoked + 16, 7, 16);
+    what = q->name;
+    cap_decision d = cap_request(image, n, id, 16, (const uint8_t *)q->fay, strlen(q->fay), (const uint8_t *)q->terminal, strlen(q->terminal),
+                                 (const uint8_t *)q->resource, strlen(q->resource), q->mode, q->now, 77, revoked, q->revoked_len, q->verdict, q->valid_from,
+                                 q->has_valid_until, q->valid_until);
+    SAME(d, answer, q->expected.answer);
+    SAME(d, grant, q->expected.grant);
+    SAME(d, mask, q->expected.mask);
+    SAME(d, session_end, q->expected.session_end);
+}
+
+static void requests(void) {
+    static uint8_t image[4096];
+    static bytes b;
+    make(&b, &stored);
+    cap_image_new(image, sizeof image);
+    submitted("stored for requests", image, sizeof image, &b, 2500, 0, 0, 0, 0, 0);
+    const asked all[] = {
+        {"granted", 7, FAY, T, T "/a/b", 2, 2500, 16, 0, 2500, 0, 0, {.answer = 0, .grant = 1, .mask = 6, .session_end = 2577}},
+        {"granted up to not_after", 7, FAY, T, T "/door", 0, 2999, 0, 0, 0, 1, 2999, {.answer = 0, .grant = 0, .mask = 1, .session_end = 3000}},
+        {"mode 4", 7, FAY, T, T "/a/b", 4, 2500, 0, 0, 0, 0, 0, {.answer = 15}},
+        {"a list of 17 bytes", 7, FAY, T, T "/a/b", 2, 2500, 17, 0, 0, 0, 0, {.answer = 15}},
+        {"not held", 8, FAY, T, T "/a/b", 2, 2500, 0, 0, 0, 0, 0, {.answer = 7}},
+        {"revoked", 7, FAY, T, T "/a/b", 2, 3000, 32, 0, 0, 0, 0, {.answer = 8}},
+        {"not yet valid", 7, FAY, T, T "/a/b", 2, 1999, 0, 0, 0, 0, 0, {.answer = 9}},
+        {"expired", 7, OTHER_FAY, T, T "/a/b", 2, 3000, 0, 0, 0, 0, 0, {.answer = 10}},
+        {"another subject", 7, OTHER_FAY, OTHER_T, T "/a/b", 2, 2500, 0, 0, 0, 0, 0, {.answer = 11}},
+        {"another terminal", 7, FAY, OTHER_T, T "/b", 2, 2500, 0, 0, 0, 0, 0, {.answer = 12}},
+        {"no grant of the mode", 7, FAY, T, T "/a/b", 3, 2500, 0, 2, 0, 0, 0, {.answer = 13}},
+        {"no such key", 7, FAY, T, T "/a/b", 2, 2500, 0, 2, 0, 0, 0, {.answer = 14}},
+        {"the key is over", 7, FAY, T, T "/a/b", 2, 2500, 0, 1, 0, 1, 2499, {.answer = 14}},
+        {"bad signature", 7, FAY, T, T "/a/b", 2, 2500, 0, 1, 0, 1, 2500, {.answer = 4}},
+    };
+    for (size_t i = 0; i < sizeof all / sizeof all[0]; i++) {
+        decided(image, sizeof image, &all[i]);
+    }
+    asked q = all[0];
+    q.name = "bad image";
+    q.expected = (cap_decision){.answer = 16};
+    decided(image, 8 + 31, &q);
+}
+
+static void narrowed(const char *name, const bytes *parent, const bytes *child, cap_narrowing expected) {
+    what = name;
+    cap_narrowing n = cap_narrow(parent->at, parent->len, child->at, child->len);
+    SAME(n, answer, expected.answer);
+    SAME(n, grant, expected.grant);
+    SAME(n, mode, expected.mode);
+    SAME(n, levels, expected.levels);
+}
+
+static void narrowings(void) {
+    static bytes parent, child, none;
+    fields p = stored, c = stored;
+    p.grants[0] = (grant){"012", T "/a/*", 0};
+    p.grants[1] = (grant){"0312", T "/a/*/*", 0};
+    c.grants[0] = (grant){"02", T "/a/b", 0};
+    c.grants[1] = (grant){"2", T "/a/**", 0};
+    make(&parent, &p);
+    make(&child, &c);
+    narrowed("a child that escapes", &parent, &child, (cap_narrowing){.answer = 20, .grant = 1, .mode = 2, .levels = 3});
+    narrowed("the parent under itself", &parent, &parent, (cap_narrowing){.answer = 0});
+    narrowed("no parent", &none, &child, (cap_narrowing){.answer = 21});
+    narrowed("no child", &parent, &none, (cap_narrowing){.answer = 1});
+    c.not_after = 3001;
+    make(&child, &c);
+    narrowed("a child that lasts longer", &parent, &child, (cap_narrowing){.answer = 18});
+    c.grants[0].constraints = 1;
+    make(&child, &c);
+    narrowed("a child with a constraint", &parent, &child, (cap_narrowing){.answer = 19});
+    c.not_after = c.not_before + 7776001;
+    make(&child, &c);
+    narrowed("a child valid for over 90 days", &parent, &child, (cap_narrowing){.answer = 2});
+}
+
+int main(void) {
+    items();
+    descriptors();
+    matchings();
+    images();
+    requests();
+    narrowings();
+    printf("calls: %u values of the header's calls compared, %u differ\n", compared, different);
+    return different != 0;
+}

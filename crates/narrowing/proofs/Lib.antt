@@ -3,8 +3,11 @@ pub mod CoveredLaws
 pub mod SearchLaws
 pub mod RuleLaws
 pub mod ReadLaws
+pub mod NumberLaws
+pub mod EscapeLaws
 pub mod NarrowLaws
 pub mod Promises
+pub mod Laws
 pub mod Cases
 pub mod RangeLaws
 pub mod NotedLaws

@@ -1,28 +1,40 @@
--- The promises of specs/Promises.antt, proved: each line names the law that it is. Assumes nothing.
-use Rattle.narrowing.specs.Promises.{NoParentExactly, ChildExactly, ConstrainedExactly, AcceptedExactly, PeriodExactly, EscapeExactly, EscapeAnswered, ChainInside}
-use Rattle.narrowing.proofs.NarrowLaws.{narrow-accepted, narrow-period, narrow-escape, narrow-answered, narrow-chain}
+-- The promises of specs/Promises.antt, proved: each is a law of the answers, told by their numbers. Assumes nothing.
+use Prim.Native.Nat.{ℕ}
+use Rattle.descriptor.specs.Reader.{Seen, read, readOf}
+use Rattle.narrowing.specs.declared.Narrowing.the-variants.{Accepted, NoParent, Structure, Validity, Constrained, Period, NotCovered}
+use Rattle.narrowing.specs.Narrow.{narrow}
+use Rattle.narrowing.specs.Promises.{NoParentExactly, ChildExactly, ConstrainedExactly, PeriodExactly, EscapeExactly, AcceptedExactly, one, more, ChainInside}
+use Rattle.narrowing.proofs.NumberLaws.{numbers-tell, by-numbers, reads-zero, reads-one, reads-two}
 use Rattle.narrowing.proofs.OrderLaws.{order-parent, order-child, order-constrained}
+use Rattle.narrowing.proofs.NarrowLaws.{narrow-period, narrow-escape, narrow-accepted, accepted-reads}
 
 pub no-parent-exactly : NoParentExactly
-no-parent-exactly = order-parent
+no-parent-exactly s t =
+    let r = order-parent s t in
+    by-numbers (narrow s t) NoParent (λ h z. let v = reads-zero s .0 z in r .0 h (v .0) (v .1), λ f. r .1 (λ v e. f (reads-zero s .1 (v, e))))
 
 pub child-exactly : ChildExactly
-child-exactly = order-child
+child-exactly s t z =
+    let v = reads-zero s .0 z in
+    let r = order-child s t (v .0) (v .1) in (
+      by-numbers (narrow s t) Structure (λ h. reads-one t .1 (r .0 .0 h), λ e. r .0 .1 (reads-one t .0 e)),
+      by-numbers (narrow s t) Validity (λ h. reads-two t .1 (r .1 .0 h), λ e. r .1 .1 (reads-two t .0 e)),
+    )
 
 pub constrained-exactly : ConstrainedExactly
-constrained-exactly = order-constrained
-
-pub accepted-exactly : AcceptedExactly
-accepted-exactly = narrow-accepted
+constrained-exactly s t p c bs bt ap ac es et = by-numbers (narrow s t) Constrained (order-constrained s t p c bs bt ap ac es et)
 
 pub period-exactly : PeriodExactly
-period-exactly = narrow-period
+period-exactly s t p c a b = by-numbers (narrow s t) Period (narrow-period s t p c a b)
 
 pub escape-exactly : EscapeExactly
-escape-exactly = narrow-escape
+escape-exactly s t p c i m k a b = by-numbers (narrow s t) (NotCovered i m k) (narrow-escape s t p c i m k a b)
 
-pub escape-answered : EscapeAnswered
-escape-answered = narrow-answered
+pub accepted-exactly : AcceptedExactly
+accepted-exactly s t p c a b = by-numbers (narrow s t) Accepted (narrow-accepted s t p c a b)
 
 pub chain-inside : ChainInside
-chain-inside = narrow-chain
+chain-inside s t p c a b (one e) = accepted-exactly s t p c a b .0 e
+chain-inside s t p c a b (more {t = u} v e k) =
+    let d = accepted-reads s u p a v (numbers-tell (narrow s u) Accepted .0 e) in
+    λ moment x m j h. accepted-exactly s u p (d .0) a (d .1) .0 e moment x m j (chain-inside u t (d .0) c (d .1) b k moment x m j h)

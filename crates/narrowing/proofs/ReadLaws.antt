@@ -22,7 +22,8 @@ use Rattle.descriptor_laws.proofs.Promises.{grants-walk}
 use Rattle.descriptor_laws.proofs.grants.WalkLaws.{dropped, count-of, pairs-of}
 use Rattle.narrowing.specs.Escape.{Rule}
 use Rattle.narrowing.specs.Narrow.{ruleOf, rulesAt, rulesIn, unconstrained}
-use Rattle.narrowing.specs.Promises.{NoPairs, rulesOf}
+use Rattle.narrowing.specs.Laws.{rulesOf}
+use Rattle.narrowing.specs.Promises.{NoPairs}
 use Rattle.narrowing.proofs.RuleLaws.{ruleFor}
 
 -- ---- rules

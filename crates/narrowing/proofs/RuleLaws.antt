@@ -18,7 +18,7 @@ use Rattle.descriptor.specs.View.{maskOf}
 use Rattle.descriptor_laws.proofs.values.ModeLaws.{mask-exact}
 use Rattle.narrowing.specs.Meaning.{grantAdmits, anyAdmits, Escapes}
 use Rattle.narrowing.specs.Escape.{Rule, ruleAt}
-use Rattle.narrowing.specs.Promises.{rulesOf}
+use Rattle.narrowing.specs.Laws.{rulesOf}
 use Rattle.narrowing.proofs.CoveredLaws.{or-left, or-right, ruleAdmits, rulesAdmit}
 use Rattle.narrowing.proofs.SearchLaws.{RuleEscape, ArePatterns}
 

@@ -4,4 +4,5 @@ pub mod Range
 pub mod Scan
 pub mod Narrow
 pub mod Promises
+pub mod Laws
 pub mod Cases

@@ -1,26 +1,54 @@
--- What is promised of narrowing, and nothing else: demand 3. Each statement `NameOfIt` is proved in proofs/Promises.antt as `name-of-it`.
+-- What is promised of narrowing, and nothing else: demand 3, in document 01's order and numbers. Each statement `NameOfIt` is proved in proofs/Promises.antt as
+-- `name-of-it`.
 use mathlib.Core.Path.{_≡_}
 use mathlib.Core.Logic.{_↔_}
 use mathlib.Core.List.{List, [], _∷_}
 use mathlib.Core.Option.{none}
-use Prim.Native.Nat.{ℕ, zero, suc, _+_, _≤_, _<_}
+use Prim.Native.Nat.{ℕ, _≤_, _<_}
 use lib.ListN.{length, getD}
 use Rattle.cbor_item.specs.Bytes.{AreBytes}
 use Rattle.resource.specs.Pattern.{Path, IsPath}
-use Rattle.resource.specs.Text.{patternOf}
 use Rattle.descriptor.specs.Model.{Grant, Descriptor, pairCount, encode}
 use Rattle.descriptor.specs.Allowed.{Allowed}
-use Rattle.descriptor.specs.View.{maskOf}
-use Rattle.descriptor.specs.Reader.{Seen, read, structure, validity, readOf}
-use Rattle.narrowing.specs.declared.Narrowing.the-variants.{Accepted, NoParent, Structure, Validity, Constrained, Period, NotCovered}
+use Rattle.descriptor.specs.Reader.{readOf}
+use Rattle.descriptor.specs.Answer.{readingOf}
+use Rattle.descriptor.specs.Numbers.{numbersOf as readNumbers}
+use Rattle.narrowing.specs.declared.NarrowingNumbers.{NarrowingNumbers}
 use Rattle.narrowing.specs.Meaning.{Admits, Escapes, takenBy}
-use Rattle.narrowing.specs.Escape.{Rule, witnessPath}
-use Rattle.narrowing.specs.Narrow.{narrow}
+use Rattle.narrowing.specs.Narrow.{narrow, numbersOf}
+
+-- an answer whose other numbers are 0
+abbrev pub answerOnly : ℕ → NarrowingNumbers
+answerOnly n = record { answer = n; grant = 0; mode = 0; levels = 0 }
+
+-- the answer of reading a byte string
+abbrev pub readAnswer : List ℕ → ℕ
+readAnswer s = readNumbers (readingOf (readOf s)) .answer
+
+-- ---- 21, 1 and 2: the parent, then the child
+
+-- 21 exactly when the parent doesn't read
+abbrev pub NoParentExactly : Type 0
+NoParentExactly = (s t : List ℕ) → (numbersOf (narrow s t) ≡ answerOnly 21) ↔ (readAnswer s ≡ 0 → ⊥)
+
+-- under a parent that reads, 1 and 2 exactly when reading the child answers so
+abbrev pub ChildExactly : Type 0
+ChildExactly =
+    (s t : List ℕ) → readAnswer s ≡ 0
+    → ((numbersOf (narrow s t) ≡ answerOnly 1) ↔ (readAnswer t ≡ 1)) × ((numbersOf (narrow s t) ≡ answerOnly 2) ↔ (readAnswer t ≡ 2))
+
+-- ---- 19: a constraint pair
 
 -- no grant has a constraint pair
 abbrev pub NoPairs : List Grant → Type 0
 NoPairs [] = Unit {0}
 NoPairs (g ∷ gs) = (pairCount (g .constraints) ≡ 0) × NoPairs gs
+
+-- where both read, 19 exactly when a constraint pair stands in either
+abbrev pub ConstrainedExactly : Type 0
+ConstrainedExactly =
+    (s t : List ℕ) (parent child : Descriptor) → AreBytes s → AreBytes t → Allowed parent → Allowed child → s ≡ encode parent → t ≡ encode child
+    → (numbersOf (narrow s t) ≡ answerOnly 19) ↔ (NoPairs (parent .payload .grants) × NoPairs (child .payload .grants) → ⊥)
 
 -- a byte string that reads, as the descriptor d, with no constraint pair
 pub record Reads (s : List ℕ) (d : Descriptor) : Type 0 where
@@ -29,29 +57,7 @@ pub record Reads (s : List ℕ) (d : Descriptor) : Type 0 where
   pub encoded : s ≡ encode d
   pub plain : NoPairs (d .payload .grants)
 
--- 21 exactly when the parent doesn't read
-abbrev pub NoParentExactly : Type 0
-NoParentExactly = (s t : List ℕ) → (narrow s t ≡ NoParent) ↔ ((v : Seen) → readOf s ≡ read v → ⊥)
-
--- under a parent that reads, 1 and 2 exactly when reading the child answers so
-abbrev pub ChildExactly : Type 0
-ChildExactly =
-    (s t : List ℕ) (v : Seen) → readOf s ≡ read v
-    → ((narrow s t ≡ Structure) ↔ (readOf t ≡ structure)) × ((narrow s t ≡ Validity) ↔ (readOf t ≡ validity))
-
--- where both read, 19 exactly when a constraint pair stands in either
-abbrev pub ConstrainedExactly : Type 0
-ConstrainedExactly =
-    (s t : List ℕ) (parent child : Descriptor) → AreBytes s → AreBytes t → Allowed parent → Allowed child → s ≡ encode parent → t ≡ encode child
-    → (narrow s t ≡ Constrained) ↔ (NoPairs (parent .payload .grants) × NoPairs (child .payload .grants) → ⊥)
-
--- every moment, path and mode that the child admits together the parent admits together
-abbrev pub Inside : Descriptor → Descriptor → Type 0
-Inside parent child = (moment : ℕ) (x : Path) (m : ℕ) → IsPath x → Admits child moment x m → Admits parent moment x m
-
--- accepted exactly when the child is inside the parent
-abbrev pub AcceptedExactly : Type 0
-AcceptedExactly = (s t : List ℕ) (parent child : Descriptor) → Reads s parent → Reads t child → (narrow s t ≡ Accepted) ↔ Inside parent child
+-- ---- 18: the period
 
 -- the child's period lies within the parent's
 abbrev pub PeriodInside : Descriptor → Descriptor → Type 0
@@ -59,7 +65,10 @@ PeriodInside parent child = (parent .payload .notBefore ≤ child .payload .notB
 
 -- 18 exactly when the child's period does not lie within the parent's
 abbrev pub PeriodExactly : Type 0
-PeriodExactly = (s t : List ℕ) (parent child : Descriptor) → Reads s parent → Reads t child → (narrow s t ≡ Period) ↔ (PeriodInside parent child → ⊥)
+PeriodExactly =
+    (s t : List ℕ) (parent child : Descriptor) → Reads s parent → Reads t child → (numbersOf (narrow s t) ≡ answerOnly 18) ↔ (PeriodInside parent child → ⊥)
+
+-- ---- 20: a path that escapes
 
 -- the grant at a place
 abbrev pub grantOf : Descriptor → ℕ → Grant
@@ -69,45 +78,37 @@ grantOf d i = getD (d .payload .grants) i (record { modes = []; constraints = no
 abbrev pub NoEscape : Descriptor → Grant → ℕ → Type 0
 NoEscape parent g m = (x : Path) → IsPath x → Escapes (parent .payload .grants) g m x → ⊥
 
--- the parent's grants as rules
-abbrev pub rulesOf : List Grant → List Rule
-rulesOf [] = []
-rulesOf (g ∷ gs) = record { mask = maskOf (g .modes); pattern = patternOf (g .pattern) } ∷ rulesOf gs
-
--- the witness path of the child's grant with k names for its "**"
-abbrev pub witnessOf : Descriptor → Grant → ℕ → Path
-witnessOf parent g k = witnessPath (rulesOf (parent .payload .grants)) (patternOf (g .pattern)) k
-
--- the witness path is a path, it escapes by the grant in the mode, and the grant's "**" takes k names in it
-pub record Attained (parent : Descriptor) (g : Grant) (m k : ℕ) : Type 0 where
-  pub path : IsPath (witnessOf parent g k)
-  pub escapes : Escapes (parent .payload .grants) g m (witnessOf parent g k)
-  pub takes : takenBy g (witnessOf parent g k) ≡ k
-
 -- i is the place of the child's first grant by which some path escapes in some mode, m the lowest mode in which one does by that grant, and k the fewest
--- names that the grant's "**" takes in any path that escapes by it in that mode: attained, and none fewer
+-- names that the grant's "**" takes in any path that escapes by it in that mode: some path has that many, and none has fewer
 pub record FirstEscape (parent child : Descriptor) (i m k : ℕ) : Type 0 where
   pub place : i < length (child .payload .grants)
   pub mode : m < 4
   pub first : (j : ℕ) → j < i → (n : ℕ) → NoEscape parent (grantOf child j) n
   pub lowest : (n : ℕ) → n < m → NoEscape parent (grantOf child i) n
-  pub attained : Attained parent (grantOf child i) m k
+  pub attained : (x : Path) × IsPath x × Escapes (parent .payload .grants) (grantOf child i) m x × (takenBy (grantOf child i) x ≡ k)
   pub fewest : (x : Path) → IsPath x → Escapes (parent .payload .grants) (grantOf child i) m x → k ≤ takenBy (grantOf child i) x
 
--- an answer 20 has the numbers of the first escape
+-- 20 with grant place, mode and levels exactly when the period lies within and these are the numbers of the first escape
 abbrev pub EscapeExactly : Type 0
-EscapeExactly = (s t : List ℕ) (parent child : Descriptor) (i m k : ℕ) → Reads s parent → Reads t child → narrow s t ≡ NotCovered i m k → FirstEscape parent child i m k
+EscapeExactly =
+    (s t : List ℕ) (parent child : Descriptor) (i m k : ℕ) → Reads s parent → Reads t child
+    → (numbersOf (narrow s t) ≡ record { answer = 20; grant = i; mode = m; levels = k }) ↔ (PeriodInside parent child × FirstEscape parent child i m k)
 
--- a child whose period lies within the parent's and that is not accepted is answered 20
-abbrev pub EscapeAnswered : Type 0
-EscapeAnswered =
-    (s t : List ℕ) (parent child : Descriptor) → Reads s parent → Reads t child → PeriodInside parent child → (narrow s t ≡ Accepted → ⊥)
-    → (i : ℕ) × (m : ℕ) × (k : ℕ) × (narrow s t ≡ NotCovered i m k)
+-- ---- 0: accepted
+
+-- every moment, path and mode that the child admits together the parent admits together
+abbrev pub Inside : Descriptor → Descriptor → Type 0
+Inside parent child = (moment : ℕ) (x : Path) (m : ℕ) → IsPath x → Admits child moment x m → Admits parent moment x m
+
+-- 0 exactly when the child is inside the parent
+abbrev pub AcceptedExactly : Type 0
+AcceptedExactly =
+    (s t : List ℕ) (parent child : Descriptor) → Reads s parent → Reads t child → (numbersOf (narrow s t) ≡ answerOnly 0) ↔ Inside parent child
 
 -- a chain of acceptances from the bytes s to the bytes t
 pub data Chain : List ℕ → List ℕ → Type 0 where
-  one : {s t : List ℕ} → narrow s t ≡ Accepted → Chain s t
-  more : {s t u : List ℕ} → AreBytes t → narrow s t ≡ Accepted → Chain t u → Chain s u
+  one : {s t : List ℕ} → numbersOf (narrow s t) ≡ answerOnly 0 → Chain s t
+  more : {s t u : List ℕ} → AreBytes t → numbersOf (narrow s t) ≡ answerOnly 0 → Chain t u → Chain s u
 
 -- down a chain of acceptances the last admits nothing that the first doesn't
 abbrev pub ChainInside : Type 0

@@ -6,7 +6,7 @@ use mathlib.Core.Option.{Option, none, some}
 use Prim.Native.Nat.{ℕ, _<_}
 use native.Mathlib.Omega.{arith}
 use lib.ListN.{length}
-use Rattle.descriptor.specs.Model.{Grant, Descriptor}
+use Rattle.descriptor.specs.Model.{Descriptor}
 use Rattle.descriptor.specs.Allowed.{GrantOk, All, Allowed}
 use Rattle.descriptor_laws.proofs.places.SeenLaws.{all-get}
 use Rattle.narrowing.specs.declared.Narrowing.{Narrowing}

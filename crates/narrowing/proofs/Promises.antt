@@ -1,6 +1,4 @@
 -- The promises of specs/Promises.antt, proved: each is a law of the answers, told by their numbers. Assumes nothing.
-use Prim.Native.Nat.{ℕ}
-use Rattle.descriptor.specs.Reader.{Seen, read, readOf}
 use Rattle.narrowing.specs.declared.Narrowing.the-variants.{Accepted, NoParent, Structure, Validity, Constrained, Period, NotCovered}
 use Rattle.narrowing.specs.Narrow.{narrow}
 use Rattle.narrowing.specs.Promises.{NoParentExactly, ChildExactly, ConstrainedExactly, PeriodExactly, EscapeExactly, AcceptedExactly, one, more, ChainInside}

@@ -10,13 +10,14 @@ fn within(n: usize, s: &[u8]) -> usize
     if n <= s.len() { n } else { s.len() }
 }
 
-// Writes the first n bytes of `out`.
-fn write(out: &[u8], n: usize) {
+// Writes the first n bytes of `out`; false where a write takes nothing or fails.
+fn write(out: &[u8], n: usize) -> bool {
     let size = within(n, out);
-    io::write_all(1, &out[..size]);
+    io::write_all(1, &out[..size])
 }
 
-// Reads into the buffer from the place `kept` on, and answers how many bytes the buffer then has; `kept` at the end of the input.
+// Reads into the buffer from the place `kept` on, and answers how many bytes the buffer then has; `kept` at the end of the input, and where
+// the read fails.
 fn read_more(buffer: &mut [u8], kept: usize) -> usize {
     if buffer.len() < kept {
         return kept;
@@ -32,13 +33,16 @@ fn finish(buffer: &[u8], kept: usize, long: bool, out: &mut [u8]) {
             written,
             kept: _,
             long: _,
-        } => write(out, written),
+        } => {
+            write(out, written);
+        }
         Progress::NoRoom => return,
     }
 }
 
 // Answers the lines of standard input on standard output, block by block. `buffer` has room for a line's 600 bytes and more, and `out` for
-// four bytes for each of `buffer`; with less room it stops at the first block that does not fit.
+// four bytes for each of `buffer`; with less room it stops at the first block that does not fit. It stops at a write that fails, and reads
+// no more.
 pub fn answer_input(buffer: &mut [u8], out: &mut [u8]) {
     let mut kept: usize = 0;
     let mut long = false;
@@ -57,7 +61,9 @@ pub fn answer_input(buffer: &mut [u8], out: &mut [u8]) {
                 kept: k,
                 long: l,
             } => {
-                write(out, written);
+                if !write(out, written) {
+                    return;
+                }
                 kept = k;
                 long = l;
             }

@@ -13,8 +13,8 @@ use Rattle.resource.proofs.Flags.{by-cond, and-left, and-right, and-both}
 use Rattle.match_lines.specs.declared.Verdict.{Verdict}
 use Rattle.match_lines.specs.declared.Verdict.the-variants.{IsYes, IsNo, IsBad}
 use Rattle.match_lines.specs.Lines.{longestLine, word, verdict, lastLine, answersFrom}
-use Rattle.match_lines.specs.Block.{Fed, verdictIf, keptOf, after, fedFrom, fed, ended, writtenFrom}
-use Rattle.match_lines.specs.Promises.{concat}
+use Rattle.match_lines.specs.Block.{Fed, verdictIf, keptOf, after, fedFrom, fed, ended}
+use Rattle.match_lines.specs.Promises.{concat, writtenFrom}
 
 -- ---- the first byte of a block
 
@@ -34,11 +34,11 @@ unfolding fedFrom
 fed-byte long begun b bs e = rw (e, fedFrom)
 
 -- the same of the answers to an input
-answers-newline : (begun : List ℕ) (b : ℕ) (bs : List ℕ) → eqb b 10 ≡ true → answersFrom begun (b ∷ bs) ≡ word (verdict begun) ++ answersFrom [] bs
+pub answers-newline : (begun : List ℕ) (b : ℕ) (bs : List ℕ) → eqb b 10 ≡ true → answersFrom begun (b ∷ bs) ≡ word (verdict begun) ++ answersFrom [] bs
 unfolding answersFrom
 answers-newline begun b bs e = rw (e, answersFrom)
 
-answers-byte : (begun : List ℕ) (b : ℕ) (bs : List ℕ) → eqb b 10 ≡ false → answersFrom begun (b ∷ bs) ≡ answersFrom (begun ++ (b ∷ [])) bs
+pub answers-byte : (begun : List ℕ) (b : ℕ) (bs : List ℕ) → eqb b 10 ≡ false → answersFrom begun (b ∷ bs) ≡ answersFrom (begun ++ (b ∷ [])) bs
 unfolding answersFrom
 answers-byte begun b bs e = rw (e, answersFrom)
 

@@ -305,7 +305,7 @@ empty-end [] h = refl
 empty-end (b ∷ bs) h = absurd (omega arith)
 
 -- a last line without newline is answered
-begun-end : (s : List ℕ) → 0 < length s → lastLine s ≡ word (verdict s)
+pub begun-end : (s : List ℕ) → 0 < length s → lastLine s ≡ word (verdict s)
 begun-end [] h = absurd (omega arith)
 begun-end (b ∷ bs) h = refl
 

@@ -1,16 +1,70 @@
 -- The promises of specs/Promises.antt, proved: each line names the law that it is. Assumes nothing.
+use mathlib.Core.Path.{refl, ap}
+use mathlib.Core.Bool.{true, false}
 use mathlib.Core.List.{[]}
-use Rattle.match_lines.specs.Promises.{BlocksAgree, LongBad, KeptLast, OutFits}
+use Rattle.resource.specs.Identifier.{isHex, hasForm, uuidForm, terminalForm, isTerminal}
+use Rattle.resource.specs.Level.{same, isNameChar, allNameChars, levels, levelsOk}
+use Rattle.resource.specs.Text.{isResource, isPattern, resourceOk, patternOk, levelsOf, pathOf, patternOf, matching}
+use Rattle.match_lines.specs.Lines.{word, beforeSpace, verdictAt, verdict, answersFrom}
+use Rattle.match_lines.specs.Promises.{YesExactly, NoExactly, BadElse, LongBad, EachLine, LastLine, EmptyInput, WholeCase, BlocksAgree, KeptLast, OutFits, BlockWritten, BlockKept, BlockRefused, EndWritten, EndRefused}
 use Rattle.match_lines.proofs.BlockLaws.{blocks-answers, bad-long, kept-end, out-four}
+use Rattle.match_lines.proofs.VerdictLaws as verdicts
+use Rattle.match_lines.proofs.InputLaws as inputs
+
+-- ---- a line
+
+pub yes-exactly : YesExactly
+yes-exactly = verdicts.word-exactly true
+
+pub no-exactly : NoExactly
+no-exactly = verdicts.word-exactly false
+
+pub bad-else : BadElse
+bad-else = verdicts.bad-exactly
+
+pub long-bad : LongBad
+long-bad line h = ap word (bad-long line h)
+
+-- ---- an input
+
+pub each-line : EachLine
+each-line = inputs.each-answered
+
+pub last-line : LastLine
+last-line = inputs.last-answered
+
+pub empty-input : EmptyInput
+unfolding answersFrom
+empty-input = refl
+
+pub whole-case : WholeCase
+unfolding isHex hasForm uuidForm terminalForm isTerminal same isNameChar allNameChars levels levelsOk isResource isPattern resourceOk patternOk levelsOf pathOf patternOf matching beforeSpace verdictAt verdict answersFrom
+whole-case = refl
+
+-- ---- an input in blocks
 
 pub blocks-agree : BlocksAgree
 blocks-agree = blocks-answers
-
-pub long-bad : LongBad
-long-bad = bad-long
 
 pub kept-last : KeptLast
 kept-last = kept-end
 
 pub out-fits : OutFits
 out-fits long s = out-four long [] s
+
+-- ---- an output and a buffer
+
+pub block-written : BlockWritten
+block-written = inputs.block-written
+
+pub block-kept : BlockKept
+block-kept = inputs.block-kept
+
+pub block-refused : BlockRefused
+block-refused = inputs.block-refused
+
+pub end-written : EndWritten
+end-written = inputs.end-written
+
+pub end-refused : EndRefused
+end-refused = inputs.end-refused

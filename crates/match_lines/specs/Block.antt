@@ -1,5 +1,5 @@
 -- The input as it comes, in blocks of any length. Between two blocks the bytes of a line that has begun are kept, or, once it has more than 600, only that it is
--- too long.
+-- too long. A reader of the promises does not need this page: they say what is written for the blocks of an input.
 use mathlib.Core.Bool.{Bool, true, false, cond, _||_}
 use mathlib.Core.List.{List, [], _∷_, _++_}
 use Prim.Native.Nat.{ℕ, suc, _+_, _-_, _/_}
@@ -43,11 +43,6 @@ fed long s = fedFrom long [] s
 abbrev pub ended : Bool → List ℕ → List ℕ
 ended true kept = word IsBad
 ended false kept = lastLine kept
-
--- what is written for the blocks of an input, one after the other
-abbrev pub writtenFrom : Bool → List ℕ → List (List ℕ) → List ℕ
-writtenFrom long kept [] = ended long kept
-writtenFrom long kept (b ∷ bs) = let f = fed long (kept ++ b) in f .out ++ writtenFrom (f .long) (f .kept) bs
 
 -- ---- what the code answers
 

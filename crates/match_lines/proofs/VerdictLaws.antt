@@ -1,0 +1,271 @@
+-- Laws of the word for a line: yes or no where the line has a pattern, a space and a path, and bad for any other line. They stand on what matching promises
+-- alone. Assumes nothing.
+use mathlib.Core.Path.{_≡_, refl, sym, ap, _∙_, subst, ap₂}
+use mathlib.Core.Logic.{_↔_, _⊎_, inl, inr, ⊎-elim}
+use mathlib.Core.Bool.{Bool, true, false, not, cond, _&&_}
+use mathlib.Core.List.{List, [], _∷_, _++_}
+use Prim.Native.Nat.{ℕ, suc, _+_, _≤_, _<_}
+use native.Mathlib.Omega.{arith}
+use lib.ListN.{length, take, drop, length-append}
+use lib.Seq.{take-at}
+use lib.Dec.{eqb, leb}
+use borrow.Author.Tests.{not-true, eqb-true, leb-true, leb-false, le-leb, lt-leb}
+use Rattle.resource.specs.declared.Matching.{Matching}
+use Rattle.resource.specs.declared.Matching.the-variants.{Yes, No, Malformed}
+use Rattle.resource.specs.Characters.{codes}
+use Rattle.resource.specs.Identifier.{isHex, Slot, fits, hasForm, uuidForm, terminalForm, isTerminal}
+use Rattle.resource.specs.Level.{isNameChar, allNameChars, isName, joined}
+use Rattle.resource.specs.Pattern.{Path, pathText, Levels, done, deep, name, star, Pattern, IsPattern, patternText, admits, NamesIn, spelled}
+use Rattle.resource.specs.Text.{isPattern, isResource, patternOk, resourceOk, numbersOf, matching}
+use Rattle.resource.proofs.Flags.{by-cond, and-left, and-right, and-both, no-flag}
+use Rattle.resource.proofs.Promises.{patterns-exact, resources-exact, matching-exact, malformed-15}
+use Rattle.match_lines.specs.declared.Verdict.{Verdict}
+use Rattle.match_lines.specs.declared.Verdict.the-variants.{IsYes, IsNo, IsBad}
+use Rattle.match_lines.specs.Lines.{word, verdictOf, beforeSpace, verdictAt, verdict}
+use Rattle.match_lines.specs.Promises.{Asks, BadElse}
+
+-- ---- no space in a pattern's text
+
+-- no byte of the text is a space
+unfoldable noSpace : List ℕ → Bool
+noSpace [] = true
+noSpace (b ∷ bs) = not (eqb b 32) && noSpace bs
+
+-- a character with a property that a space has not is no space
+not-space-by : (f : ℕ → Bool) (b : ℕ) → f 32 ≡ false → f b ≡ true → not (eqb b 32) ≡ true
+not-space-by f b n e = go (eqb b 32) refl
+  where
+    go : (t : Bool) → eqb b 32 ≡ t → not t ≡ true
+    go true i = no-flag (sym n ∙ ap f (sym (eqb-true b 32 i)) ∙ e)
+    go false i = refl
+
+-- no character of a name is a space
+chars-free : (l : List ℕ) → allNameChars l ≡ true → noSpace l ≡ true
+unfolding allNameChars noSpace isNameChar
+chars-free [] e = refl
+chars-free (b ∷ bs) e =
+    and-both (not (eqb b 32)) (noSpace bs) (not-space-by isNameChar b refl (and-left (isNameChar b) (allNameChars bs) e))
+    (chars-free bs (and-right (isNameChar b) (allNameChars bs) e))
+
+-- a name has no space
+name-free : (l : List ℕ) → isName l ≡ true → noSpace l ≡ true
+name-free [] e = no-flag e
+name-free (b ∷ bs) e = chars-free (b ∷ bs) e
+
+-- a space fits no slot of a form
+abbrev spaceless : List Slot → Bool
+spaceless [] = true
+spaceless (f ∷ fs) = not (fits f 32) && spaceless fs
+
+-- a text of such a form has no space
+form-free : (fs : List Slot) (bs : List ℕ) → spaceless fs ≡ true → hasForm fs bs ≡ true → noSpace bs ≡ true
+unfolding hasForm noSpace
+form-free [] [] n e = refl
+form-free [] (b ∷ bs) n e = no-flag e
+form-free (f ∷ fs) [] n e = refl
+form-free (f ∷ fs) (b ∷ bs) n e =
+    and-both (not (eqb b 32)) (noSpace bs)
+    (not-space-by (fits f) b (not-true (fits f 32) (and-left (not (fits f 32)) (spaceless fs) n)) (and-left (fits f b) (hasForm fs bs) e))
+    (form-free fs bs (and-right (not (fits f 32)) (spaceless fs) n) (and-right (fits f b) (hasForm fs bs) e))
+
+-- a terminal id has no space
+terminal-free : (t : List ℕ) → isTerminal t ≡ true → noSpace t ≡ true
+unfolding isTerminal terminalForm uuidForm isHex
+terminal-free t e = form-free terminalForm t refl e
+
+-- no level has a space
+abbrev AllFree : List (List ℕ) → Type 0
+AllFree [] = Unit {0}
+AllFree (l ∷ ls) = (noSpace l ≡ true) × AllFree ls
+
+-- two texts without a space, one after the other
+append-free : (l r : List ℕ) → noSpace l ≡ true → noSpace r ≡ true → noSpace (l ++ r) ≡ true
+unfolding noSpace
+append-free [] r e f = f
+append-free (b ∷ bs) r e f =
+    and-both (not (eqb b 32)) (noSpace (bs ++ r)) (and-left (not (eqb b 32)) (noSpace bs) e) (append-free bs r (and-right (not (eqb b 32)) (noSpace bs) e) f)
+
+-- joined levels without a space have none
+joined-free : (l : List ℕ) (ls : List (List ℕ)) → AllFree (l ∷ ls) → noSpace (joined (l ∷ ls)) ≡ true
+unfolding noSpace
+joined-free l [] f = f .0
+joined-free l (k ∷ ls) f = append-free l (47 ∷ joined (k ∷ ls)) (f .0) (joined-free k ls (f .1))
+
+-- levels as they are spelled have no space
+spelled-free : (p : Levels) → NamesIn p → AllFree (spelled p)
+unfolding noSpace
+spelled-free done n = tt
+spelled-free deep n = (refl, tt)
+spelled-free (name l p) n = (name-free l (n .0), spelled-free p (n .1))
+spelled-free (star p) n = (refl, spelled-free p n)
+
+-- the text of a pattern has no space
+pattern-free : (p : Pattern) → IsPattern p → noSpace (patternText p) ≡ true
+pattern-free p h = joined-free (p .terminal) (spelled (p .below)) (terminal-free (p .terminal) (h .terminal), spelled-free (p .below) (h .names))
+
+-- ---- the first space of a line
+
+-- a text without a space, a space, and more: the first space is after the text
+first-space : (l r : List ℕ) → noSpace l ≡ true → beforeSpace (l ++ (32 ∷ r)) ≡ length l
+unfolding noSpace beforeSpace
+first-space [] r e = refl
+first-space (b ∷ bs) r e =
+    rw (not-true (eqb b 32) (and-left (not (eqb b 32)) (noSpace bs) e), beforeSpace, first-space bs r (and-right (not (eqb b 32)) (noSpace bs) e))
+
+-- a line with a space is what stands before it, the space, and what stands after it
+parts-at : (line : List ℕ) → beforeSpace line < length line → line ≡ take (beforeSpace line) line ++ (32 ∷ drop (suc (beforeSpace line)) line)
+unfolding beforeSpace
+parts-at [] h = absurd (omega arith)
+parts-at (b ∷ bs) h = go (eqb b 32) refl (parts-at bs)
+  where
+    go : (t : Bool) → eqb b 32 ≡ t → (beforeSpace bs < length bs → bs ≡ take (beforeSpace bs) bs ++ (32 ∷ drop (suc (beforeSpace bs)) bs))
+        → (b ∷ bs) ≡ take (beforeSpace (b ∷ bs)) (b ∷ bs) ++ (32 ∷ drop (suc (beforeSpace (b ∷ bs))) (b ∷ bs))
+    go true e f = rw (e, beforeSpace) (ap (λ (c : ℕ). c ∷ bs) (eqb-true b 32 e))
+    go false e f =
+        let k : beforeSpace (b ∷ bs) ≡ suc (beforeSpace bs) = rw (e, beforeSpace) in
+        rw k (ap (λ (l : List ℕ). b ∷ l) (f (omega arith)))
+
+-- ---- what matching answers, from its numbers
+
+-- the numbers for yes and no are those of yes and no alone
+cond-matching : (m : Matching) (b : Bool) → numbersOf m ≡ record { answer = 0; yes = cond b 1 0 } → m ≡ cond b Yes No
+cond-matching Yes true e = refl
+cond-matching Yes false e = absurd (omega (arith, ap (λ n. n .yes) e))
+cond-matching No true e = absurd (omega (arith, ap (λ n. n .yes) e))
+cond-matching No false e = refl
+cond-matching Malformed b e = absurd (omega (arith, ap (λ n. n .answer) e))
+
+-- 15 is the number of malformed texts alone
+bad-matching : (m : Matching) → numbersOf m ≡ record { answer = 15; yes = 0 } → m ≡ Malformed
+bad-matching Yes e = absurd (omega (arith, ap (λ n. n .answer) e))
+bad-matching No e = absurd (omega (arith, ap (λ n. n .answer) e))
+bad-matching Malformed e = refl
+
+-- ---- the verdict
+
+-- the verdict for yes or no
+abbrev verdictFor : Bool → Verdict
+verdictFor b = cond b IsYes IsNo
+
+-- what stands after the first space
+after-space : (l r : List ℕ) → drop (suc (length l)) (l ++ (32 ∷ r)) ≡ r
+after-space [] r = refl
+after-space (b ∷ bs) r = after-space bs r
+
+-- a line that asks has the verdict yes or no
+asks-verdict : (line : List ℕ) (p : Pattern) (x : Path) → Asks line p x → verdict line ≡ verdictFor (admits p x)
+unfolding verdict verdictAt
+asks-verdict line p x a =
+    let l : List ℕ = patternText p in
+    let r : List ℕ = pathText x in
+    let n : beforeSpace (l ++ (32 ∷ r)) ≡ length l = first-space l r (pattern-free p (a .pattern)) in
+    let size : length (l ++ (32 ∷ r)) ≡ length l + suc (length r) = length-append l (32 ∷ r) in
+    let fits : leb (length (l ++ (32 ∷ r))) 600 ≡ true = le-leb (length (l ++ (32 ∷ r))) 600 (omega (arith, size, a .pattern-fits, a .path-fits)) in
+    let some : leb (length (l ++ (32 ∷ r))) (length l) ≡ false = lt-leb (length (l ++ (32 ∷ r))) (length l) (omega (arith, size)) in
+    let m : matching l r ≡ cond (admits p x) Yes No =
+    cond-matching (matching l r) (admits p x) (matching-exact p x (a .pattern) (a .path) (a .pattern-fits) (a .path-fits)) in
+    rw (a .spelled, fits, n, some, take-at l (32 ∷ r) (length l) refl, after-space l r, m) (go (admits p x))
+  where
+    go : (b : Bool) → verdictOf (cond b Yes No) ≡ verdictFor b
+    go true = refl
+    go false = refl
+
+-- a text that may enter as a pattern is one, of 256 bytes at most
+pattern-ok : (s : List ℕ) → patternOk s ≡ true → (length s ≤ 256) × (isPattern s ≡ true)
+unfolding patternOk
+pattern-ok s e = (leb-true (length s) 256 (and-left (leb (length s) 256) (isPattern s) e), and-right (leb (length s) 256) (isPattern s) e)
+
+-- a text that may enter as a resource id is one, of 256 bytes at most
+resource-ok : (s : List ℕ) → resourceOk s ≡ true → (length s ≤ 256) × (isResource s ≡ true)
+unfolding resourceOk
+resource-ok s e = (leb-true (length s) 256 (and-left (leb (length s) 256) (isResource s) e), and-right (leb (length s) 256) (isResource s) e)
+
+-- what a line asks
+abbrev Question : List ℕ → Type 0
+Question line = (p : Pattern) × (x : Path) × Asks line p x
+
+-- two texts that may enter, with a space between them, ask
+texts-ask : (line l r : List ℕ) → line ≡ l ++ (32 ∷ r) → patternOk l ≡ true → resourceOk r ≡ true → Question line
+texts-ask line l r e hl hr =
+    let pl = pattern-ok l hl in
+    let pr = resource-ok r hr in
+    let p = patterns-exact l .0 (pl .1) in
+    let x = resources-exact r .0 (pr .1) in (
+      p .0,
+      x .0,
+      record {
+        pattern = p .1;
+        path = x .1;
+        pattern-fits = subst (λ (s : List ℕ). length s ≤ 256) (p .2) (pl .0);
+        path-fits = subst (λ (s : List ℕ). length s ≤ 256) (x .2) (pr .0);
+        spelled = e ∙ ap₂ (λ (s t : List ℕ). s ++ (32 ∷ t)) (p .2) (x .2);
+      },
+    )
+
+-- a line with a space is bad or asks
+parted-or-bad : (line l r : List ℕ) → line ≡ l ++ (32 ∷ r) → (verdictOf (matching l r) ≡ IsBad) ⊎ Question line
+parted-or-bad line l r e = go (patternOk l) (resourceOk r) refl refl
+  where
+    go : (a b : Bool) → patternOk l ≡ a → resourceOk r ≡ b → (verdictOf (matching l r) ≡ IsBad) ⊎ Question line
+    go true true ea eb = inr (texts-ask line l r e ea eb)
+    go true false ea eb = inl (ap verdictOf (bad-matching (matching l r) (malformed-15 l r (λ h. no-flag (sym eb ∙ h .1)))))
+    go false b ea eb = inl (ap verdictOf (bad-matching (matching l r) (malformed-15 l r (λ h. no-flag (sym ea ∙ h .0)))))
+
+-- each line is bad or asks
+bad-or-asks : (line : List ℕ) → (verdict line ≡ IsBad) ⊎ Question line
+unfolding verdict verdictAt
+bad-or-asks line =
+    let n : ℕ = beforeSpace line in
+    by-cond (λ (v : Verdict). (v ≡ IsBad) ⊎ Question line) (leb (length line) 600)
+    (λ e. by-cond (λ (v : Verdict). (v ≡ IsBad) ⊎ Question line) (leb (length line) n)
+    (λ f. inl refl)
+    (λ f. parted-or-bad line (take n line) (drop (suc n) line) (parts-at line (leb-false (length line) n f))))
+    (λ e. inl refl)
+
+-- ---- the words
+
+-- the first byte of a word
+abbrev first : List ℕ → ℕ
+first [] = 0
+first (b ∷ bs) = b
+
+-- the word of a line that asks
+asks-word : (line : List ℕ) (p : Pattern) (x : Path) → Asks line p x → word (verdict line) ≡ cond (admits p x) (codes "yes\n") (codes "no\n")
+asks-word line p x a = ap word (asks-verdict line p x a) ∙ go (admits p x)
+  where
+    go : (b : Bool) → word (verdictFor b) ≡ cond b (codes "yes\n") (codes "no\n")
+    go true = refl
+    go false = refl
+
+-- each line has the word bad or asks
+word-or-asks : (line : List ℕ) → (word (verdict line) ≡ codes "bad\n") ⊎ Question line
+word-or-asks line = ⊎-elim (λ e. inl (ap word e)) (λ q. inr q) (bad-or-asks line)
+
+-- the word of a line says whether its pattern matches its path
+word-says : (b c : Bool) → cond b (codes "yes\n") (codes "no\n") ≡ cond c (codes "yes\n") (codes "no\n") → b ≡ c
+word-says true true e = refl
+word-says true false e = absurd (omega (arith, ap first e))
+word-says false true e = absurd (omega (arith, ap first e))
+word-says false false e = refl
+
+-- bad is neither of the two
+bad-apart : (b : Bool) → codes "bad\n" ≡ cond b (codes "yes\n") (codes "no\n") → ⊥
+bad-apart true e = omega (arith, ap first e)
+bad-apart false e = omega (arith, ap first e)
+
+-- a word of the two is written exactly for the lines with that answer
+pub word-exactly : (b : Bool) (line : List ℕ)
+    → (word (verdict line) ≡ cond b (codes "yes\n") (codes "no\n")) ↔ ((p : Pattern) × (x : Path) × Asks line p x × (admits p x ≡ b))
+word-exactly b line = (
+  λ e. ⊎-elim (λ f. absurd (bad-apart b (sym f ∙ e)))
+      (λ q. (q .0, q .1, q .2, word-says (admits (q .0) (q .1)) b (sym (asks-word line (q .0) (q .1) (q .2)) ∙ e)))
+      (word-or-asks line),
+  λ q. asks-word line (q .0) (q .1) (q .2) ∙ ap (λ (c : Bool). cond c (codes "yes\n") (codes "no\n")) (q .3),
+)
+
+-- bad is written for any other line
+pub bad-exactly : BadElse
+bad-exactly line = (
+  λ e p x a. bad-apart (admits p x) (sym e ∙ asks-word line p x a),
+  λ f. ⊎-elim (λ e. e) (λ q. absurd (f (q .0) (q .1) (q .2))) (word-or-asks line),
+)

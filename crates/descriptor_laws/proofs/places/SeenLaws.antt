@@ -5,7 +5,7 @@ use Prim.Native.Nat.{ℕ, zero, suc, _+_, _≤_, _<_}
 use native.Mathlib.Numerals.{add-one}
 use native.Mathlib.Omega.{arith}
 use lib.ListN.{length, take, getD, length-append}
-use Rattle.cbor_item.specs.Bytes.{Has}
+use Rattle.cbor_item.specs.Bytes.{Has, part}
 use Rattle.cbor_item.specs.Reads.{got, encAll}
 use Rattle.cbor_item.specs.Encoding.{head}
 use Rattle.cbor_item.proofs.BytesLaws.{has-left, has-right, has-part, all-has}
@@ -15,7 +15,7 @@ use Rattle.descriptor.specs.Model.{Grant, Payload, Descriptor, encGrant, encGra
 use Rattle.descriptor.specs.Allowed.{GrantOk, All, Formed}
 use Rattle.descriptor.specs.Reader.{beforePayload}
 use Rattle.descriptor.specs.View.{grantView, grantsView, descriptorView, grantPlace}
-use Rattle.descriptor_laws.specs.Promises.{CoveredPayload, GrantsWalk}
+use Rattle.descriptor_laws.specs.Laws.{GrantsWalk}
 use Rattle.descriptor_laws.proofs.grants.GrantLaws.{grant-exact}
 use Rattle.descriptor_laws.proofs.grants.GrantsLaws.{pattern-at}
 use Rattle.descriptor_laws.proofs.payload.PieceLaws.{encFront}
@@ -57,7 +57,8 @@ start-at s at [] l h = absurd (omega arith)
 start-at s at (g ∷ gs) l h = has-right s at (head 4 (length (g ∷ gs))) (encAll encGrant (g ∷ gs)) h
 
 -- the covered part holds the payload
-pub covered-payload : CoveredPayload
+pub covered-payload : (d : Descriptor)
+    → let v = descriptorView 0 d in part (encode d) (v .covered .start) (v .covered .len) ≡ encodePayload (d .payload)
 covered-payload d = has-part (encode d) _ (encodePayload (d .payload)) (payload-here d)
 
 -- where all the grants of a descriptor stand

@@ -17,7 +17,8 @@ use Rattle.descriptor.specs.Model.{Descriptor, encode}
 use Rattle.descriptor.specs.Allowed.{longest, Formed, longestPeriod, period}
 use Rattle.descriptor.specs.Reader.{Seen, Answer, read, structure, validity, whole, readOf, descriptorAt}
 use Rattle.descriptor.specs.View.{descriptorView}
-use Rattle.descriptor_laws.specs.Promises.{ReadsExactly, ValidityExactly, StructureExactly, OneReading}
+use Rattle.descriptor_laws.specs.Laws.{ReadsExactly, ValidityExactly, StructureExactly}
+use Rattle.descriptor_laws.specs.Promises.{OneReading}
 use Rattle.descriptor_laws.proofs.whole.DescriptorLaws.{Both, descriptor-exact}
 
 -- the bytes are the encoding of a descriptor that is allowed but for its period

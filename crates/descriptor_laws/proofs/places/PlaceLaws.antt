@@ -16,11 +16,11 @@ use Rattle.descriptor_laws.proofs.payload.PayloadLaws.{pieces-encode}
 use Rattle.descriptor_laws.proofs.places.SeenLaws.{payload-here}
 
 -- the encoding of a payload up to issued_at
-abbrev front : Payload → List ℕ
+abbrev pub front : Payload → List ℕ
 front p = encOpening (keysOf p) (p .grants) (p .metadata) (p .issuedAt)
 
 -- from issuer_id to not_before
-abbrev centre : Payload → List ℕ
+abbrev pub centre : Payload → List ℕ
 centre p = encMiddle (p .issuer) (p .notAfter) (p .grantor) (p .notBefore)
 
 -- terminal_id

@@ -68,7 +68,7 @@ all-grants d q =
     start-at s _ (d .payload .grants) (q .payload .least) (grants-at s _ (frontOf (d .payload)) (front-at s _ (d .payload) (payload-here d)))
 
 -- where the i-th stands
-grant-here : (d : Descriptor) → Formed d → (i : ℕ) (g : Grant) → i < length (d .payload .grants) → getD (d .payload .grants) i g ≡ g
+pub grant-here : (d : Descriptor) → Formed d → (i : ℕ) (g : Grant) → i < length (d .payload .grants) → getD (d .payload .grants) i g ≡ g
     → Has (encode d) (grantPlace d i) (encGrant g)
 grant-here d q i g l e = subst (λ (x : Grant). Has (encode d) (grantPlace d i) (encGrant x)) e (all-at (encode d) encGrant _ (d .payload .grants) i g l (all-grants d q))
 

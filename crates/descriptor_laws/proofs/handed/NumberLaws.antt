@@ -1,0 +1,62 @@
+-- The numbers of an answer: which answer has which number, and the zeros of a refusal. Assumes nothing.
+use mathlib.Core.Path.{_≡_, refl, sym, ap, _∙_, subst}
+use mathlib.Core.List.{List}
+use Prim.Native.Nat.{ℕ}
+use native.Mathlib.Omega.{arith}
+use Rattle.descriptor.specs.Reader.{Seen, Answer, read, structure, validity, readOf}
+use Rattle.descriptor.specs.View.{descriptorView}
+use Rattle.descriptor.specs.Answer.{readingOf}
+use Rattle.descriptor.specs.Numbers.{numbersOf}
+use Rattle.descriptor_laws.specs.Promises.{AnsweredExactly, refusal, RefusalZero}
+use Rattle.descriptor_laws.proofs.whole.AnswerLaws.{reads-exactly, validity-exactly, structure-exactly}
+
+-- ---- which answer has which number
+
+-- 0 is that of what was read
+pub was-read : (a : Answer) → numbersOf (readingOf a) .answer ≡ 0 → (v : Seen) × (a ≡ read v)
+was-read (read v) e = (v, refl)
+was-read structure e = absurd (omega arith)
+was-read validity e = absurd (omega arith)
+
+-- 1 is that of bytes that are no encoding
+was-structure : (a : Answer) → numbersOf (readingOf a) .answer ≡ 1 → a ≡ structure
+was-structure (read v) e = absurd (omega arith)
+was-structure structure e = refl
+was-structure validity e = absurd (omega arith)
+
+-- 2 is that of a descriptor that is too long valid
+was-validity : (a : Answer) → numbersOf (readingOf a) .answer ≡ 2 → a ≡ validity
+was-validity (read v) e = absurd (omega arith)
+was-validity structure e = absurd (omega arith)
+was-validity validity e = refl
+
+-- the number of an answer
+abbrev numberIn : Answer → ℕ
+numberIn a = numbersOf (readingOf a) .answer
+
+pub answered-exactly : AnsweredExactly
+answered-exactly s bs =
+    record {
+      done = (
+        λ e. let w = was-read (readOf s) e in let x = reads-exactly s bs (w .0) .0 (w .1) in (x .0, x .1, x .2),
+        λ x. ap numberIn (reads-exactly s bs (descriptorView 0 (x .0)) .1 (x .0, x .1, x .2, refl)),
+      );
+      structure = (
+        λ e. structure-exactly s bs .0 (was-structure (readOf s) e),
+        λ f. ap numberIn (structure-exactly s bs .1 f),
+      );
+      validity = (
+        λ e. validity-exactly s bs .0 (was-validity (readOf s) e),
+        λ x. ap numberIn (validity-exactly s bs .1 x),
+      );
+    }
+
+-- ---- the zeros of a refusal
+
+zeros : (a : Answer) → (numbersOf (readingOf a) .answer ≡ 0 → ⊥) → numbersOf (readingOf a) ≡ refusal (numbersOf (readingOf a) .answer)
+zeros (read v) f = absurd (f refl)
+zeros structure f = refl
+zeros validity f = refl
+
+pub refusal-zero : RefusalZero
+refusal-zero s f = zeros (readOf s) f

@@ -1,22 +1,39 @@
 -- The promises of specs/Promises.antt, each from its law or by computation. Assumes nothing.
 use mathlib.Core.Path.{refl}
 use Rattle.cbor_item.specs.Encoding.{head}
-use Rattle.descriptor.specs.Keys.{kPayload, kVersion, kSignature, kGrants, kMetadata, kIssuedAt, kIssuerId, kNotAfter, kGrantorId, kNotBefore, kTerminalId, kDescriptorId, kSubjectFayId, kKeyId, kAlgorithm, kSignatureValue, kModes, kConstraints, kResourcePattern, ed25519, ecdsaP256Sha256, algorithms, mRead, mWrite, mExecute, mConfigure, modeNames}
+use Rattle.descriptor.specs.Keys.{ed25519, ecdsaP256Sha256, algorithms, mRead, mWrite, mExecute, mConfigure, modeNames}
 use Rattle.descriptor.specs.Model.{encMode, encAlgorithm}
 use Rattle.descriptor.specs.View.{maskFrom}
-use Rattle.descriptor_laws.specs.Promises.{LimitsFixed, NamesEncoded, AlgorithmsFixed, ModesFixed, OneReading}
+use Rattle.descriptor_laws.specs.Promises.{LimitsFixed, MapsDeterministic, BytewiseOrder, PairsAscend, PairsDistinct, NamesEncoded, AlgorithmsFixed, ModesFixed, AnsweredExactly, OneReading, HandsBack, RefusalZero, PayloadHanded, GrantFound, GrantAbsent, GrantHanded}
+use Rattle.descriptor_laws.proofs.encoding.NameLaws as names
+use Rattle.descriptor_laws.proofs.encoding.MapLaws as maps
+use Rattle.descriptor_laws.proofs.encoding.OrderLaws as order
 use Rattle.descriptor_laws.proofs.whole.AnswerLaws as answer
+use Rattle.descriptor_laws.proofs.handed.NumberLaws as number
+use Rattle.descriptor_laws.proofs.handed.BackLaws as back
+use Rattle.descriptor_laws.proofs.handed.FoundLaws as grants
 
 -- ---- the deterministic encoding
 
 pub limits-fixed : LimitsFixed
 limits-fixed = (refl, refl)
 
+pub maps-deterministic : MapsDeterministic
+maps-deterministic = maps.maps-deterministic
+
+pub bytewise-order : BytewiseOrder
+bytewise-order = order.bytewise-order
+
+pub pairs-ascend : PairsAscend
+pairs-ascend = order.pairs-ascend
+
+pub pairs-distinct : PairsDistinct
+pairs-distinct = order.pairs-distinct
+
 -- ---- the fixed byte strings
 
 pub names-encoded : NamesEncoded
-unfolding head kPayload kVersion kSignature kGrants kMetadata kIssuedAt kIssuerId kNotAfter kGrantorId kNotBefore kTerminalId kDescriptorId kSubjectFayId kKeyId kAlgorithm kSignatureValue kModes kConstraints kResourcePattern ed25519 ecdsaP256Sha256 mRead mWrite mExecute mConfigure
-names-encoded = (refl, refl, refl, refl, refl, refl, refl, refl, refl, refl, refl, refl, refl, refl, refl, refl, refl, refl, refl, refl, refl, refl, refl, refl, refl)
+names-encoded = names.names-encoded
 
 pub algorithms-fixed : AlgorithmsFixed
 unfolding head encAlgorithm algorithms ed25519 ecdsaP256Sha256
@@ -28,5 +45,30 @@ modes-fixed = (refl, refl, refl, refl, refl, refl, refl, refl, λ gs. refl)
 
 -- ---- reading
 
+pub answered-exactly : AnsweredExactly
+answered-exactly = number.answered-exactly
+
 pub one-reading : OneReading
 one-reading = answer.one-reading
+
+-- ---- what is handed back
+
+pub hands-back : HandsBack
+hands-back = back.hands-back
+
+pub refusal-zero : RefusalZero
+refusal-zero = number.refusal-zero
+
+pub payload-handed : PayloadHanded
+payload-handed = back.payload-handed
+
+-- ---- a grant
+
+pub grant-found : GrantFound
+grant-found = grants.grant-found
+
+pub grant-absent : GrantAbsent
+grant-absent = grants.grant-absent
+
+pub grant-handed : GrantHanded
+grant-handed = grants.grant-handed

@@ -1,17 +1,21 @@
 -- Where the walk over the grants of an encoded descriptor stands, and what it gives there. Assumes nothing.
-use mathlib.Core.Path.{_≡_, refl, sym, ap, _∙_}
+use mathlib.Core.Path.{_≡_, refl, sym, ap, _∙_, subst}
 use mathlib.Core.List.{List, [], _∷_}
 use Prim.Native.Nat.{ℕ, zero, suc, _+_, _-_, _≤_, _<_}
 use native.Mathlib.Nat.{add-zero}
 use native.Mathlib.Omega.{arith}
 use lib.ListN.{length, getD}
 use Rattle.cbor_item.specs.Bytes.{AreBytes}
+use Rattle.cbor_item.specs.Reads.{Got}
 use Rattle.descriptor.specs.Model.{Descriptor, encode}
 use Rattle.descriptor.specs.Allowed.{Formed, Allowed}
-use Rattle.descriptor.specs.Reader.{grantAt}
-use Rattle.descriptor.specs.View.{descriptorView}
-use Rattle.descriptor.specs.View.{grantPlace}
-use Rattle.descriptor_laws.proofs.Promises.{reads-exactly, grants-walk}
+use Rattle.descriptor.specs.Reader.{GrantSeen, Answer, grantAt}
+use Rattle.descriptor.specs.Answer.{readingOf}
+use Rattle.descriptor.specs.View.{descriptorView, grantPlace}
+use Rattle.descriptor.specs.Numbers.{numbersOf, grantNumbers}
+use Rattle.descriptor_laws.specs.Promises.{GrantHandedBack}
+use Rattle.descriptor_laws.proofs.Laws.{reads-exactly, grants-walk}
+use Rattle.descriptor_laws.proofs.Promises.{grant-handed}
 use Rattle.grant_reader.specs.Walk.{startOf, placeAfter, placeFrom}
 use Rattle.grant_reader.specs.Promises.{ReaderPlaces, EachInTurn, NonePast, NoneUnread}
 use Rattle.grant_reader.proofs.WalkLaws.{start-read, start-unread, after-got, from-both, none-stays, nth-at}
@@ -50,11 +54,11 @@ reader-places d bs a i l =
     let all : i ≡ 0 + i = omega arith in
     ap (λ (p : ℕ). placeFrom (encode d) p i) (start-place d bs a) ∙ from-place d bs (a .formed) i 0 (omega arith) ∙ ap (grantPlace d) (sym all)
 
--- and gives what is seen of it
+-- and gives what stands there
 pub each-in-turn : EachInTurn
 each-in-turn d bs a i g l e =
-    let w = grants-walk d bs (a .formed) i g l e in
-    (nth-at (encode d) i ∙ ap (grantAt (encode d)) (reader-places d bs a i (omega arith)) ∙ w .0, w .1)
+    let same = nth-at (encode d) i ∙ ap (grantAt (encode d)) (reader-places d bs a i (omega arith)) in
+    subst (λ (o : Got GrantSeen). GrantHandedBack (encode d) g (grantNumbers o)) (sym same) (grant-handed d bs (a .formed) i g l e)
 
 -- behind the last it gives none
 pub none-past : NonePast
@@ -64,9 +68,10 @@ none-past d bs a i l =
     let both : i ≡ n + (i - n) = omega arith in
     let end : placeFrom s (startOf s) i ≡ placeFrom s (grantPlace d n) (i - n)
     = ap (placeFrom s (startOf s)) both ∙ from-both s (startOf s) n (i - n) ∙ ap (λ (p : ℕ). placeFrom s p (i - n)) (reader-places d bs a n (omega arith)) in
-    nth-at s i ∙ ap (grantAt s) end ∙ none-stays s (grantPlace d n) (last-none d bs (a .formed)) (i - n) .1
+    ap grantNumbers (nth-at s i ∙ ap (grantAt s) end ∙ none-stays s (grantPlace d n) (last-none d bs (a .formed)) (i - n) .1)
 
 -- of bytes that are not read it gives none
 pub none-unread : NoneUnread
 none-unread s f i =
-    nth-at s i ∙ ap (λ (p : ℕ). grantAt s (placeFrom s p i)) (start-unread s f) ∙ none-stays s (length s) (end-none s) i .1
+    let unread = start-unread s (λ v e. f (ap (λ (a : Answer). numbersOf (readingOf a) .answer) e)) in
+    ap grantNumbers (nth-at s i ∙ ap (λ (p : ℕ). grantAt s (placeFrom s p i)) unread ∙ none-stays s (length s) (end-none s) i .1)

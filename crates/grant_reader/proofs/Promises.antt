@@ -1,5 +1,5 @@
 -- The promises of specs/Promises.antt, each from its law. Assumes nothing.
-use Rattle.grant_reader.specs.Promises.{ReaderPlaces, EachInTurn, NonePast, NoneUnread, NoneStays}
+use Rattle.grant_reader.specs.Promises.{ReaderPlaces, ByIndex, EachInTurn, NonePast, NoneUnread, NoneStays}
 use Rattle.grant_reader.proofs.WalkLaws as walk
 use Rattle.grant_reader.proofs.PlaceLaws as place
 
@@ -24,6 +24,10 @@ pub none-unread : NoneUnread
 none-unread = place.none-unread
 
 -- ---- any bytes
+
+-- the grant with an index
+pub by-index : ByIndex
+by-index = walk.nth-at
 
 -- none after none
 pub none-stays : NoneStays

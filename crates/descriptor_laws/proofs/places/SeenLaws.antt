@@ -5,7 +5,7 @@ use Prim.Native.Nat.{ℕ, zero, suc, _+_, _≤_, _<_}
 use native.Mathlib.Numerals.{add-one}
 use native.Mathlib.Omega.{arith}
 use lib.ListN.{length, take, getD, length-append}
-use Rattle.cbor_item.specs.Bytes.{Has, part}
+use Rattle.cbor_item.specs.Bytes.{Has}
 use Rattle.cbor_item.specs.Reads.{got, encAll}
 use Rattle.cbor_item.specs.Encoding.{head}
 use Rattle.cbor_item.proofs.BytesLaws.{has-left, has-right, has-part, all-has}
@@ -55,11 +55,6 @@ start-at : (s : List ℕ) (at : ℕ) (gs : List Grant) → 1 ≤ length gs → H
 unfolding encGrants
 start-at s at [] l h = absurd (omega arith)
 start-at s at (g ∷ gs) l h = has-right s at (head 4 (length (g ∷ gs))) (encAll encGrant (g ∷ gs)) h
-
--- the covered part holds the payload
-pub covered-payload : (d : Descriptor)
-    → let v = descriptorView 0 d in part (encode d) (v .covered .start) (v .covered .len) ≡ encodePayload (d .payload)
-covered-payload d = has-part (encode d) _ (encodePayload (d .payload)) (payload-here d)
 
 -- where all the grants of a descriptor stand
 all-grants : (d : Descriptor) → Formed d → Has (encode d) (descriptorView 0 d .payload .opening .grants .start) (encAll encGrant (d .payload .grants))

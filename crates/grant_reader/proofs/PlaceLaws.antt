@@ -18,7 +18,7 @@ use Rattle.descriptor_laws.proofs.Laws.{reads-exactly, grants-walk}
 use Rattle.descriptor_laws.proofs.Promises.{grant-handed}
 use Rattle.grant_reader.specs.Walk.{startOf, placeAfter, placeFrom}
 use Rattle.grant_reader.specs.Promises.{ReaderPlaces, EachInTurn, NonePast, NoneUnread}
-use Rattle.grant_reader.proofs.WalkLaws.{start-read, start-unread, after-got, from-both, none-stays, nth-at}
+use Rattle.grant_reader.proofs.WalkLaws.{start-read, start-unread, after-got, from-both, refused-stays, nth-at}
 use Rattle.grant_reader.proofs.EndLaws.{end-none, last-none}
 
 -- there is an i-th
@@ -68,10 +68,10 @@ none-past d bs a i l =
     let both : i ≡ n + (i - n) = omega arith in
     let end : placeFrom s (startOf s) i ≡ placeFrom s (grantPlace d n) (i - n)
     = ap (placeFrom s (startOf s)) both ∙ from-both s (startOf s) n (i - n) ∙ ap (λ (p : ℕ). placeFrom s p (i - n)) (reader-places d bs a n (omega arith)) in
-    ap grantNumbers (nth-at s i ∙ ap (grantAt s) end ∙ none-stays s (grantPlace d n) (last-none d bs (a .formed)) (i - n) .1)
+    ap grantNumbers (nth-at s i ∙ ap (grantAt s) end ∙ refused-stays s (grantPlace d n) (last-none d bs (a .formed)) (i - n))
 
 -- of bytes that are not read it gives none
 pub none-unread : NoneUnread
 none-unread s f i =
     let unread = start-unread s (λ v e. f (ap (λ (a : Answer). numbersOf (readingOf a) .answer) e)) in
-    ap grantNumbers (nth-at s i ∙ ap (λ (p : ℕ). grantAt s (placeFrom s p i)) unread ∙ none-stays s (length s) (end-none s) i .1)
+    ap grantNumbers (nth-at s i ∙ ap (λ (p : ℕ). grantAt s (placeFrom s p i)) unread ∙ refused-stays s (length s) (end-none s) i)

@@ -4,13 +4,15 @@ use mathlib.Core.List.{List}
 use Prim.Native.Nat.{ℕ, zero, suc, _+_, _-_, _≤_, _<_}
 use native.Mathlib.Omega.{arith}
 use lib.ListN.{length}
-use Rattle.cbor_item.specs.Reads.{got, refused}
+use Rattle.cbor_item.specs.Reads.{Got, got, refused}
 use Rattle.descriptor.specs.declared.Reading.{Reading}
 use Rattle.descriptor.specs.declared.Reading.the-variants.{Read, Structure, Validity}
+use Rattle.descriptor.specs.declared.GrantNumbers.{GrantNumbers}
 use Rattle.descriptor.specs.Answer.{readingOf}
+use Rattle.descriptor.specs.Numbers.{grantNumbers}
 use Rattle.descriptor.specs.Reader.{GrantSeen, Seen, Answer, read, structure, validity, readOf, grantAt}
 use Rattle.grant_reader.specs.Walk.{startIn, startOf, nextIn, placeAfter, placeFrom, nthOf}
-use Rattle.grant_reader.specs.Promises.{NoneStays}
+use Rattle.grant_reader.specs.Promises.{noGrant, NoneStays}
 
 -- ---- where the walk begins
 
@@ -92,8 +94,18 @@ stays s at e zero = refl
 stays s at e (suc n) = ap (λ (p : ℕ). placeFrom s p n) (after-none s at e) ∙ stays s at e n
 
 -- and there is none still
+pub refused-stays : (s : List ℕ) (at : ℕ) → grantAt s at ≡ refused → (n : ℕ) → grantAt s (placeFrom s at n) ≡ refused
+refused-stays s at e n = ap (grantAt s) (stays s at (sym e) n) ∙ e
+
+-- the zeros are those of no grant
+none-refused : (o : Got GrantSeen) → grantNumbers o ≡ noGrant → o ≡ refused
+none-refused (got g next) e = absurd (omega (arith, ap (λ (n : GrantNumbers). n .found) e))
+none-refused refused e = refl
+
 pub none-stays : NoneStays
-none-stays s at e n = let p = stays s at (sym e) n in (p, ap (grantAt s) p ∙ e)
+none-stays s at e n =
+    let r = none-refused (grantAt s at) e in
+    (stays s at (sym r) n, ap grantNumbers (refused-stays s at r n))
 
 -- ---- the grant with an index
 

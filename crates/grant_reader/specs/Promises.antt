@@ -4,7 +4,6 @@ use mathlib.Core.List.{List}
 use Prim.Native.Nat.{ℕ, _≤_, _<_}
 use lib.ListN.{length, getD}
 use Rattle.cbor_item.specs.Bytes.{AreBytes}
-use Rattle.cbor_item.specs.Reads.{refused}
 use Rattle.descriptor.specs.declared.GrantNumbers.{GrantNumbers}
 use Rattle.descriptor.specs.Model.{Grant, Descriptor, encode}
 use Rattle.descriptor.specs.Allowed.{Allowed}
@@ -41,6 +40,7 @@ NonePast = (d : Descriptor) → AreBytes (encode d) → Allowed d → (i : ℕ) 
 abbrev pub NoneUnread : Type 0
 NoneUnread = (s : List ℕ) → (numbersOf (readingOf (readOf s)) .answer ≡ 0 → ⊥) → (i : ℕ) → grantNumbers (nthOf s i) ≡ noGrant
 
--- and where it gives none it goes on giving none
+-- and where it gives none it goes on giving none, and stays at its place
 abbrev pub NoneStays : Type 0
-NoneStays = (s : List ℕ) (at : ℕ) → grantAt s at ≡ refused → (n : ℕ) → (placeFrom s at n ≡ at) × (grantAt s (placeFrom s at n) ≡ refused)
+NoneStays = (s : List ℕ) (at : ℕ) → grantNumbers (grantAt s at) ≡ noGrant
+    → (n : ℕ) → (placeFrom s at n ≡ at) × (grantNumbers (grantAt s (placeFrom s at n)) ≡ noGrant)

@@ -6,7 +6,7 @@ use Rattle.grant_reader.proofs.core.nth.Tie as tie
 use Rattle.descriptor.specs.Answer.{grantRead}
 use Rattle.descriptor.specs.Reader.{grantAt}
 use Rattle.grant_reader.specs.Walk.{placeFrom, nthOf}
-use Rattle.grant_reader.proofs.WalkLaws.{nth-from, from-here, from-step, none-stays}
+use Rattle.grant_reader.proofs.WalkLaws.{nth-from, from-here, from-step, refused-stays}
 
 abbrev Inv-loop : tie.InvT-loop
 Inv-loop s index at₀ left₀ at left = nthOf s index ≡ grantAt s (placeFrom s at left)
@@ -32,7 +32,7 @@ enum-told c = search needs
 returns : tie.Need-returns Inv-loop μ-loop
 returns c =
     let l = c .before .before .before .before in
-    sym (l .loop .inv ∙ none-stays _ _ (sym (sym (ap grantRead (c .enum-told .given .1)) ∙ c .before .before .read-grant .ensures)) _ .1)
+    sym (l .loop .inv ∙ refused-stays _ _ (sym (sym (ap grantRead (c .enum-told .given .1)) ∙ c .before .before .read-grant .ensures)) _)
 
 sub-left : tie.Need-sub-left Inv-loop μ-loop
 sub-left c = search needs

@@ -1,13 +1,16 @@
 -- A new image is the image of no bodies (specs/Fresh.antt). Assumes nothing.
+use mathlib.Core.Path.{refl}
 use lib.ListN.{length}
-use borrow.Author.Tests.{le-ltb}
+use borrow.Author.Tests.{le-ltb, lt-ltb}
 use Rattle.cbor_item.specs.Encoding.{bigEndian}
-use Rattle.image.specs.Layout.{headerSize}
 use Rattle.image.specs.Image.{header, rowsOf, joined, imageOf}
-use Rattle.image.specs.Fresh.{afterNew}
-use Rattle.image.specs.Promises.{NewEmpty}
+use Rattle.image.specs.Fresh.{madeOf, afterNew}
+use Rattle.image.specs.Promises.{NewImage}
 
--- `NewEmpty`.
-pub new-empty : NewEmpty
-unfolding afterNew imageOf header rowsOf joined bigEndian
-new-empty d h = rw (le-ltb (length d) headerSize h)
+-- `NewImage`.
+pub new-image : NewImage
+unfolding madeOf afterNew imageOf header rowsOf joined bigEndian
+new-image = (
+  λ d h. (rw (le-ltb (length d) 8 h), rw (le-ltb (length d) 8 h), rw (le-ltb (length d) 8 h)),
+  λ d h. (rw (lt-ltb (length d) 8 h), rw (lt-ltb (length d) 8 h)),
+)

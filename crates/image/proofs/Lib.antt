@@ -9,5 +9,8 @@ pub mod SoundLaws
 pub mod SurveyLaws
 pub mod FreshLaws
 pub mod ReadLaws
+pub mod LayoutLaws
+pub mod LookupLaws
+pub mod Laws
 pub mod Promises
 pub mod CodeLaws

@@ -1,23 +1,49 @@
 -- The promises of specs/Promises.antt, each from its law. Assumes nothing.
-use Rattle.image.specs.Promises.{SoundExactly, BodiesOnce, EditionsKnown, LookupExactly, RowOfBody, NewEmpty}
-use Rattle.image.proofs.SurveyLaws as survey
+use Rattle.image.specs.Promises.{LayoutFixed, RowOfBody, MaskSmall, HoldsExactly, BodiesOnce, BodyOfId, LookupExactly, SoundExactly, EditionsKnown, BodyHanded, NewImage}
+use Rattle.image.proofs.RowLaws as row
 use Rattle.image.proofs.ReadLaws as read
+use Rattle.image.proofs.LayoutLaws as layout
+use Rattle.image.proofs.SurveyLaws as survey
+use Rattle.image.proofs.LookupLaws as lookup
 use Rattle.image.proofs.FreshLaws as fresh
 
-pub sound-exactly : SoundExactly
-sound-exactly = survey.sound-exactly
+-- ---- the layout
 
-pub bodies-once : BodiesOnce
-bodies-once = survey.bodies-once
-
-pub editions-known : EditionsKnown
-editions-known = survey.editions-known
-
-pub lookup-exactly : LookupExactly
-lookup-exactly = survey.lookup-exactly
+pub layout-fixed : LayoutFixed
+layout-fixed = layout.layout-fixed
 
 pub row-of-body : RowOfBody
 row-of-body = read.row-of-body
 
-pub new-empty : NewEmpty
-new-empty = fresh.new-empty
+pub mask-small : MaskSmall
+mask-small = row.modes-small
+
+-- ---- which bodies a buffer holds
+
+pub holds-exactly : HoldsExactly
+holds-exactly = layout.holds-exactly
+
+pub bodies-once : BodiesOnce
+bodies-once = survey.bodies-once
+
+pub body-of-id : BodyOfId
+body-of-id = layout.body-of-id
+
+-- ---- a lookup
+
+pub lookup-exactly : LookupExactly
+lookup-exactly = lookup.lookup-exactly
+
+pub sound-exactly : SoundExactly
+sound-exactly = lookup.sound-exactly
+
+pub editions-known : EditionsKnown
+editions-known = lookup.editions-known
+
+pub body-handed : BodyHanded
+body-handed = lookup.body-handed
+
+-- ---- a new image
+
+pub new-image : NewImage
+new-image = fresh.new-image

@@ -3,11 +3,15 @@ use mathlib.Core.Path.{_≡_, refl, ap, ap₂, _∙_}
 use mathlib.Core.Bool.{true, false≢true}
 use mathlib.Core.List.{List}
 use Prim.Native.Nat.{ℕ}
+use native.Mathlib.Omega.{arith}
 use Rattle.cbor_item.specs.Bytes.{part}
+use Rattle.descriptor.specs.declared.Reading.{Reading}
+use Rattle.descriptor.specs.declared.Reading.the-variants.{Read, Structure, Validity}
 use Rattle.descriptor.specs.Model.{Descriptor, encode}
 use Rattle.descriptor.specs.Allowed.{Formed}
 use Rattle.descriptor.specs.Modes.{unionOf}
 use Rattle.descriptor.specs.Reader.{Seen, Answer, read, structure, validity, readOf}
+use Rattle.descriptor.specs.Numbers.{numberOf}
 use Rattle.descriptor.specs.View.{descriptorView}
 use Rattle.descriptor.specs.Answer.{fieldsOf, readingOf}
 use Rattle.descriptor_laws.proofs.Promises.{reads-exactly}
@@ -15,7 +19,8 @@ use Rattle.descriptor_laws.proofs.grants.MaskLaws.{grants-union}
 use Rattle.descriptor_laws.proofs.places.PlaceLaws.{id-part}
 use Rattle.image.specs.Layout.{idSize}
 use Rattle.image.specs.Image.{reading, isRead, idOf, modesOf}
-use Rattle.image.specs.Promises.{RowOfBody}
+use Rattle.image.specs.Promises.{RowOfBody, answerOf}
+use Rattle.image.specs.Laws.{BodyRead, EncodingRead}
 use Rattle.image.proofs.RowLaws.{id-read, modes-read}
 
 -- Of a body that reads something was seen.
@@ -38,10 +43,44 @@ seen-row b v d q e i j =
       modes-read b (fieldsOf v) r ∙ ap (λ (u : Seen). u .payload .opening .grants .sum .mask) j ∙ grants-union _ (d .payload .grants) (q .payload .grants),
     )
 
--- `RowOfBody`.
-pub row-of-body : RowOfBody
-row-of-body b bytes t =
+-- `BodyRead`.
+pub body-read : BodyRead
+body-read b bytes t =
     let v = seen-of b t in
     let x = reads-exactly b bytes (v .0) .0 (v .1) in
     let y = seen-row b (v .0) (x .0) (x .1 .formed) (v .1) (x .2) (x .3) in
     (x .0, x .1, x .2, y .0, y .1)
+
+-- `EncodingRead`.
+pub encoding-read : EncodingRead
+unfolding reading
+encoding-read d bytes a =
+    let v : Seen = descriptorView 0 d in
+    let e : readOf (encode d) ≡ read v = reads-exactly (encode d) bytes v .1 (d, a, refl, refl) in
+    (fieldsOf v, ap readingOf e, refl, seen-row (encode d) v d (a .formed) e refl refl .0)
+
+-- ---- by the number of the reading
+
+-- A body that is read is read with 0.
+pub read-zero : (b : List ℕ) → isRead (reading b) ≡ true → answerOf b ≡ 0
+unfolding reading
+read-zero b t = go (readingOf (readOf b)) t
+  where
+    go : (r : Reading) → isRead r ≡ true → numberOf r ≡ 0
+    go (Read f) e = refl
+    go Structure e = absurd (false≢true e)
+    go Validity e = absurd (false≢true e)
+
+-- A body that is read with 0 is read.
+pub zero-read : (b : List ℕ) → answerOf b ≡ 0 → isRead (reading b) ≡ true
+unfolding reading
+zero-read b t = go (readingOf (readOf b)) t
+  where
+    go : (r : Reading) → numberOf r ≡ 0 → isRead r ≡ true
+    go (Read f) e = refl
+    go Structure e = absurd (omega arith)
+    go Validity e = absurd (omega arith)
+
+-- `RowOfBody`.
+pub row-of-body : RowOfBody
+row-of-body b bytes e = body-read b bytes (zero-read b e)

@@ -15,7 +15,8 @@ use Rattle.image.specs.declared.Survey.the-variants.{Sound, Unsound}
 use Rattle.image.specs.Layout.{idSize, rowPlace}
 use Rattle.image.specs.Image.{imageOf, Holds, bodyWith}
 use Rattle.image.specs.Check.{rowCount, checked, surveyed, surveyOf, isSound, heldAt, findOf, bodyFound, bodiesOf}
-use Rattle.image.specs.Promises.{SoundExactly, BodiesOnce, EditionsKnown, LookupExactly}
+use Rattle.image.specs.Promises.{BodiesOnce}
+use Rattle.image.specs.Laws.{SurveyExactly, BodiesNamed, EditionsSurveyed, BodyFound}
 use Rattle.image.proofs.HeldLaws.{heldIn, HeldIs, held-is}
 use Rattle.image.proofs.RunLaws.{Run}
 use Rattle.image.proofs.SoundLaws.{HeaderSays, fits-says, holds-run, count-of, check-complete, Checked, check-is, check-sound, holds-bodies}
@@ -61,12 +62,12 @@ survey-held s id bytes n end h e =
     held-same : (n n′ end end′ : ℕ) (h h′ : Held) → Sound n end h ≡ Sound n′ end′ h′ → h ≡ h′
     held-same n n′ end end′ h h′ e = cc
 
--- ---- the promises
+-- ---- what the crates above stand on
 
--- `SoundExactly`.
-pub sound-exactly : SoundExactly
+-- `SurveyExactly`.
+pub survey-exactly : SurveyExactly
 unfolding surveyOf
-sound-exactly s id bytes = (
+survey-exactly s id bytes = (
   λ e. go (checked s id) refl e,
   λ x. ap isSound (survey-complete s id (x .0) (x .1) .1),
 )
@@ -75,14 +76,18 @@ sound-exactly s id bytes = (
     go (got h end) c e = let k = check-sound s id bytes h end (sym c) in (k .0, k .1)
     go refused c e = absurd (false≢true e)
 
+-- `BodiesNamed`.
+pub bodies-named : BodiesNamed
+bodies-named s bs h = holds-bodies s bs h
+
 -- `BodiesOnce`.
 pub bodies-once : BodiesOnce
-bodies-once s bs h = holds-bodies s bs h
+bodies-once s bs cs h k = sym (bodies-named s bs h) ∙ bodies-named s cs k
 
--- `EditionsKnown`.
-pub editions-known : EditionsKnown
+-- `EditionsSurveyed`.
+pub editions-surveyed : EditionsSurveyed
 unfolding surveyOf
-editions-known s id other = go (checked s id) refl
+editions-surveyed s id other = go (checked s id) refl
   where
     go : (o : Got Held) → checked s id ≡ o → surveyed (rowCount s) o ≡ Unsound
     go (got h end) c =
@@ -91,10 +96,10 @@ editions-known s id other = go (checked s id) refl
         absurd (⊎-elim (λ f. f (q .edition)) (λ f. f (q .modes)) other)
     go refused c = refl
 
--- `LookupExactly`.
-pub lookup-exactly : LookupExactly
+-- `BodyFound`.
+pub body-found : BodyFound
 unfolding findOf
-lookup-exactly s id bs h l =
+body-found s id bs h l =
     let w = survey-complete s id bs h in
     rw (eq-eqb (length id) idSize l, findOf, w .1) (go (w .0) (w .2))
   where

@@ -1,4 +1,4 @@
--- A new image. Document 01, "The stored image".
+-- A new image: what the code answers and writes. A reader of the promises does not need this page.
 use mathlib.Core.Bool.{Bool, true, false, cond}
 use mathlib.Core.List.{List, [], _∷_, _++_}
 use Prim.Native.Nat.{ℕ}

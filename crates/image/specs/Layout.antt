@@ -1,4 +1,4 @@
--- The sizes, limits and editions of a stored image, each named once. Document 01, "The stored image".
+-- The sizes, limits and editions of a stored image, each named once. A reader of the promises does not need this page: they have the numbers.
 use Prim.Native.Nat.{ℕ, _+_, _*_}
 
 -- the edition of the image's layout

@@ -3,3 +3,4 @@ pub mod Image
 pub mod Check
 pub mod Fresh
 pub mod Promises
+pub mod Laws

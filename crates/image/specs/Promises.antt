@@ -1,43 +1,125 @@
--- What is promised of stored images, and nothing else. Each statement `NameOfIt` is proved in proofs/Promises.antt as `name-of-it`.
+-- What is promised of stored images, and nothing else. Each statement `NameOfIt` is proved in proofs/Promises.antt as `name-of-it`. Document 01, "The stored
+-- image"; the numbers of a lookup are those of include/cap.h.
 use mathlib.Core.Path.{_≡_}
 use mathlib.Core.Logic.{_↔_, _⊎_}
-use mathlib.Core.Bool.{true}
-use mathlib.Core.List.{List, [], _++_}
-use Prim.Native.Nat.{ℕ, _≤_}
+use mathlib.Core.List.{List, [], _∷_, _++_}
+use mathlib.Core.Option.{none, some}
+use Prim.Native.Nat.{ℕ, _+_, _*_, _/_, _%_, _≤_, _<_}
 use lib.ListN.{length, drop}
-use Rattle.cbor_item.specs.Bytes.{AreBytes}
-use Rattle.cbor_item.specs.Head.{numberAt}
+use Rattle.cbor_item.specs.Bytes.{AreBytes, part}
+use Rattle.cbor_item.specs.Head.{spanOf, numberAt}
 use Rattle.descriptor.specs.Model.{Descriptor, encode}
 use Rattle.descriptor.specs.Allowed.{Allowed}
 use Rattle.descriptor.specs.Modes.{unionOf}
-use Rattle.image.specs.declared.Survey.the-variants.{Unsound}
-use Rattle.image.specs.declared.Finding.the-variants.{BadImage}
-use Rattle.image.specs.Layout.{imageEdition, modeEdition, headerSize, idSize}
-use Rattle.image.specs.Image.{reading, isRead, idOf, modesOf, imageOf, Holds, bodyWith}
-use Rattle.image.specs.Check.{surveyOf, isSound, findOf, bodyFound, bodiesOf}
-use Rattle.image.specs.Fresh.{afterNew}
+use Rattle.descriptor.specs.Reader.{readOf}
+use Rattle.descriptor.specs.Answer.{readingOf}
+use Rattle.descriptor.specs.Numbers as descriptor
+use Rattle.image.specs.declared.StoredNumbers.{StoredNumbers}
+use Rattle.image.specs.Image.{idOf, modesOf, header, row, rowsOf, joined, imageOf, Holds, bodyWith}
+use Rattle.image.specs.Check.{findOf, bodySpan, numbersOf}
+use Rattle.image.specs.Fresh.{madeOf, afterNew, numberOf}
 
--- whatever id is looked for, an image is sound exactly when it is the image of at most 64 bodies that read with 0, whose ids differ, followed by anything
-abbrev pub SoundExactly : Type 0
-SoundExactly = (s id : List ℕ) → AreBytes s → (isSound (surveyOf s id) ≡ true) ↔ ((bs : List (List ℕ)) × Holds s bs)
+-- ---- the layout
 
--- it is the image of one list of bodies, those that its rows name
-abbrev pub BodiesOnce : Type 0
-BodiesOnce = (s : List ℕ) (bs : List (List ℕ)) → Holds s bs → bodiesOf s ≡ bs
+-- a number in 4 bytes, big-endian
+abbrev pub four : ℕ → List ℕ
+four n = (n / 16777216 % 256) ∷ (n / 65536 % 256) ∷ (n / 256 % 256) ∷ (n % 256) ∷ []
 
--- an image whose image edition or mode edition is another than 1 is refused with 16, whatever else it holds
-abbrev pub EditionsKnown : Type 0
-EditionsKnown = (s id : List ℕ) → (numberAt s 0 2 ≡ imageEdition → ⊥) ⊎ (numberAt s 2 2 ≡ modeEdition → ⊥) → surveyOf s id ≡ Unsound
+-- Header, 8 bytes: image edition 1 (2 bytes), mode edition 1 (2), row count (2), zero (2). Rows of 32 bytes: descriptor id (16), body offset (4), body length
+-- (4), mask (1), zero (7). Bodies lie back to back in row order from 8 + 32 × rows.
+abbrev pub LayoutFixed : Type 0
+LayoutFixed =
+    ((n : ℕ) → header n ≡ 0 ∷ 1 ∷ 0 ∷ 1 ∷ (n / 256 % 256) ∷ (n % 256) ∷ 0 ∷ 0 ∷ [])
+    × ((b : List ℕ) → length (idOf b) ≡ 16)
+    × ((at : ℕ) (b : List ℕ) → row at b ≡ idOf b ++ (four at ++ (four (length b) ++ (modesOf b ∷ 0 ∷ 0 ∷ 0 ∷ 0 ∷ 0 ∷ 0 ∷ 0 ∷ []))))
+    × ((at : ℕ) → rowsOf at [] ≡ [])
+    × ((at : ℕ) (b : List ℕ) (bs : List (List ℕ)) → rowsOf at (b ∷ bs) ≡ row at b ++ rowsOf (at + length b) bs)
+    × (joined [] ≡ [])
+    × ((b : List ℕ) (bs : List (List ℕ)) → joined (b ∷ bs) ≡ b ++ joined bs)
+    × ((bs : List (List ℕ)) → imageOf bs ≡ header (length bs) ++ (rowsOf (8 + 32 * length bs) bs ++ joined bs))
 
--- a lookup of an id of 16 bytes finds the very body that has it, or none
-abbrev pub LookupExactly : Type 0
-LookupExactly = (s id : List ℕ) (bs : List (List ℕ)) → Holds s bs → length id ≡ idSize → bodyFound s (findOf s id) ≡ bodyWith id bs
+-- document 01's number of reading a body
+abbrev pub answerOf : List ℕ → ℕ
+answerOf b = descriptor.numberOf (readingOf (readOf b))
 
 -- a body that reads with 0 is the encoding of an allowed descriptor; its row has that descriptor's id, and the union of its modes as the mask
 abbrev pub RowOfBody : Type 0
-RowOfBody = (b : List ℕ) → AreBytes b → isRead (reading b) ≡ true
+RowOfBody = (b : List ℕ) → AreBytes b → answerOf b ≡ 0
     → (d : Descriptor) × Allowed d × (b ≡ encode d) × (idOf b ≡ d .payload .id) × (modesOf b ≡ unionOf (d .payload .grants))
 
--- a new image is the image of no bodies, followed by what stood there
-abbrev pub NewEmpty : Type 0
-NewEmpty = (d : List ℕ) → headerSize ≤ length d → afterNew d ≡ imageOf [] ++ drop headerSize d
+-- the bits 4 to 7 of a row's mask are 0
+abbrev pub MaskSmall : Type 0
+MaskSmall = (b : List ℕ) → modesOf b < 16
+
+-- ---- which bodies a buffer holds
+
+-- each body of the list is so
+abbrev pub Every : (List ℕ → Type 0) → List (List ℕ) → Type 0
+Every P [] = Unit {0}
+Every P (b ∷ bs) = P b × Every P bs
+
+-- the ids of the bodies differ
+abbrev pub IdsDiffer : List (List ℕ) → Type 0
+IdsDiffer [] = Unit {0}
+IdsDiffer (b ∷ bs) = Every (λ c. idOf c ≡ idOf b → ⊥) bs × IdsDiffer bs
+
+-- a buffer holds the bodies exactly when they are at most 64, each reads with 0, their ids differ, and the buffer is their image, followed by anything
+abbrev pub HoldsExactly : Type 0
+HoldsExactly = (s : List ℕ) (bs : List (List ℕ))
+    → Holds s bs
+    ↔ ((length bs ≤ 64) × Every (λ b. answerOf b ≡ 0) bs × IdsDiffer bs × ((rest : List ℕ) × (s ≡ imageOf bs ++ rest)))
+
+-- it holds one list of bodies
+abbrev pub BodiesOnce : Type 0
+BodiesOnce = (s : List ℕ) (bs cs : List (List ℕ)) → Holds s bs → Holds s cs → bs ≡ cs
+
+-- the body with an id is the one whose id it is
+abbrev pub BodyOfId : Type 0
+BodyOfId = (id : List ℕ)
+    → (bodyWith id [] ≡ none)
+    × ((b : List ℕ) (bs : List (List ℕ)) → idOf b ≡ id → bodyWith id (b ∷ bs) ≡ some b)
+    × ((b : List ℕ) (bs : List (List ℕ)) → (idOf b ≡ id → ⊥) → bodyWith id (b ∷ bs) ≡ bodyWith id bs)
+
+-- ---- a lookup
+
+-- a refusal's other numbers are 0
+abbrev pub refusal : ℕ → StoredNumbers
+refusal n = record { answer = n; «body_at» = 0; «body_len» = 0 }
+
+-- the answer is 0, and the numbers are the place and the length of the body b in s
+pub record FoundAt (s b : List ℕ) (n : StoredNumbers) : Type 0 where
+  pub answer : n .answer ≡ 0
+  pub bytes : part s (n .«body_at») (n .«body_len») ≡ b
+  pub len : n .«body_len» ≡ length b
+  pub inside : n .«body_at» + n .«body_len» ≤ length s
+
+-- 15: the id is not 16 bytes. 16: the buffer holds no list of bodies. 7: no body has the id. Else 0, with the body that has it.
+pub record LookupExactly : Type 0 where
+  pub bad-id : (s id : List ℕ) → (length id ≡ 16 → ⊥) → numbersOf (findOf s id) ≡ refusal 15
+  pub bad-image : (s id : List ℕ) → AreBytes s → length id ≡ 16 → ((bs : List (List ℕ)) → Holds s bs → ⊥) → numbersOf (findOf s id) ≡ refusal 16
+  pub not-held : (s id : List ℕ) (bs : List (List ℕ)) → length id ≡ 16 → Holds s bs → bodyWith id bs ≡ none → numbersOf (findOf s id) ≡ refusal 7
+  pub held : (s id : List ℕ) (bs : List (List ℕ)) (b : List ℕ) → length id ≡ 16 → Holds s bs → bodyWith id bs ≡ some b → FoundAt s b (numbersOf (findOf s id))
+
+-- an image is sound, which is that a lookup of an id of 16 bytes is not answered 16, exactly when the buffer holds a list of bodies
+abbrev pub SoundExactly : Type 0
+SoundExactly = (s id : List ℕ) → AreBytes s → length id ≡ 16 → (numbersOf (findOf s id) .answer ≡ 16 → ⊥) ↔ ((bs : List (List ℕ)) × Holds s bs)
+
+-- an image whose image edition or mode edition is another than 1 is answered 16, whatever else it holds
+abbrev pub EditionsKnown : Type 0
+EditionsKnown = (s id : List ℕ) → length id ≡ 16 → (numberAt s 0 2 ≡ 1 → ⊥) ⊎ (numberAt s 2 2 ≡ 1 → ⊥) → numbersOf (findOf s id) ≡ refusal 16
+
+-- the part that is handed back for a lookup has the place and the length of its numbers; for a refusal that is the empty part at the start
+abbrev pub BodyHanded : Type 0
+BodyHanded = (s id : List ℕ) → AreBytes s
+    → bodySpan s (findOf s id) ≡ spanOf (numbersOf (findOf s id) .«body_at») (numbersOf (findOf s id) .«body_len»)
+
+-- ---- a new image
+
+-- A new image writes 00 01 00 01 00 00 00 00 and no other byte, which is the image of no bodies; a buffer under 8 bytes gives 17, and is left as it was.
+abbrev pub NewImage : Type 0
+NewImage =
+    ((d : List ℕ) → 8 ≤ length d
+    → (numberOf (madeOf d) ≡ 0)
+    × (afterNew d ≡ 0x00 ∷ 0x01 ∷ 0x00 ∷ 0x01 ∷ 0x00 ∷ 0x00 ∷ 0x00 ∷ 0x00 ∷ drop 8 d)
+    × (afterNew d ≡ imageOf [] ++ drop 8 d))
+    × ((d : List ℕ) → length d < 8 → (numberOf (madeOf d) ≡ 17) × (afterNew d ≡ d))

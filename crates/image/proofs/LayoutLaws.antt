@@ -1,0 +1,117 @@
+-- The layout of an image in document 01's numbers, and which bodies a buffer holds (specs/Image.antt). Assumes nothing.
+use mathlib.Core.Path.{_≡_, refl, sym, ap, ap₂, _∙_}
+use mathlib.Core.Bool.{Bool, true, false, _||_, false≢true}
+use mathlib.Core.List.{List, [], _∷_, _++_}
+use Prim.Native.Nat.{ℕ, _/_, _%_, _<_}
+use native.Mathlib.Omega.{arith}
+use lib.ListN.{length}
+use Rattle.cbor_item.specs.Bytes.{same}
+use Rattle.cbor_item.specs.Encoding.{bigEndian}
+use Rattle.cbor_item.specs.Reads.{AllFrom}
+use Rattle.image.specs.Image.{idOf, modesOf, header, row, rowsOf, joined, imageOf, hasId, BodyOk, seenWith, BodiesOk, Holds, bodyWith}
+use Rattle.image.specs.Promises.{four, LayoutFixed, answerOf, Every, IdsDiffer, HoldsExactly, BodyOfId}
+use Rattle.image.proofs.RowLaws.{id-length, modes-small}
+use Rattle.image.proofs.ListLaws.{same-true, true-same, or-no-left, or-no-right, or-true, rest-new, has-snoc, with-first, with-rest}
+use Rattle.image.proofs.ReadLaws.{read-zero, zero-read}
+
+-- ---- the layout
+
+-- Equal heads and tails make equal lists.
+cons : {x y : ℕ} {xs ys : List ℕ} → x ≡ y → xs ≡ ys → (x ∷ xs) ≡ (y ∷ ys)
+cons e f = ap₂ (λ (a : ℕ) (l : List ℕ). a ∷ l) e f
+
+-- A number in 4 bytes.
+in-four : (n : ℕ) → bigEndian 4 n ≡ four n
+unfolding bigEndian
+in-four n = cons (omega arith) (cons (omega arith) refl)
+
+-- A number below 256 in one byte.
+in-one : (n : ℕ) → n < 256 → bigEndian 1 n ≡ n ∷ []
+unfolding bigEndian
+in-one n h = cons (omega arith) refl
+
+-- `LayoutFixed`.
+pub layout-fixed : LayoutFixed
+unfolding header row rowsOf joined imageOf bigEndian
+layout-fixed = (
+  λ n. refl,
+  id-length,
+  λ at b.
+      ap (λ (l : List ℕ). idOf b ++ l)
+      (ap₂ (λ (x y : List ℕ). x ++ y) (in-four at)
+      (ap₂ (λ (x y : List ℕ). x ++ y) (in-four (length b))
+      (ap (λ (x : List ℕ). x ++ bigEndian 7 0) (in-one (modesOf b) (omega (arith, modes-small b)))))),
+  λ at. refl,
+  λ at b bs. refl,
+  refl,
+  λ b bs. refl,
+  λ bs. refl,
+)
+
+-- ---- which bodies a buffer holds
+
+-- Lists of bytes that differ fail the test.
+pub other-same : (x y : List ℕ) → (x ≡ y → ⊥) → same x y ≡ false
+other-same x y n = go (same x y) refl
+  where
+    go : (t : Bool) → same x y ≡ t → t ≡ false
+    go true e = absurd (n (same-true x y e))
+    go false e = refl
+
+-- Bodies of which none has the id have other ids.
+has-none : (id : List ℕ) (bs : List (List ℕ)) → hasId id bs ≡ false → Every (λ c. idOf c ≡ id → ⊥) bs
+unfolding hasId
+has-none id [] e = tt
+has-none id (b ∷ bs) e = (
+  λ q. false≢true (sym (or-no-left (same (idOf b) id) (hasId id bs) e) ∙ true-same (idOf b) id q),
+  has-none id bs (or-no-right (same (idOf b) id) (hasId id bs) e),
+)
+
+-- Bodies that are allowed one after the other read with 0.
+all-read : (seen bs : List (List ℕ)) → AllFrom BodyOk seenWith seen bs → Every (λ b. answerOf b ≡ 0) bs
+all-read seen [] a = tt
+all-read seen (b ∷ bs) a = (read-zero b (a .0 .reads), all-read (seen ++ (b ∷ [])) bs (a .1))
+
+-- Their ids differ.
+all-differ : (seen bs : List (List ℕ)) → AllFrom BodyOk seenWith seen bs → IdsDiffer bs
+all-differ seen [] a = tt
+all-differ seen (b ∷ bs) a =
+    let m : hasId (idOf b) (seen ++ (b ∷ [])) ≡ true = has-snoc (idOf b) seen b ∙ rw (true-same (idOf b) (idOf b) refl) (or-true (hasId (idOf b) seen)) in
+    (has-none (idOf b) bs (rest-new (idOf b) (seen ++ (b ∷ [])) bs (a .1) m), all-differ (seen ++ (b ∷ [])) bs (a .1))
+
+-- Bodies whose ids are new stay so after a body with another id.
+still-new : (seen : List (List ℕ)) (b : List ℕ) (bs : List (List ℕ)) → Every (λ c. hasId (idOf c) seen ≡ false) bs → Every (λ c. idOf c ≡ idOf b → ⊥) bs
+    → Every (λ c. hasId (idOf c) (seen ++ (b ∷ [])) ≡ false) bs
+still-new seen b [] n o = tt
+still-new seen b (c ∷ bs) n o = (
+  has-snoc (idOf c) seen b ∙ rw (n .0, other-same (idOf b) (idOf c) (λ e. o .0 (sym e))),
+  still-new seen b bs (n .1) (o .1),
+)
+
+-- Bodies that read with 0, whose ids are new and differ, are allowed one after the other.
+all-from : (seen bs : List (List ℕ)) → Every (λ b. answerOf b ≡ 0) bs → IdsDiffer bs → Every (λ c. hasId (idOf c) seen ≡ false) bs → AllFrom BodyOk seenWith seen bs
+all-from seen [] r o n = tt
+all-from seen (b ∷ bs) r o n =
+    (record { reads = zero-read b (r .0); new = n .0 }, all-from (seen ++ (b ∷ [])) bs (r .1) (o .1) (still-new seen b bs (n .1) (o .0)))
+
+-- At first every id is new.
+all-new : (bs : List (List ℕ)) → Every (λ c. hasId (idOf c) [] ≡ false) bs
+unfolding hasId
+all-new [] = tt
+all-new (b ∷ bs) = (refl, all-new bs)
+
+-- `HoldsExactly`.
+pub holds-exactly : HoldsExactly
+holds-exactly s bs = (
+  λ h. (h .bodies .few, all-read [] bs (h .bodies .each), all-differ [] bs (h .bodies .each), (h .rest, h .whole)),
+  λ x. record { bodies = record { few = x .0; each = all-from [] bs (x .1) (x .2) (all-new bs) }; rest = x .3 .0; whole = x .3 .1 },
+)
+
+-- `BodyOfId`.
+pub body-of-id : BodyOfId
+unfolding bodyWith
+body-of-id id = (
+  refl,
+  λ b bs e. with-first id b bs (true-same (idOf b) id e) .0,
+  λ b bs n. with-rest id b bs (other-same (idOf b) id n) .0,
+)

@@ -22,6 +22,23 @@ decided ends = refl
 decided (passes e d) = rw e (decided d)
 decided (fails e) = rw e
 
+-- ---- the answer through a function
+
+-- The steps with their refusals through a function.
+abbrev pub mapped : {R S : Type 0} → (R → S) → List (Step R) → List (Step S)
+mapped f [] = []
+mapped f (s ∷ steps) = step (s .passes) (f (s .refusal)) ∷ mapped f steps
+
+-- A function of the answer is the answer of the steps with their refusals through it.
+pub order-mapped : {R S : Type 0} (f : R → S) (steps : List (Step R)) (r : R) → f (inOrder steps r) ≡ inOrder (mapped f steps) (f r)
+unfolding inOrder orElse
+order-mapped f [] r = refl
+order-mapped f (s ∷ steps) r = go (s .passes) (order-mapped f steps r)
+  where
+    go : (t : Bool) → f (inOrder steps r) ≡ inOrder (mapped f steps) (f r) → f (orElse t (s .refusal) (inOrder steps r)) ≡ orElse t (f (s .refusal)) (inOrder (mapped f steps) (f r))
+    go true e = e
+    go false e = refl
+
 -- ---- the two promises
 
 no-way : {X : Type 0} {b : Bool} → b ≡ true → b ≡ false → X

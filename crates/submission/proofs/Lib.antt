@@ -6,4 +6,7 @@ pub mod RaiseLaws
 pub mod GrowLaws
 pub mod StoredLaws
 pub mod SubmitLaws
+pub mod NumberLaws
+pub mod LastLaws
+pub mod Laws
 pub mod Promises

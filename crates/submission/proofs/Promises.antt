@@ -1,34 +1,47 @@
 -- The promises of specs/Promises.antt, each from its law. Assumes nothing.
-use Rattle.submission.specs.Promises.{DoneExactly, RefusedExactly, RefusalKeeps, RepeatKeeps, StoredLast, StoredFound, OthersFound, DuplicateExactly, FullExactly, EditionsRefused}
-use Rattle.submission.proofs.StepLaws as order
+use Rattle.submission.specs.Promises.{AlwaysMeets, SubmittedExactly, DoneExactly, RefusedExactly, EditionsRefused, RefusalKeeps, RepeatKeeps, LastSteps, StoredFound, OthersFound, LeadBoundary, RowBoundary}
+use Rattle.submission.proofs.NumberLaws as number
 use Rattle.submission.proofs.StoredLaws as stored
+use Rattle.submission.proofs.LastLaws as last
+
+pub always-meets : AlwaysMeets
+always-meets = number.always-meets
+
+-- ---- the steps in order
+
+pub submitted-exactly : SubmittedExactly
+submitted-exactly = number.submitted-exactly
 
 pub done-exactly : DoneExactly
-done-exactly = order.done-exactly
+done-exactly = number.done-exactly
 
 pub refused-exactly : RefusedExactly
-refused-exactly = order.refused-exactly
+refused-exactly = number.refused-exactly
+
+pub editions-refused : EditionsRefused
+editions-refused = stored.editions-refused
+
+-- ---- the buffer after
 
 pub refusal-keeps : RefusalKeeps
 refusal-keeps = stored.refusal-keeps
 
 pub repeat-keeps : RepeatKeeps
-repeat-keeps = stored.repeat-keeps
+repeat-keeps = last.repeat-keeps
 
-pub stored-last : StoredLast
-stored-last = stored.stored-last
+pub last-steps : LastSteps
+last-steps = last.last-steps
 
 pub stored-found : StoredFound
-stored-found = stored.stored-found
+stored-found = last.stored-found
 
 pub others-found : OthersFound
-others-found = stored.others-found
+others-found = last.others-found
 
-pub duplicate-exactly : DuplicateExactly
-duplicate-exactly = stored.duplicate-exactly
+-- ---- both sides of a line
 
-pub full-exactly : FullExactly
-full-exactly = stored.full-exactly
+pub lead-boundary : LeadBoundary
+lead-boundary = last.lead-boundary
 
-pub editions-refused : EditionsRefused
-editions-refused = stored.editions-refused
+pub row-boundary : RowBoundary
+row-boundary = last.row-boundary

@@ -1,5 +1,6 @@
--- Which steps have passed, said of the answer: the two promises of the steps, and what the answers 0, 6 and 16 say (specs/Submission.antt). Assumes nothing.
+-- Which steps have passed, said of the answer: what the answers 0 and 16 say (specs/Submission.antt). Assumes nothing.
 use mathlib.Core.Path.{_≡_, refl, sym, ap}
+use mathlib.Core.Logic.{_↔_}
 use mathlib.Core.Bool.{Bool, true, false, not, _&&_, _||_}
 use mathlib.Core.List.{List, [], _∷_}
 use Prim.Native.Nat.{ℕ, _≤_}
@@ -19,9 +20,8 @@ use Rattle.image.specs.Check.{surveyOf, isSound, isHeld}
 use Rattle.submission.specs.declared.Submission.{Submission}
 use Rattle.submission.specs.declared.Submission.the-variants as answers
 use Rattle.submission.specs.Submission.{isStructure, isValidity, agrees, hasRoom, stepsBy, steps, submitted, numberOf}
-use Rattle.submission.specs.Promises.{DoneExactly, RefusedExactly}
 
--- ---- the two promises of the steps
+-- ---- the steps and the answer 0
 
 -- Answers with different numbers differ.
 apart : (x y : Submission) → eqb (numberOf x) (numberOf y) ≡ false → x ≡ y → ⊥
@@ -39,16 +39,12 @@ none-done (s ∷ rest) e =
     let here : Bool = not (eqb (numberOf (s .refusal)) 0) in
     (apart (s .refusal) answers.Done (not-true (eqb (numberOf (s .refusal)) 0) (and-left here (allRefuse rest) e)), none-done rest (and-right here (allRefuse rest) e))
 
--- `DoneExactly`.
-pub done-exactly : DoneExactly
+-- The answer is 0 exactly when every step passes.
+pub done-exactly : (d b : List ℕ) (clock verdict : ℕ) (window : Window)
+    → (submitted d b clock verdict window ≡ answers.Done) ↔ AllPass (steps d b clock verdict window)
 unfolding submitted steps stepsBy
 done-exactly d b clock verdict window =
     order.pass-exactly Submission (steps d b clock verdict window) answers.Done (none-done (steps d b clock verdict window) refl)
-
--- `RefusedExactly`.
-pub refused-exactly : RefusedExactly
-unfolding submitted
-refused-exactly d b clock verdict window x other = order.fail-exactly Submission (steps d b clock verdict window) answers.Done x other
 
 -- ---- what an answer says
 
@@ -74,62 +70,6 @@ done-passed d b clock verdict window e =
       same-bytes = p .1 .1 .1 .1 .1 .1 .1 .1 .0;
       room = p .1 .1 .1 .1 .1 .1 .1 .1 .1 .0;
     }
-
--- An answer that is not the first step's refusal is that of the other steps.
-not-here : (s : Step Submission) (rest : List (Step Submission)) (x : Submission) → eqb (numberOf (s .refusal)) (numberOf x) ≡ false
-    → inOrder (s ∷ rest) answers.Done ≡ x → inOrder rest answers.Done ≡ x
-unfolding inOrder orElse
-not-here s rest x n e = go (s .passes) e
-  where
-    go : (t : Bool) → orElse t (s .refusal) (inOrder rest answers.Done) ≡ x → inOrder rest answers.Done ≡ x
-    go true e = e
-    go false e = absurd (apart (s .refusal) x n e)
-
--- Where the refusal of the only step is answered, the step fails.
-only-here : (t : Bool) (x : Submission) → eqb (numberOf answers.Done) (numberOf x) ≡ false → inOrder (step t x ∷ []) answers.Done ≡ x → t ≡ false
-unfolding inOrder orElse
-only-here true x n e = absurd (apart answers.Done x n e)
-only-here false x n e = refl
-
--- The answer 6 says that the body is not held and has no room.
-pub full-fails : (d b : List ℕ) (clock verdict : ℕ) (window : Window) → submitted d b clock verdict window ≡ answers.Full
-    → (isHeld (surveyOf d (idOf b)) || hasRoom d b (surveyOf d (idOf b))) ≡ false
-unfolding submitted steps stepsBy
-full-fails d b clock verdict window e =
-    let x : Submission = answers.Full in
-    only-here _ x refl
-    (not-here _ _ x refl
-    (not-here _ _ x refl
-    (not-here _ _ x refl
-    (not-here _ _ x refl
-    (not-here _ _ x refl
-    (not-here _ _ x refl
-    (not-here _ _ x refl
-    (not-here _ _ x refl
-    (not-here _ _ x refl e)))))))))
-
--- Where the refusal of the first of two last steps is answered, that step fails.
-first-here : (t u : Bool) → inOrder (step t answers.Duplicate ∷ step u answers.Full ∷ []) answers.Done ≡ answers.Duplicate → t ≡ false
-unfolding inOrder orElse
-first-here true true e = absurd (apart answers.Done answers.Duplicate refl e)
-first-here true false e = absurd (apart answers.Full answers.Duplicate refl e)
-first-here false u e = refl
-
--- The answer 5 says that the body is held with other bytes.
-pub duplicate-fails : (d b : List ℕ) (clock verdict : ℕ) (window : Window) → submitted d b clock verdict window ≡ answers.Duplicate
-    → agrees d b (surveyOf d (idOf b)) ≡ false
-unfolding submitted steps stepsBy
-duplicate-fails d b clock verdict window e =
-    let x : Submission = answers.Duplicate in
-    first-here _ _
-    (not-here _ _ x refl
-    (not-here _ _ x refl
-    (not-here _ _ x refl
-    (not-here _ _ x refl
-    (not-here _ _ x refl
-    (not-here _ _ x refl
-    (not-here _ _ x refl
-    (not-here _ _ x refl e))))))))
 
 -- An image that is not sound is answered with 16, where the verdict is one of the three.
 pub unsound-refused : (d b : List ℕ) (clock verdict : ℕ) (window : Window) → verdict ≤ 2 → surveyOf d (idOf b) ≡ Unsound

@@ -1,4 +1,4 @@
--- What a submission leaves in an image, said of its bodies: the promises about the buffer after it (specs/Promises.antt). Assumes nothing.
+-- What a submission leaves in an image, said of its bodies (specs/Laws.antt). Assumes nothing.
 use mathlib.Core.Path.{_≡_, refl, sym, ap, _∙_, subst}
 use mathlib.Core.Logic.{_↔_, _⊎_, inl, inr, ⊎-elim}
 use mathlib.Core.Bool.{Bool, true, false, _&&_, _||_, false≢true}
@@ -24,14 +24,15 @@ use Rattle.image.proofs.RowLaws.{id-length}
 use Rattle.image.proofs.ListLaws.{same-true, true-same, with-new, with-other}
 use Rattle.image.proofs.HeldLaws.{HeldBody, HeldIs}
 use Rattle.image.proofs.SurveyLaws.{survey-complete}
-use Rattle.image.proofs.Promises.{bodies-once, lookup-exactly, editions-known}
+use Rattle.image.proofs.Laws.{bodies-named, body-found, editions-surveyed}
 use Rattle.submission.specs.declared.Submission.the-variants as answers
 use Rattle.submission.specs.Submission.{agrees, hasRoom, submitted, numberOf, afterOf}
-use Rattle.submission.specs.Promises.{RefusalKeeps, RepeatKeeps, StoredLast, StoredFound, OthersFound, DuplicateExactly, FullExactly, EditionsRefused}
+use Rattle.submission.specs.Promises.{RefusalKeeps, EditionsRefused}
+use Rattle.submission.specs.Laws.{HeldKeeps, StoredLast, BodyStored}
 use Rattle.submission.proofs.ChoiceLaws.{kept-or-done, refused-keeps}
 use Rattle.submission.proofs.GrowLaws.{length-more, bodies-more}
 use Rattle.submission.proofs.SubmitLaws.{after-held, after-new}
-use Rattle.submission.proofs.StepLaws.{done-passed, duplicate-fails, full-fails, unsound-refused}
+use Rattle.submission.proofs.StepLaws.{done-passed, unsound-refused}
 
 -- ---- what the survey finds
 
@@ -64,18 +65,18 @@ survey-repeat d id bs h held = let w = survey-complete d id bs h in go (w .0) (w
 -- `RefusalKeeps`.
 pub refusal-keeps : RefusalKeeps
 unfolding afterOf
-refusal-keeps d b clock verdict window other = refused-keeps d b (isHeld (surveyOf d (idOf b))) (submitted d b clock verdict window) other
+refusal-keeps d b clock verdict window other = refused-keeps d b (isHeld (surveyOf d (idOf b))) (submitted d b clock verdict window) (λ e. other (ap numberOf e))
 
--- `RepeatKeeps`.
-pub repeat-keeps : RepeatKeeps
-repeat-keeps d b clock verdict window bs h held =
+-- `HeldKeeps`.
+pub held-keeps : HeldKeeps
+held-keeps d b clock verdict window bs h held =
     after-held d b clock verdict window (ap isHeld (survey-repeat d (idOf b) bs h held .found))
 
 -- `EditionsRefused`.
 pub editions-refused : EditionsRefused
 editions-refused d b clock verdict window h other =
-    let e : submitted d b clock verdict window ≡ answers.BadImage = unsound-refused d b clock verdict window h (editions-known d (idOf b) other) in
-    (ap numberOf e, refusal-keeps d b clock verdict window (λ f. omega (arith, ap numberOf (sym e ∙ f))))
+    let e : submitted d b clock verdict window ≡ answers.BadImage = unsound-refused d b clock verdict window h (editions-surveyed d (idOf b) other) in
+    (ap numberOf e, refusal-keeps d b clock verdict window (λ f. omega (arith, ap numberOf e, f)))
 
 -- ---- what is stored
 
@@ -97,7 +98,7 @@ stored-last d b clock verdict window bs h e new =
     let more : List (List ℕ) = bs ++ (b ∷ []) in
     let whole : afterOf d b clock verdict window ≡ imageOf more ++ drop (length (imageOf more)) d
     = after-new d b clock verdict window (ap isHeld (survey-new d (idOf b) bs h new)) e
-    ∙ ap (λ (l : List (List ℕ)). imageOf (l ++ (b ∷ [])) ++ drop (length (imageOf (l ++ (b ∷ [])))) d) (bodies-once d bs h) in (
+    ∙ ap (λ (l : List (List ℕ)). imageOf (l ++ (b ∷ [])) ++ drop (length (imageOf (l ++ (b ∷ [])))) d) (bodies-named d bs h) in (
       record {
         bodies = bodies-more bs b (h .bodies) (new-room d b clock verdict window bs h e new .0) (done-passed d b clock verdict window e .reads) new;
         rest = drop (length (imageOf more)) d;
@@ -106,99 +107,21 @@ stored-last d b clock verdict window bs h e new =
       whole,
     )
 
--- `FullExactly`.
-pub full-exactly : FullExactly
-full-exactly d b clock verdict window bs h new way = ⊎-elim done full way
-  where
-    full : submitted d b clock verdict window ≡ answers.Full
-        → (submitted d b clock verdict window ≡ answers.Full) ↔ ((length bs ≡ mostRows) ⊎ (length d < length (imageOf (bs ++ (b ∷ [])))))
-    full e = (λ f. no-room (ltb (length bs) mostRows) refl none, λ f. e)
-      where
-        none : (ltb (length bs) mostRows && leb (length (imageOf bs) + rowSize + length b) (length d)) ≡ false
-        none = subst (λ (v : Survey). (isHeld v || hasRoom d b v) ≡ false) (survey-new d (idOf b) bs h new) (full-fails d b clock verdict window e)
-
-        no-room : (t : Bool) → ltb (length bs) mostRows ≡ t → (t && leb (length (imageOf bs) + rowSize + length b) (length d)) ≡ false
-            → (length bs ≡ mostRows) ⊎ (length d < length (imageOf (bs ++ (b ∷ []))))
-        no-room true x y =
-            inr (let l : length d < length (imageOf bs) + 32 + length b = leb-false (length (imageOf bs) + rowSize + length b) (length d) y in omega (arith, length-more bs b))
-        no-room false x y = inl (omega (arith, ltb-false (length bs) mostRows x, h .bodies .few))
-
-    done : submitted d b clock verdict window ≡ answers.Done
-        → (submitted d b clock verdict window ≡ answers.Full) ↔ ((length bs ≡ mostRows) ⊎ (length d < length (imageOf (bs ++ (b ∷ [])))))
-    done e =
-        let r = new-room d b clock verdict window bs h e new in (
-          λ f. absurd (omega (arith, ap numberOf (sym e ∙ f))),
-          λ f. absurd (⊎-elim (λ x. omega (arith, r .0)) (λ x. omega (arith, r .1, length-more bs b)) f),
-        )
-
--- What two equal options hold is equal.
-some-same : (x y : List ℕ) → some x ≡ some y → x ≡ y
-some-same x y e = cc
-
--- An option that holds something is not empty.
-none-some : (x : List ℕ) → none ≡ some x → ⊥
-none-some x e = let z : _≡_ {A = ℕ} 0 1 = cc in omega arith
-
--- Where the body c is held under the id, the survey tells whether it is b.
-agrees-body : (d b : List ℕ) (bs : List (List ℕ)) (c : List ℕ) → Holds d bs → bodyWith (idOf b) bs ≡ some c → agrees d b (surveyOf d (idOf b)) ≡ same c b
-agrees-body d b bs c h k = let w = survey-complete d (idOf b) bs h in ap (agrees d b) (w .1) ∙ go (w .0) (w .2)
-  where
-    go : (x : Held) → HeldIs d (idOf b) bs x → agrees d b (Sound (length bs) (length (imageOf bs)) x) ≡ same c b
-    go Missing i = absurd (none-some c (sym (i .0) ∙ k))
-    go (Body at len f) i = ap (λ (y : List ℕ). same y b) (some-same (part d at len) c (sym (i .which) ∙ k))
-
--- `DuplicateExactly`.
-pub duplicate-exactly : DuplicateExactly
-duplicate-exactly d b clock verdict window bs c h k way = ⊎-elim done other way
-  where
-    tells : agrees d b (surveyOf d (idOf b)) ≡ same c b
-    tells = agrees-body d b bs c h k
-
-    other : submitted d b clock verdict window ≡ answers.Duplicate → (submitted d b clock verdict window ≡ answers.Duplicate) ↔ (c ≡ b → ⊥)
-    other e = (λ f x. false≢true (sym (duplicate-fails d b clock verdict window e) ∙ tells ∙ true-same c b x), λ f. e)
-
-    done : submitted d b clock verdict window ≡ answers.Done → (submitted d b clock verdict window ≡ answers.Duplicate) ↔ (c ≡ b → ⊥)
-    done e = (
-      λ f. absurd (omega (arith, ap numberOf (sym e ∙ f))),
-      λ f. absurd (f (same-true c b (sym tells ∙ done-passed d b clock verdict window e .same-bytes))),
-    )
-
 -- ---- what a lookup then finds
 
--- `StoredFound`.
-pub stored-found : StoredFound
-stored-found d b clock verdict window bs h e = go (hasId (idOf b) bs) refl
+-- `BodyStored`.
+pub body-stored : BodyStored
+body-stored d b clock verdict window bs h e = go (hasId (idOf b) bs) refl
   where
     go : (t : Bool) → hasId (idOf b) bs ≡ t → bodyFound (afterOf d b clock verdict window) (findOf (afterOf d b clock verdict window) (idOf b)) ≡ some b
     go true held =
         let r : Repeat d (idOf b) bs = survey-repeat d (idOf b) bs h held in
         let s : same (part d (r .at) (r .len)) b ≡ true
         = subst (λ (v : Survey). agrees d b v ≡ true) (r .found) (done-passed d b clock verdict window e .same-bytes) in
-        ap (λ (x : List ℕ). bodyFound x (findOf x (idOf b))) (repeat-keeps d b clock verdict window bs h held)
-        ∙ lookup-exactly d (idOf b) bs h (id-length b)
+        ap (λ (x : List ℕ). bodyFound x (findOf x (idOf b))) (held-keeps d b clock verdict window bs h held)
+        ∙ body-found d (idOf b) bs h (id-length b)
         ∙ r .body .which
         ∙ ap some (same-true (part d (r .at) (r .len)) b s)
     go false new =
-        lookup-exactly (afterOf d b clock verdict window) (idOf b) (bs ++ (b ∷ [])) (stored-last d b clock verdict window bs h e new .0) (id-length b)
+        body-found (afterOf d b clock verdict window) (idOf b) (bs ++ (b ∷ [])) (stored-last d b clock verdict window bs h e new .0) (id-length b)
         ∙ with-new (idOf b) bs b new (true-same (idOf b) (idOf b) refl)
-
--- `OthersFound`.
-pub others-found : OthersFound
-unfolding afterOf
-others-found d b clock verdict window bs id h size other = ⊎-elim kept done (kept-or-done d b (isHeld (surveyOf d (idOf b))) (submitted d b clock verdict window))
-  where
-    kept : afterOf d b clock verdict window ≡ d
-        → bodyFound (afterOf d b clock verdict window) (findOf (afterOf d b clock verdict window) id) ≡ bodyFound d (findOf d id)
-    kept e = ap (λ (x : List ℕ). bodyFound x (findOf x id)) e
-
-    done : submitted d b clock verdict window ≡ answers.Done
-        → bodyFound (afterOf d b clock verdict window) (findOf (afterOf d b clock verdict window) id) ≡ bodyFound d (findOf d id)
-    done e = go (hasId (idOf b) bs) refl
-      where
-        go : (t : Bool) → hasId (idOf b) bs ≡ t
-            → bodyFound (afterOf d b clock verdict window) (findOf (afterOf d b clock verdict window) id) ≡ bodyFound d (findOf d id)
-        go true held = kept (repeat-keeps d b clock verdict window bs h held)
-        go false new =
-            lookup-exactly (afterOf d b clock verdict window) id (bs ++ (b ∷ [])) (stored-last d b clock verdict window bs h e new .0) size
-            ∙ with-other id bs b other
-            ∙ sym (lookup-exactly d id bs h size)

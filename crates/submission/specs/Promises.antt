@@ -1,71 +1,199 @@
--- What is promised of submission, and nothing else. Each statement `NameOfIt` is proved in proofs/Promises.antt as `name-of-it`.
+-- What is promised of submission, and nothing else. Each statement `NameOfIt` is proved in proofs/Promises.antt as `name-of-it`. Document 01, "Submission, in
+-- this order".
 use mathlib.Core.Path.{_≡_}
 use mathlib.Core.Logic.{_↔_, _⊎_}
-use mathlib.Core.Bool.{Bool, true, false}
+use mathlib.Core.Bool.{Bool, true, false, not, _&&_, _||_}
 use mathlib.Core.List.{List, [], _∷_, _++_}
-use mathlib.Core.Option.{some}
+use mathlib.Core.Option.{Option, none, some}
 use Prim.Native.Nat.{ℕ, _+_, _≤_, _<_}
 use lib.ListN.{length, drop}
-use Rattle.cbor_item.specs.Bytes.{AreBytes, same}
+use lib.Dec.{leb, ltb, eqb}
+use Rattle.cbor_item.specs.Bytes.{AreBytes, part, same}
 use Rattle.cbor_item.specs.Head.{numberAt}
+use Rattle.descriptor.specs.Model.{Descriptor, encode}
+use Rattle.descriptor.specs.Allowed.{Allowed}
 use Rattle.steps.specs.declared.Window.{Window}
-use Rattle.steps.specs.Order.{AllPass, FirstFails}
-use Rattle.image.specs.Layout.{imageEdition, modeEdition, rowSize, idSize, mostRows}
-use Rattle.image.specs.Image.{idOf, imageOf, hasId, Holds, bodyWith}
-use Rattle.image.specs.Check.{findOf, bodyFound}
-use Rattle.submission.specs.declared.Submission.{Submission}
-use Rattle.submission.specs.declared.Submission.the-variants as answers
-use Rattle.submission.specs.Submission.{steps, submitted, afterOf, numberOf}
+use Rattle.steps.specs.Order.{Step, step, inOrder, AllPass, FirstFails}
+use Rattle.image.specs.Image.{idOf, imageOf, Holds, bodyWith}
+use Rattle.image.specs.Check.{findOf, numbersOf}
+use Rattle.image.specs.Promises.{answerOf, FoundAt}
+use Rattle.submission.specs.Submission.{submitted, afterOf, numberOf}
 
--- the answer is 0 exactly when every step passes
+-- ---- what is submitted to what
+
+-- what a buffer holds: no list of bodies, or these bodies
+pub data Stored : Type 0 where
+  unsound : Stored
+  bodies : List (List ℕ) → Stored
+
+-- what is submitted: bytes that reading answers with 1, or with 2, or the encoding of an allowed descriptor
+pub data Body : Type 0 where
+  structure : Body
+  validity : Body
+  descriptor : Descriptor → Body
+
+-- the buffer d holds that
+abbrev pub IsStored : List ℕ → Stored → Type 0
+IsStored d unsound = (bs : List (List ℕ)) → Holds d bs → ⊥
+IsStored d (bodies bs) = Holds d bs
+
+-- the bytes b are that
+abbrev pub IsBody : List ℕ → Body → Type 0
+IsBody b structure = answerOf b ≡ 1
+IsBody b validity = answerOf b ≡ 2
+IsBody b (descriptor c) = Allowed c × (b ≡ encode c)
+
+-- the bytes d and b are a buffer that holds s, and x
+pub record Meets (d b : List ℕ) (s : Stored) (x : Body) : Type 0 where
+  pub buffer-bytes : AreBytes d
+  pub body-bytes : AreBytes b
+  pub stored : IsStored d s
+  pub body : IsBody b x
+
+-- every buffer and every body are one of these
+abbrev pub AlwaysMeets : Type 0
+AlwaysMeets = (d b : List ℕ) → AreBytes d → AreBytes b → (s : Stored) × (x : Body) × Meets d b s x
+
+-- ---- the steps in order
+
+-- the body that is held under an id, if any, is these bytes
+abbrev pub isSame : Option (List ℕ) → List ℕ → Bool
+isSame none b = true
+isSame (some c) b = same c b
+
+-- a body is held under an id
+abbrev pub isHeld : Option (List ℕ) → Bool
+isHeld none = false
+isHeld (some c) = true
+
+-- The steps of a submission to a buffer of `room` bytes, each with its number. 15: host verdict above 2. 16. Then 1 or 2 from reading; 2 if not_before > now +
+-- 86,400. 3: verdict 2. 14: now < valid_from, or there is a valid_until and now > valid_until. 4: verdict 1. Then, if the id is held, other bytes 5. 6 exactly
+-- when it is not, and 64 rows are held or the larger image exceeds the buffer.
+abbrev pub stepsFor : Stored → Body → ℕ → ℕ → ℕ → Window → List (Step ℕ)
+stepsFor unsound x room clock verdict window =
+    step (leb verdict 2) 15
+    ∷ step false 16
+    ∷ []
+stepsFor (bodies bs) structure room clock verdict window =
+    step (leb verdict 2) 15
+    ∷ step true 16
+    ∷ step false 1
+    ∷ []
+stepsFor (bodies bs) validity room clock verdict window =
+    step (leb verdict 2) 15
+    ∷ step true 16
+    ∷ step true 1
+    ∷ step false 2
+    ∷ []
+stepsFor (bodies bs) (descriptor c) room clock verdict window =
+    step (leb verdict 2) 15
+    ∷ step true 16
+    ∷ step true 1
+    ∷ step true 2
+    ∷ step (leb (c .payload .notBefore) (clock + 86400)) 2
+    ∷ step (not (eqb verdict 2)) 3
+    ∷ step (leb (window .from) clock && (not (window .bounded) || leb clock (window .until))) 14
+    ∷ step (not (eqb verdict 1)) 4
+    ∷ step (isSame (bodyWith (c .payload .id) bs) (encode c)) 5
+    ∷ step (isHeld (bodyWith (c .payload .id) bs) || (ltb (length bs) 64 && leb (length (imageOf (bs ++ (encode c ∷ [])))) room)) 6
+    ∷ []
+
+-- the number that is answered is that of the first step that fails, or 0
+abbrev pub SubmittedExactly : Type 0
+SubmittedExactly = (d b : List ℕ) (clock verdict : ℕ) (window : Window) (s : Stored) (x : Body) → Meets d b s x
+    → numberOf (submitted d b clock verdict window) ≡ inOrder (stepsFor s x (length d) clock verdict window) 0
+
+-- it is 0 exactly when every step passes
 abbrev pub DoneExactly : Type 0
-DoneExactly = (d b : List ℕ) (clock verdict : ℕ) (window : Window)
-    → (submitted d b clock verdict window ≡ answers.Done) ↔ AllPass (steps d b clock verdict window)
+DoneExactly = (d b : List ℕ) (clock verdict : ℕ) (window : Window) (s : Stored) (x : Body) → Meets d b s x
+    → (numberOf (submitted d b clock verdict window) ≡ 0) ↔ AllPass (stepsFor s x (length d) clock verdict window)
 
--- and another answer exactly when it is the refusal of the first step that fails
+-- and another exactly when that is the number of the first step that fails
 abbrev pub RefusedExactly : Type 0
-RefusedExactly = (d b : List ℕ) (clock verdict : ℕ) (window : Window) (x : Submission) → (x ≡ answers.Done → ⊥)
-    → (submitted d b clock verdict window ≡ x) ↔ FirstFails (steps d b clock verdict window) x
+RefusedExactly = (d b : List ℕ) (clock verdict : ℕ) (window : Window) (s : Stored) (x : Body) → Meets d b s x → (n : ℕ) → (n ≡ 0 → ⊥)
+    → (numberOf (submitted d b clock verdict window) ≡ n) ↔ FirstFails (stepsFor s x (length d) clock verdict window) n
+
+-- an image whose image edition or mode edition is another than 1 is answered 16, and left as it was
+abbrev pub EditionsRefused : Type 0
+EditionsRefused = (d b : List ℕ) (clock verdict : ℕ) (window : Window) → verdict ≤ 2 → (numberAt d 0 2 ≡ 1 → ⊥) ⊎ (numberAt d 2 2 ≡ 1 → ⊥)
+    → (numberOf (submitted d b clock verdict window) ≡ 16) × (afterOf d b clock verdict window ≡ d)
+
+-- ---- the buffer after
 
 -- a refusal leaves every byte as it was
 abbrev pub RefusalKeeps : Type 0
-RefusalKeeps = (d b : List ℕ) (clock verdict : ℕ) (window : Window) → (submitted d b clock verdict window ≡ answers.Done → ⊥) → afterOf d b clock verdict window ≡ d
+RefusalKeeps = (d b : List ℕ) (clock verdict : ℕ) (window : Window) → (numberOf (submitted d b clock verdict window) ≡ 0 → ⊥) → afterOf d b clock verdict window ≡ d
 
--- so does a repeat: the id is held
+-- so does a repeat: a body is held under the id
 abbrev pub RepeatKeeps : Type 0
-RepeatKeeps = (d b : List ℕ) (clock verdict : ℕ) (window : Window) (bs : List (List ℕ)) → Holds d bs → hasId (idOf b) bs ≡ true
+RepeatKeeps = (d b : List ℕ) (clock verdict : ℕ) (window : Window) (bs : List (List ℕ)) (c : List ℕ) → Holds d bs → bodyWith (idOf b) bs ≡ some c
     → afterOf d b clock verdict window ≡ d
 
--- in the image of the bodies bs, an answer 0 under a new id leaves the image of those bodies and the new one, and the old bytes beyond its end
-abbrev pub StoredLast : Type 0
-StoredLast = (d b : List ℕ) (clock verdict : ℕ) (window : Window) (bs : List (List ℕ)) → Holds d bs
-    → submitted d b clock verdict window ≡ answers.Done → hasId (idOf b) bs ≡ false
-    → Holds (afterOf d b clock verdict window) (bs ++ (b ∷ []))
-    × (afterOf d b clock verdict window ≡ imageOf (bs ++ (b ∷ [])) ++ drop (length (imageOf (bs ++ (b ∷ [])))) d)
+-- the number that is answered, and the buffer after it
+abbrev pub Gives : List ℕ → List ℕ → ℕ → ℕ → Window → ℕ → List ℕ → Type 0
+Gives d b clock verdict window n after = (numberOf (submitted d b clock verdict window) ≡ n) × (afterOf d b clock verdict window ≡ after)
+
+-- the bodies bs with that of the descriptor c added last
+abbrev pub larger : List (List ℕ) → Descriptor → List (List ℕ)
+larger bs c = bs ++ (encode c ∷ [])
+
+-- the buffer d holds the bodies bs, c is allowed, and the clock is in the key's window
+pub record Ready (d : List ℕ) (bs : List (List ℕ)) (c : Descriptor) (clock : ℕ) (window : Window) : Type 0 where
+  pub holds : Holds d bs
+  pub allowed : Allowed c
+  pub bytes : AreBytes (encode c)
+  pub opened : window .from ≤ clock
+  pub lasts : window .bounded ≡ true → clock ≤ window .until
+
+-- Where the signature is good and the steps before pass: if the id is held, the same bytes give 0 and no change, other bytes 5; 6 if 64 rows are held or the
+-- larger image exceeds the buffer; else the row and body are added last, and bytes beyond the new end stay.
+pub record LastSteps : Type 0 where
+  pub same-held : (d : List ℕ) (bs : List (List ℕ)) (c : Descriptor) (clock : ℕ) (window : Window)
+      → Ready d bs c clock window → c .payload .notBefore ≤ clock + 86400
+      → bodyWith (c .payload .id) bs ≡ some (encode c)
+      → Gives d (encode c) clock 0 window 0 d
+  pub other-held : (d : List ℕ) (bs : List (List ℕ)) (c : Descriptor) (clock : ℕ) (window : Window)
+      → Ready d bs c clock window → c .payload .notBefore ≤ clock + 86400
+      → (b : List ℕ) → bodyWith (c .payload .id) bs ≡ some b → (b ≡ encode c → ⊥)
+      → Gives d (encode c) clock 0 window 5 d
+  pub no-room : (d : List ℕ) (bs : List (List ℕ)) (c : Descriptor) (clock : ℕ) (window : Window)
+      → Ready d bs c clock window → c .payload .notBefore ≤ clock + 86400
+      → bodyWith (c .payload .id) bs ≡ none → (length bs ≡ 64) ⊎ (length d < length (imageOf (larger bs c)))
+      → Gives d (encode c) clock 0 window 6 d
+  pub stores : (d : List ℕ) (bs : List (List ℕ)) (c : Descriptor) (clock : ℕ) (window : Window)
+      → Ready d bs c clock window → c .payload .notBefore ≤ clock + 86400
+      → bodyWith (c .payload .id) bs ≡ none → length bs < 64 → length (imageOf (larger bs c)) ≤ length d
+      → Gives d (encode c) clock 0 window 0 (imageOf (larger bs c) ++ drop (length (imageOf (larger bs c))) d)
+      × Holds (afterOf d (encode c) clock 0 window) (larger bs c)
 
 -- what was stored is what a lookup then finds
 abbrev pub StoredFound : Type 0
-StoredFound = (d b : List ℕ) (clock verdict : ℕ) (window : Window) (bs : List (List ℕ)) → Holds d bs
-    → submitted d b clock verdict window ≡ answers.Done → bodyFound (afterOf d b clock verdict window) (findOf (afterOf d b clock verdict window) (idOf b)) ≡ some b
+StoredFound = (d b : List ℕ) (clock verdict : ℕ) (window : Window) (bs : List (List ℕ)) → Holds d bs → numberOf (submitted d b clock verdict window) ≡ 0
+    → let after = afterOf d b clock verdict window in
+    FoundAt after b (numbersOf (findOf after (idOf b)))
 
--- and every other id finds what it found before
+-- and every other id is answered what it was answered before, with the same bytes
 abbrev pub OthersFound : Type 0
-OthersFound = (d b : List ℕ) (clock verdict : ℕ) (window : Window) (bs : List (List ℕ)) (id : List ℕ) → Holds d bs → length id ≡ idSize → same (idOf b) id ≡ false
-    → bodyFound (afterOf d b clock verdict window) (findOf (afterOf d b clock verdict window) id) ≡ bodyFound d (findOf d id)
+OthersFound = (d b : List ℕ) (clock verdict : ℕ) (window : Window) (bs : List (List ℕ)) (id : List ℕ) → Holds d bs → length id ≡ 16 → (idOf b ≡ id → ⊥)
+    → let after = afterOf d b clock verdict window in
+    let n = numbersOf (findOf after id) in
+    let m = numbersOf (findOf d id) in
+    (n .answer ≡ m .answer) × (part after (n .«body_at») (n .«body_len») ≡ part d (m .«body_at») (m .«body_len»))
 
--- where the steps before it pass and the body c is held under the id, 5 is answered exactly when c is other bytes
-abbrev pub DuplicateExactly : Type 0
-DuplicateExactly = (d b : List ℕ) (clock verdict : ℕ) (window : Window) (bs : List (List ℕ)) (c : List ℕ) → Holds d bs → bodyWith (idOf b) bs ≡ some c
-    → (submitted d b clock verdict window ≡ answers.Done) ⊎ (submitted d b clock verdict window ≡ answers.Duplicate)
-    → (submitted d b clock verdict window ≡ answers.Duplicate) ↔ (c ≡ b → ⊥)
+-- ---- both sides of a line
 
--- where the steps before it pass and the id is new, 6 is answered exactly when 64 rows are held or the larger image exceeds the buffer
-abbrev pub FullExactly : Type 0
-FullExactly = (d b : List ℕ) (clock verdict : ℕ) (window : Window) (bs : List (List ℕ)) → Holds d bs → hasId (idOf b) bs ≡ false
-    → (submitted d b clock verdict window ≡ answers.Done) ⊎ (submitted d b clock verdict window ≡ answers.Full)
-    → (submitted d b clock verdict window ≡ answers.Full) ↔ ((length bs ≡ mostRows) ⊎ (length d < length (imageOf (bs ++ (b ∷ [])))))
+-- not_before = now + 86,400 is stored; one more gives 2
+abbrev pub LeadBoundary : Type 0
+LeadBoundary = (d : List ℕ) (bs : List (List ℕ)) (c : Descriptor) (clock : ℕ) (window : Window) → Ready d bs c clock window
+    → bodyWith (c .payload .id) bs ≡ none → length bs < 64 → length (imageOf (larger bs c)) ≤ length d
+    → (c .payload .notBefore ≡ clock + 86400
+    → (numberOf (submitted d (encode c) clock 0 window) ≡ 0) × Holds (afterOf d (encode c) clock 0 window) (larger bs c))
+    × (c .payload .notBefore ≡ clock + 86401 → Gives d (encode c) clock 0 window 2 d)
 
--- an image whose image edition or mode edition is another than 1 is refused with 16, and left as it was
-abbrev pub EditionsRefused : Type 0
-EditionsRefused = (d b : List ℕ) (clock verdict : ℕ) (window : Window) → verdict ≤ 2 → (numberAt d 0 2 ≡ imageEdition → ⊥) ⊎ (numberAt d 2 2 ≡ modeEdition → ⊥)
-    → (numberOf (submitted d b clock verdict window) ≡ 16) × (afterOf d b clock verdict window ≡ d)
+-- the 64th row is stored; the 65th gives 6
+abbrev pub RowBoundary : Type 0
+RowBoundary = (d : List ℕ) (bs : List (List ℕ)) (c : Descriptor) (clock : ℕ) (window : Window) → Ready d bs c clock window
+    → c .payload .notBefore ≤ clock + 86400 → bodyWith (c .payload .id) bs ≡ none → length (imageOf (larger bs c)) ≤ length d
+    → (length bs ≡ 63
+    → (numberOf (submitted d (encode c) clock 0 window) ≡ 0) × Holds (afterOf d (encode c) clock 0 window) (larger bs c) × (length (larger bs c) ≡ 64))
+    × (length bs ≡ 64 → Gives d (encode c) clock 0 window 6 d)

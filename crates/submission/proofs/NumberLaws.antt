@@ -1,0 +1,194 @@
+-- The number of a submission is that of the first failing step of specs/Promises.antt. Assumes nothing.
+use mathlib.Core.Path.{_≡_, refl, sym, ap, ap₂, _∙_, subst}
+use mathlib.Core.Bool.{Bool, true, _&&_, false≢true}
+use mathlib.Core.List.{List, [], _∷_}
+use Prim.Native.Nat.{ℕ, _<_}
+use native.Mathlib.Omega.{arith}
+use lib.ListN.{length}
+use lib.Dec.{ltb}
+use borrow.Author.Tests.{ltb-true}
+use Rattle.cbor_item.specs.Bytes.{AreBytes}
+use Rattle.cbor_item.proofs.Tests.{and-left, and-right}
+use Rattle.descriptor.specs.declared.Fields.{Fields}
+use Rattle.descriptor.specs.declared.Reading.{Reading}
+use Rattle.descriptor.specs.declared.Reading.the-variants.{Read, Structure, Validity}
+use Rattle.descriptor.specs.Model.{Descriptor, encode}
+use Rattle.descriptor.specs.Allowed.{Allowed}
+use Rattle.descriptor.specs.Numbers as descriptor
+use Rattle.descriptor.specs.Reader.{readOf}
+use Rattle.descriptor.specs.Answer.{readingOf}
+use Rattle.steps.specs.declared.Window.{Window}
+use Rattle.steps.specs.Order.{Step, orElse, inOrder, NoneIs}
+use Rattle.steps.specs.Key.{isVerdict, isThat, keyOpen}
+use Rattle.steps.proofs.OrderLaws.{mapped, order-mapped}
+use Rattle.steps.proofs.Promises as order
+use Rattle.image.specs.declared.Held.{Held}
+use Rattle.image.specs.declared.Held.the-variants.{Missing, Body}
+use Rattle.image.specs.declared.Survey.{Survey}
+use Rattle.image.specs.declared.Survey.the-variants.{Sound, Unsound}
+use Rattle.image.specs.Image.{reading, isRead, idOf, imageOf, Holds}
+use Rattle.image.specs.Check.{surveyOf, isSound}
+use Rattle.image.specs.Promises.{answerOf}
+use Rattle.image.proofs.HeldLaws.{HeldIs}
+use Rattle.image.proofs.SurveyLaws.{survey-complete}
+use Rattle.image.proofs.Laws.{survey-exactly, body-read, encoding-read}
+use Rattle.submission.specs.declared.Submission.the-variants as answers
+use Rattle.submission.specs.Submission.{stepsBy, steps, submitted, numberOf}
+use Rattle.submission.specs.Promises.{Stored, unsound, bodies, structure, validity, descriptor as encoding, IsStored, IsBody, Meets, AlwaysMeets, stepsFor, SubmittedExactly, DoneExactly, RefusedExactly}
+use Rattle.submission.specs.Promises as promised
+use Rattle.submission.proofs.GrowLaws.{length-more}
+
+-- ---- the number, by what reading answers and what the survey finds
+
+-- The number of the first failing step, by the reading r and the survey v.
+abbrev numberBy : List ℕ → List ℕ → ℕ → ℕ → Window → Reading → Survey → ℕ
+numberBy d b clock verdict window r v = inOrder (mapped numberOf (stepsBy d b clock verdict window r v)) 0
+
+-- The number of a submission is that by the reading of the body and the survey of the buffer for its id.
+number-by : (d b : List ℕ) (clock verdict : ℕ) (window : Window) (r : Reading) (v : Survey) → reading b ≡ r → surveyOf d (idOf b) ≡ v
+    → numberOf (submitted d b clock verdict window) ≡ numberBy d b clock verdict window r v
+unfolding submitted steps
+number-by d b clock verdict window r v e f =
+    order-mapped numberOf (stepsBy d b clock verdict window (reading b) (surveyOf d (idOf b))) answers.Done ∙ ap₂ (numberBy d b clock verdict window) e f
+
+-- A survey that does not call the image sound, whatever reading answers.
+by-unsound : (d b : List ℕ) (clock verdict : ℕ) (window : Window) (r : Reading) (x : promised.Body)
+    → numberBy d b clock verdict window r Unsound ≡ inOrder (stepsFor unsound x (length d) clock verdict window) 0
+unfolding stepsBy inOrder orElse isVerdict
+by-unsound d b clock verdict window r x = refl
+
+-- A body that reading answers with 1.
+by-structure : (d b : List ℕ) (clock verdict : ℕ) (window : Window) (bs : List (List ℕ)) (n end : ℕ) (h : Held)
+    → numberBy d b clock verdict window Structure (Sound n end h) ≡ inOrder (stepsFor (bodies bs) structure (length d) clock verdict window) 0
+unfolding stepsBy inOrder orElse isVerdict
+by-structure d b clock verdict window bs n end h = refl
+
+-- A body that reading answers with 2.
+by-validity : (d b : List ℕ) (clock verdict : ℕ) (window : Window) (bs : List (List ℕ)) (n end : ℕ) (h : Held)
+    → numberBy d b clock verdict window Validity (Sound n end h) ≡ inOrder (stepsFor (bodies bs) validity (length d) clock verdict window) 0
+unfolding stepsBy inOrder orElse isVerdict
+by-validity d b clock verdict window bs n end h = refl
+
+-- The encoding of a descriptor.
+by-descriptor : (d : List ℕ) (clock verdict : ℕ) (window : Window) (bs : List (List ℕ)) (c : Descriptor) (f : Fields) (h : Held)
+    → f .before ≡ c .payload .notBefore → HeldIs d (c .payload .id) bs h
+    → numberBy d (encode c) clock verdict window (Read f) (Sound (length bs) (length (imageOf bs)) h)
+    ≡ inOrder (stepsFor (bodies bs) (encoding c) (length d) clock verdict window) 0
+unfolding stepsBy isVerdict isThat keyOpen
+by-descriptor d clock verdict window bs c f Missing e k = rw (e, k .0, length-more bs (encode c))
+by-descriptor d clock verdict window bs c f (Body at len g) e k = rw (e, k .which)
+
+-- ---- the number of a descriptor
+
+-- The number for an allowed descriptor and a buffer that holds a list of bodies.
+pub number-descriptor : (d : List ℕ) (clock verdict : ℕ) (window : Window) (bs : List (List ℕ)) (c : Descriptor) → Holds d bs → AreBytes (encode c) → Allowed c
+    → numberOf (submitted d (encode c) clock verdict window) ≡ inOrder (stepsFor (bodies bs) (encoding c) (length d) clock verdict window) 0
+number-descriptor d clock verdict window bs c h bytes a =
+    let r = encoding-read c bytes a in
+    let w = survey-complete d (idOf (encode c)) bs h in
+    number-by d (encode c) clock verdict window (Read (r .0)) (Sound (length bs) (length (imageOf bs)) (w .0)) (r .1) (w .1)
+    ∙ by-descriptor d clock verdict window bs c (r .0) (w .0) (r .2) (subst (λ (id : List ℕ). HeldIs d id bs (w .0)) (r .3) (w .2))
+
+-- ---- every case
+
+-- What reading answers with 1.
+structure-read : (b : List ℕ) → answerOf b ≡ 1 → reading b ≡ Structure
+unfolding reading
+structure-read b e = go (readingOf (readOf b)) e
+  where
+    go : (r : Reading) → descriptor.numberOf r ≡ 1 → r ≡ Structure
+    go (Read f) e = absurd (omega arith)
+    go Structure e = refl
+    go Validity e = absurd (omega arith)
+
+-- What reading answers with 2.
+validity-read : (b : List ℕ) → answerOf b ≡ 2 → reading b ≡ Validity
+unfolding reading
+validity-read b e = go (readingOf (readOf b)) e
+  where
+    go : (r : Reading) → descriptor.numberOf r ≡ 2 → r ≡ Validity
+    go (Read f) e = absurd (omega arith)
+    go Structure e = absurd (omega arith)
+    go Validity e = refl
+
+-- A buffer that holds no list of bodies is not sound.
+unsound-survey : (d id : List ℕ) → AreBytes d → ((bs : List (List ℕ)) → Holds d bs → ⊥) → surveyOf d id ≡ Unsound
+unsound-survey d id bytes n = go (surveyOf d id) refl
+  where
+    go : (v : Survey) → surveyOf d id ≡ v → v ≡ Unsound
+    go (Sound k end h) e = let w = survey-exactly d id bytes .0 (ap isSound e) in absurd (n (w .0) (w .1))
+    go Unsound e = refl
+
+-- `SubmittedExactly`.
+pub submitted-exactly : SubmittedExactly
+submitted-exactly d b clock verdict window unsound x m =
+    number-by d b clock verdict window (reading b) Unsound refl (unsound-survey d (idOf b) (m .buffer-bytes) (m .stored)) ∙ by-unsound d b clock verdict window (reading b) x
+submitted-exactly d b clock verdict window (bodies bs) structure m =
+    let w = survey-complete d (idOf b) bs (m .stored) in
+    number-by d b clock verdict window Structure (Sound (length bs) (length (imageOf bs)) (w .0)) (structure-read b (m .body)) (w .1)
+    ∙ by-structure d b clock verdict window bs (length bs) (length (imageOf bs)) (w .0)
+submitted-exactly d b clock verdict window (bodies bs) validity m =
+    let w = survey-complete d (idOf b) bs (m .stored) in
+    number-by d b clock verdict window Validity (Sound (length bs) (length (imageOf bs)) (w .0)) (validity-read b (m .body)) (w .1)
+    ∙ by-validity d b clock verdict window bs (length bs) (length (imageOf bs)) (w .0)
+submitted-exactly d b clock verdict window (bodies bs) (encoding c) m =
+    ap (λ (y : List ℕ). numberOf (submitted d y clock verdict window)) (m .body .1)
+    ∙ number-descriptor d clock verdict window bs c (m .stored) (subst AreBytes (m .body .1) (m .body-bytes)) (m .body .0)
+
+-- Each step's number is above 0.
+abbrev allAbove : List (Step ℕ) → Bool
+allAbove [] = true
+allAbove (s ∷ rest) = ltb 0 (s .refusal) && allAbove rest
+
+-- Then none is 0.
+none-zero : (ss : List (Step ℕ)) → allAbove ss ≡ true → NoneIs 0 ss
+none-zero [] e = tt
+none-zero (s ∷ rest) e =
+    let l : 0 < s .refusal = ltb-true 0 (s .refusal) (and-left (ltb 0 (s .refusal)) (allAbove rest) e) in
+    (λ z. omega arith, none-zero rest (and-right (ltb 0 (s .refusal)) (allAbove rest) e))
+
+-- No step's number is 0.
+never-zero : (s : Stored) (x : promised.Body) (room clock verdict : ℕ) (window : Window) → NoneIs 0 (stepsFor s x room clock verdict window)
+never-zero unsound x room clock verdict window = none-zero (stepsFor unsound x room clock verdict window) refl
+never-zero (bodies bs) structure room clock verdict window = none-zero (stepsFor (bodies bs) structure room clock verdict window) refl
+never-zero (bodies bs) validity room clock verdict window = none-zero (stepsFor (bodies bs) validity room clock verdict window) refl
+never-zero (bodies bs) (encoding c) room clock verdict window = none-zero (stepsFor (bodies bs) (encoding c) room clock verdict window) refl
+
+-- `DoneExactly`.
+pub done-exactly : DoneExactly
+done-exactly d b clock verdict window s x m =
+    let q = order.pass-exactly ℕ (stepsFor s x (length d) clock verdict window) 0 (never-zero s x (length d) clock verdict window) in
+    let e = submitted-exactly d b clock verdict window s x m in
+    (λ z. q .0 (sym e ∙ z), λ a. e ∙ q .1 a)
+
+-- `RefusedExactly`.
+pub refused-exactly : RefusedExactly
+refused-exactly d b clock verdict window s x m n other =
+    let q = order.fail-exactly ℕ (stepsFor s x (length d) clock verdict window) 0 n other in
+    let e = submitted-exactly d b clock verdict window s x m in
+    (λ z. q .0 (sym e ∙ z), λ a. e ∙ q .1 a)
+
+-- What every buffer holds.
+stored-of : (d : List ℕ) → AreBytes d → (s : Stored) × IsStored d s
+stored-of d bytes = go (surveyOf d []) refl
+  where
+    go : (v : Survey) → surveyOf d [] ≡ v → (s : Stored) × IsStored d s
+    go (Sound n end h) e = let w = survey-exactly d [] bytes .0 (ap isSound e) in (bodies (w .0), w .1)
+    go Unsound e = (unsound, λ bs h. false≢true (ap isSound (sym e) ∙ survey-exactly d [] bytes .1 (bs, h)))
+
+-- What every body is.
+body-of : (b : List ℕ) → AreBytes b → (x : promised.Body) × IsBody b x
+unfolding reading
+body-of b bytes = go (reading b) refl
+  where
+    go : (r : Reading) → reading b ≡ r → (x : promised.Body) × IsBody b x
+    go (Read f) e = let w = body-read b bytes (ap isRead e) in (encoding (w .0), (w .1, w .2))
+    go Structure e = (structure, ap descriptor.numberOf e)
+    go Validity e = (validity, ap descriptor.numberOf e)
+
+-- `AlwaysMeets`.
+pub always-meets : AlwaysMeets
+always-meets d b p q =
+    let s = stored-of d p in
+    let x = body-of b q in
+    (s .0, x .0, record { buffer-bytes = p; body-bytes = q; stored = s .1; body = x .1 })

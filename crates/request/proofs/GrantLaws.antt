@@ -26,7 +26,8 @@ use Rattle.descriptor_laws.proofs.Promises.{grants-walk}
 use Rattle.request.specs.declared.search.Matched.{Matched}
 use Rattle.request.specs.declared.search.Matched.the-variants.{Nothing}
 use Rattle.request.specs.Decision.{serves, orNext, firstFrom, matchedOn}
-use Rattle.request.specs.Meaning.{grantServes, firstServing}
+use Rattle.request.specs.Meaning.{firstServing}
+use Rattle.request.specs.Promises.{grantServes}
 use Rattle.request.proofs.MatchLaws.{admits-text}
 
 -- ---- one grant

@@ -8,6 +8,10 @@ pub mod HeldLaws
 pub mod MatchLaws
 pub mod GrantLaws
 pub mod MeaningLaws
-pub mod FirstLaws
+pub mod ServingLaws
+pub mod NumberLaws
+pub mod BoundaryLaws
+pub mod UnderLaws
+pub mod GivenLaws
 pub mod StoredLaws
 pub mod Promises

@@ -2,6 +2,7 @@
 use mathlib.Core.Path.{_≡_, refl, sym, ap, ap₂, _∙_}
 use mathlib.Core.Bool.{Bool, true, false, _&&_}
 use mathlib.Core.List.{List}
+use mathlib.Core.Option.{some}
 use Prim.Native.Nat.{ℕ, _%_, _≤_, _<_}
 use native.Mathlib.Omega.{arith}
 use lib.ListN.{length}
@@ -20,12 +21,11 @@ use Rattle.descriptor.specs.Answer.{fieldsOf, readingOf}
 use Rattle.descriptor_laws.proofs.Promises.{reads-exactly}
 use Rattle.steps.specs.Key.{isVerdict}
 use Rattle.image.specs.Layout.{idSize}
-use Rattle.image.specs.Image.{reading}
+use Rattle.image.specs.Image.{reading, Holds, bodyWith}
 use Rattle.request.specs.declared.search.Matched.{Matched}
 use Rattle.request.specs.Asked.{Asked, highestMode, wellFormed}
-use Rattle.request.specs.Decision.{Facts, factsOf, matchedOn}
+use Rattle.request.specs.Decision.{Facts, factsOf, matchedOn, decisionOf}
 use Rattle.request.specs.Meaning.{firstServing, factsOfDescriptor, decidedFor}
-use Rattle.request.specs.Promises.{DecidedOnDescriptor}
 use Rattle.request.proofs.StepLaws.{decidedBy}
 use Rattle.request.proofs.HeldLaws.{isWell, malformed-first, decided-on-body}
 use Rattle.descriptor_laws.proofs.places.PlaceLaws.{terminal-part, fay-part}
@@ -49,7 +49,7 @@ well-asked q e =
     (omega arith, and-left (resourceOk (q .resource)) last (and-right (isTerminal (q .terminal)) five d))
 
 -- The encoding of an allowed descriptor is read, and what is read is the descriptor's.
-reading-encode : (d : Descriptor) → AreBytes (encode d) → Allowed d → reading (encode d) ≡ Read (fieldsOf (descriptorView 0 d))
+pub reading-encode : (d : Descriptor) → AreBytes (encode d) → Allowed d → reading (encode d) ≡ Read (fieldsOf (descriptorView 0 d))
 unfolding reading
 reading-encode d b o = ap readingOf (reads-exactly (encode d) b (descriptorView 0 d) .1 (d, o, refl, refl))
 
@@ -58,8 +58,9 @@ facts-agree : (d : Descriptor) → Formed d → factsOf (encode d) (fieldsOf (de
 facts-agree d q =
     ap₂ (λ (f t : List ℕ). record { before = d .payload .notBefore; after = d .payload .notAfter; fay = f; terminal = t }) (fay-part d q) (terminal-part d q)
 
--- `DecidedOnDescriptor`.
-pub decided-on-descriptor : DecidedOnDescriptor
+-- A request for a descriptor that a sound image holds is decided on that descriptor, with the meaning of matching.
+pub decided-on-descriptor : (s : List ℕ) (q : Asked) (bs : List (List ℕ)) (d : Descriptor) → Holds s bs → AreBytes (encode d) → Allowed d
+    → bodyWith (q .id) bs ≡ some (encode d) → decisionOf s q ≡ decidedFor q d
 unfolding decidedFor
 decided-on-descriptor s q bs d h b o e =
     decided-on-body s q bs (encode d) f h e (reading-encode d b o) ∙ ap (λ (x : Facts). decidedBy q true true x found) (facts-agree d (o .formed)) ∙ go (isWell q) refl

@@ -1,41 +1,63 @@
 -- The promises of specs/Promises.antt, each from its law. Assumes nothing.
-use Rattle.request.specs.Promises.{GrantedExactly, RefusedExactly, ListedExactly, HeldExactly, DecidedOnDescriptor, NotHeldAnswered, EditionsRefused, GrantedGives, StoredDecided}
-use Rattle.request.proofs.StepLaws as step
+use mathlib.Core.Path.{refl}
+use Rattle.request.specs.Promises.{AskedInOrder, ListedExactly, AllStored, HeldNamed, DecidedExactly, GrantedExactly, RefusedExactly, RefusalsZero, EditionsRefused, GrantedGives, BeginBoundary, EndBoundary, StoredDecided, OthersDecided}
 use Rattle.request.proofs.ListedLaws as listed
-use Rattle.request.proofs.HeldLaws as held
-use Rattle.request.proofs.MeaningLaws as meaning
-use Rattle.request.proofs.FirstLaws as first
+use Rattle.request.proofs.UnderLaws as under
+use Rattle.request.proofs.NumberLaws as numbers
+use Rattle.request.proofs.GivenLaws as given
+use Rattle.request.proofs.BoundaryLaws as boundary
 use Rattle.request.proofs.StoredLaws as stored
 
--- ---- the order of the steps
+-- ---- what is asked
 
-pub granted-exactly : GrantedExactly
-granted-exactly = step.granted-exactly
-
-pub refused-exactly : RefusedExactly
-refused-exactly = step.refused-exactly
-
--- ---- what the steps say
+pub asked-in-order : AskedInOrder
+asked-in-order id fay terminal resource mode clock session revoked verdict window = refl
 
 pub listed-exactly : ListedExactly
 listed-exactly = listed.listed-exactly
 
-pub held-exactly : HeldExactly
-held-exactly = held.held-exactly
+-- ---- what an image holds under an id
 
-pub decided-on-descriptor : DecidedOnDescriptor
-decided-on-descriptor = meaning.decided-on-descriptor
+pub all-stored : AllStored
+all-stored = under.all-stored
 
-pub not-held-answered : NotHeldAnswered
-not-held-answered = held.not-held-answered
+pub held-named : HeldNamed
+held-named = under.held-named
+
+-- ---- the order of the steps
+
+pub decided-exactly : DecidedExactly
+decided-exactly = numbers.decided-exactly
+
+pub granted-exactly : GrantedExactly
+granted-exactly = numbers.granted-exactly
+
+pub refused-exactly : RefusedExactly
+refused-exactly = numbers.refused-exactly
+
+pub refusals-zero : RefusalsZero
+refusals-zero = numbers.refusals-zero
 
 pub editions-refused : EditionsRefused
-editions-refused = held.editions-refused
+editions-refused = numbers.editions-refused
+
+-- ---- what is granted
 
 pub granted-gives : GrantedGives
-granted-gives = first.granted-gives
+granted-gives = given.granted-gives
+
+-- ---- both sides of not_before and not_after
+
+pub begin-boundary : BeginBoundary
+begin-boundary = boundary.begin-boundary
+
+pub end-boundary : EndBoundary
+end-boundary = boundary.end-boundary
 
 -- ---- with submission
 
 pub stored-decided : StoredDecided
 stored-decided = stored.stored-decided
+
+pub others-decided : OthersDecided
+others-decided = stored.others-decided

@@ -1,42 +1,108 @@
--- After a submission answered 0, a request for what was submitted is decided on it. Assumes nothing.
+-- A request after a submission (specs/Promises.antt). Assumes nothing.
 use mathlib.Core.Path.{_≡_, refl, sym, ap, _∙_, subst}
+use mathlib.Core.Logic.{⊎-elim}
 use mathlib.Core.Bool.{Bool, true, false}
 use mathlib.Core.List.{List, [], _∷_, _++_}
-use mathlib.Core.Option.{Option, some}
+use mathlib.Core.Option.{some}
 use Prim.Native.Nat.{ℕ}
-use Rattle.cbor_item.specs.Bytes.{AreBytes}
-use Rattle.descriptor.specs.Model.{Descriptor, encode}
-use Rattle.descriptor.specs.Allowed.{Allowed}
+use native.Mathlib.Omega.{arith}
+use Rattle.cbor_item.specs.Bytes.{AreBytes, part, same}
 use Rattle.steps.specs.declared.Window.{Window}
-use Rattle.image.specs.Image.{reading, isRead, idOf, hasId, Holds, bodyWith}
+use Rattle.image.specs.declared.Held.{Held}
+use Rattle.image.specs.declared.Held.the-variants.{Missing, Body}
+use Rattle.image.specs.Image.{idOf, hasId, Holds, bodyWith}
+use Rattle.image.specs.Check.{surveyOf, isHeld}
+use Rattle.image.proofs.HeldLaws.{HeldIs}
+use Rattle.image.proofs.ListLaws.{same-true, with-other}
 use Rattle.image.proofs.RowLaws.{id-length}
-use Rattle.image.proofs.Promises.{lookup-exactly, row-of-body}
+use Rattle.image.proofs.SurveyLaws.{survey-complete}
+use Rattle.image.proofs.Promises.{sound-exactly, lookup-exactly, row-of-body}
+use Rattle.submission.specs.declared.Submission.{Submission}
 use Rattle.submission.specs.declared.Submission.the-variants as submission
-use Rattle.submission.specs.Submission.{submitted, afterOf}
+use Rattle.submission.specs.Submission.{steps, stepsBy, submitted, afterOf, numberOf}
+use Rattle.submission.proofs.ChoiceLaws.{kept-or-done}
 use Rattle.submission.proofs.StepLaws.{done-passed}
-use Rattle.submission.proofs.Promises.{repeat-keeps, stored-last, stored-found}
+use Rattle.submission.proofs.Promises.{done-exactly, repeat-keeps, stored-last, stored-found}
 use Rattle.request.specs.Asked.{Asked}
-use Rattle.request.specs.Promises.{StoredDecided}
-use Rattle.request.proofs.MeaningLaws.{decided-on-descriptor}
+use Rattle.request.specs.Decision.{decisionOf, numbersOf}
+use Rattle.request.specs.Promises.{held, Under, StoredDecided, OthersDecided}
+use Rattle.request.proofs.HeldLaws.{decided-on-body, decided-on-none}
+use Rattle.request.proofs.NumberLaws.{decided-exactly}
 
-module _ (d b : List ℕ) (clock verdict : ℕ) (window : Window) (bs : List (List ℕ)) (h : Holds d bs) (e : submitted d b clock verdict window ≡ submission.Done) where
-  -- After the submission the buffer holds a list of bodies.
-  holds-after : (cs : List (List ℕ)) × Holds (afterOf d b clock verdict window) cs
-  holds-after = go (hasId (idOf b) bs) refl
-    where
-      go : (t : Bool) → hasId (idOf b) bs ≡ t → (cs : List (List ℕ)) × Holds (afterOf d b clock verdict window) cs
-      go true k = (bs, subst (λ (x : List ℕ). Holds x bs) (sym (repeat-keeps d b clock verdict window bs h k)) h)
-      go false k = (bs ++ (b ∷ []), stored-last d b clock verdict window bs h e k .0)
+-- The number 0 is that of no refusal.
+done-zero : (a : Submission) → numberOf a ≡ 0 → a ≡ submission.Done
+done-zero submission.Done e = refl
+done-zero submission.Structure e = absurd (omega arith)
+done-zero submission.Validity e = absurd (omega arith)
+done-zero submission.UnknownIssuer e = absurd (omega arith)
+done-zero submission.BadSignature e = absurd (omega arith)
+done-zero submission.Duplicate e = absurd (omega arith)
+done-zero submission.Full e = absurd (omega arith)
+done-zero submission.KeyInvalid e = absurd (omega arith)
+done-zero submission.Malformed e = absurd (omega arith)
+done-zero submission.BadImage e = absurd (omega arith)
 
-  -- The body with the id in such a list is what was submitted.
-  body-after : (cs : List (List ℕ)) → Holds (afterOf d b clock verdict window) cs → bodyWith (idOf b) cs ≡ some b
-  body-after cs k = sym (lookup-exactly (afterOf d b clock verdict window) (idOf b) cs k (id-length b)) ∙ stored-found d b clock verdict window bs h e
+module _ (d b : List ℕ) (clock verdict : ℕ) (window : Window) (e : submitted d b clock verdict window ≡ submission.Done) where
+  -- A submission is answered 0 to an image of bodies alone.
+  done-holds : AreBytes d → (bs : List (List ℕ)) × Holds d bs
+  unfolding steps stepsBy
+  done-holds bytes = sound-exactly d (idOf b) bytes .0 (done-exactly d b clock verdict window .0 e .1 .0)
+
+  module _ (bs : List (List ℕ)) (h : Holds d bs) where
+    -- After it the buffer holds a list of bodies, in which every other id finds what it found before.
+    holds-after : (cs : List (List ℕ)) × Holds (afterOf d b clock verdict window) cs
+        × ((id : List ℕ) → same (idOf b) id ≡ false → bodyWith id cs ≡ bodyWith id bs)
+    holds-after = go (hasId (idOf b) bs) refl
+      where
+        go : (t : Bool) → hasId (idOf b) bs ≡ t
+            → (cs : List (List ℕ)) × Holds (afterOf d b clock verdict window) cs × ((id : List ℕ) → same (idOf b) id ≡ false → bodyWith id cs ≡ bodyWith id bs)
+        go true k = (bs, subst (λ (x : List ℕ). Holds x bs) (sym (repeat-keeps d b clock verdict window bs h k)) h, λ id o. refl)
+        go false k = (bs ++ (b ∷ []), stored-last d b clock verdict window bs h e k .0, λ id o. with-other id bs b o)
+
+    -- The body with the id of what was submitted is what was submitted.
+    body-after : (cs : List (List ℕ)) → Holds (afterOf d b clock verdict window) cs → bodyWith (idOf b) cs ≡ some b
+    body-after cs k = sym (lookup-exactly (afterOf d b clock verdict window) (idOf b) cs k (id-length b)) ∙ stored-found d b clock verdict window bs h e
 
 -- `StoredDecided`.
 pub stored-decided : StoredDecided
-stored-decided d b clock verdict window bs q h a e i =
-    let w = holds-after d b clock verdict window bs h e in
+stored-decided d b clock verdict window q bytes a z i =
+    let e = done-zero (submitted d b clock verdict window) z in
+    let w = done-holds d b clock verdict window e bytes in
+    let k = holds-after d b clock verdict window e (w .0) (w .1) in
     let r = row-of-body b a (done-passed d b clock verdict window e .reads) in
-    let found : bodyWith (q .id) (w .0) ≡ some (encode (r .0))
-    = ap (λ (id : List ℕ). bodyWith id (w .0)) i ∙ body-after d b clock verdict window bs h e (w .0) (w .1) ∙ ap some (r .2) in
-    (r .0, r .1, r .2, decided-on-descriptor (afterOf d b clock verdict window) q (w .0) (r .0) (w .1) (subst AreBytes (r .2) a) (r .1) found)
+    let u : Under (afterOf d b clock verdict window) (q .id) (held (r .0)) = record {
+      bodies = k .0;
+      image = k .1;
+      found = ap (λ (id : List ℕ). bodyWith id (k .0)) i ∙ body-after d b clock verdict window e (w .0) (w .1) (k .0) (k .1) ∙ ap some (r .2);
+      allowed = r .1;
+      bytes = subst AreBytes (r .2) a;
+    } in
+    (r .0, r .2, u, decided-exactly (afterOf d b clock verdict window) q (held (r .0)) u)
+
+-- Two images in which the id finds the same body decide a request for it alike.
+found-alike : (s t : List ℕ) (q : Asked) (bs cs : List (List ℕ)) → Holds s bs → Holds t cs → bodyWith (q .id) cs ≡ bodyWith (q .id) bs → decisionOf t q ≡ decisionOf s q
+found-alike s t q bs cs h k e = let w = survey-complete s (q .id) bs h in go (w .0) (w .2)
+  where
+    go : (x : Held) → HeldIs s (q .id) bs x → decisionOf t q ≡ decisionOf s q
+    go Missing i = decided-on-none t q cs k (e ∙ i .0) ∙ sym (decided-on-none s q bs h (i .0))
+    go (Body at len f) i = decided-on-body t q cs (part s at len) f k (e ∙ i .which) (i .reads) ∙ sym (decided-on-body s q bs (part s at len) f h (i .which) (i .reads))
+
+-- An id that is not that of the body is another as a test.
+other-test : (x y : List ℕ) → (y ≡ x → ⊥) → same x y ≡ false
+other-test x y n = go (same x y) refl
+  where
+    go : (t : Bool) → same x y ≡ t → t ≡ false
+    go true e = absurd (n (sym (same-true x y e)))
+    go false e = refl
+
+-- `OthersDecided`.
+pub others-decided : OthersDecided
+unfolding afterOf
+others-decided d b clock verdict window q bytes other =
+    ap numbersOf (⊎-elim (λ e. ap (λ (x : List ℕ). decisionOf x q) e) done (kept-or-done d b (isHeld (surveyOf d (idOf b))) (submitted d b clock verdict window)))
+  where
+    done : submitted d b clock verdict window ≡ submission.Done → decisionOf (afterOf d b clock verdict window) q ≡ decisionOf d q
+    done e =
+        let w = done-holds d b clock verdict window e bytes in
+        let k = holds-after d b clock verdict window e (w .0) (w .1) in
+        found-alike d (afterOf d b clock verdict window) q (w .0) (k .0) (w .1) (k .1) (k .2 (q .id) (other-test (idOf b) (q .id) other))

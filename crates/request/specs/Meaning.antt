@@ -1,12 +1,10 @@
--- What a request is decided on, in document 01's words: the descriptor itself, with `resource`'s matching. Nothing here knows of bytes.
-use mathlib.Core.Bool.{Bool, true, _&&_}
+-- The decision on a descriptor, in the code's own answers. A reader of the promises does not need this page. Nothing here knows of bytes.
+use mathlib.Core.Bool.{true}
 use mathlib.Core.List.{List, [], _∷_}
 use Prim.Native.Nat.{ℕ, _+_}
-use lib.Dec.{eqb}
-use Rattle.resource.specs.Pattern.{Path, admits}
-use Rattle.resource.specs.Text.{pathOf, patternOf}
-use Rattle.descriptor.specs.Model.{Grant, Descriptor, pairCount}
-use Rattle.descriptor.specs.Allowed.{isIn}
+use Rattle.resource.specs.Pattern.{Path}
+use Rattle.resource.specs.Text.{pathOf}
+use Rattle.descriptor.specs.Model.{Grant, Descriptor}
 use Rattle.descriptor.specs.View.{maskOf}
 use Rattle.steps.specs.Order.{inOrder}
 use Rattle.request.specs.declared.Decision.{Decision}
@@ -14,10 +12,7 @@ use Rattle.request.specs.declared.search.Matched.{Matched}
 use Rattle.request.specs.declared.search.Matched.the-variants.{Nothing}
 use Rattle.request.specs.Asked.{Asked}
 use Rattle.request.specs.Decision.{Facts, orNext, stepsBy, grantedBy}
-
--- a grant serves: it has the mode, a matching pattern and no constraint pair
-abbrev pub grantServes : Grant → ℕ → Path → Bool
-grantServes g m x = isIn m (g .modes) && (admits (patternOf (g .pattern)) x && eqb (pairCount (g .constraints)) 0)
+use Rattle.request.specs.Promises.{grantServes}
 
 -- the first grant that serves, with its place, counted from i, and the mask of its modes
 abbrev pub firstServing : List Grant → ℕ → Path → ℕ → Matched

@@ -1,0 +1,60 @@
+-- Both sides of not_before and not_after (specs/Promises.antt). Assumes nothing.
+use mathlib.Core.Path.{_≡_, refl, sym, ap, _∙_}
+use mathlib.Core.Logic.{inl, inr}
+use mathlib.Core.Bool.{true, false, not}
+use mathlib.Core.List.{List}
+use Prim.Native.Nat.{ℕ, _≤_, _<_}
+use native.Mathlib.Omega.{arith}
+use borrow.Author.Tests.{le-leb, lt-leb, lt-ltb, le-ltb}
+use Rattle.descriptor.specs.Model.{Descriptor}
+use Rattle.steps.proofs.OrderLaws.{passes, fails, decided}
+use Rattle.request.specs.Asked.{Asked, isListed}
+use Rattle.request.specs.Decision.{decisionOf, numbersOf}
+use Rattle.request.specs.Promises.{held, Under, refusal, formed, stepsFor, grantedFor, BeginBoundary, EndBoundary}
+use Rattle.request.proofs.StepLaws.{NotBy, not-by}
+use Rattle.request.proofs.NumberLaws.{answerOf, decided-exactly}
+
+module _ (s : List ℕ) (q : Asked) (d : Descriptor) (u : Under s (q .id) (held d)) where
+  -- The answer is no number but 0 that only steps have which pass.
+  not-answered : (n : ℕ) → (0 ≡ n → ⊥) → NotBy n (stepsFor q (held d)) → numbersOf (decisionOf s q) .answer ≡ n → ⊥
+  not-answered n other k z =
+      let e = sym (ap answerOf (decided-exactly s q (held d) u)) ∙ z in
+      other (sym (ap answerOf (not-by n (stepsFor q (held d)) (grantedFor q (held d)) k e .1)) ∙ e)
+
+  -- Where now is not before not_before it is not 9, and where now is before not_after not 10.
+  inside-period : d .payload .notBefore ≤ q .clock → q .clock < d .payload .notAfter
+      → (numbersOf (decisionOf s q) .answer ≡ 9 → ⊥) × (numbersOf (decisionOf s q) .answer ≡ 10 → ⊥)
+  inside-period h k = (
+    not-answered 9 (λ e. omega arith)
+        (inr refl, (inr refl, (inr refl, (inr refl, (inl (le-leb _ _ h), (inr refl, (inr refl, (inr refl, (inr refl, (inr refl, (inr refl, tt))))))))))),
+    not-answered 10 (λ e. omega arith)
+        (inr refl, (inr refl, (inr refl, (inr refl, (inr refl, (inl (lt-ltb _ _ k), (inr refl, (inr refl, (inr refl, (inr refl, (inr refl, tt))))))))))),
+  )
+
+  module _ (w : formed q ≡ true) (l : isListed (q .revoked) (q .id) ≡ false) where
+    -- Before not_before the answer is 9, where the steps before pass.
+    too-early : q .clock < d .payload .notBefore → numbersOf (decisionOf s q) ≡ refusal 9
+    too-early h = decided-exactly s q (held d) u ∙ sym (decided (passes w (passes refl (passes refl (passes (ap not l) (fails (lt-leb _ _ h)))))))
+
+    -- From not_after on it is 10.
+    too-late : d .payload .notAfter ≤ q .clock → numbersOf (decisionOf s q) ≡ refusal 10
+    too-late h =
+        let b : d .payload .notBefore < d .payload .notAfter = u .allowed .formed .payload .lasts in
+        decided-exactly s q (held d) u
+        ∙ sym (decided (passes w (passes refl (passes refl (passes (ap not l) (passes (le-leb (d .payload .notBefore) (q .clock) (omega arith)) (fails (le-ltb _ _ h))))))))
+
+-- `BeginBoundary`.
+pub begin-boundary : BeginBoundary
+begin-boundary s q d u =
+    let b : d .payload .notBefore < d .payload .notAfter = u .allowed .formed .payload .lasts in (
+      λ e. inside-period s q d u (omega arith) (omega arith),
+      λ e w l. too-early s q d u w l (omega arith),
+    )
+
+-- `EndBoundary`.
+pub end-boundary : EndBoundary
+end-boundary s q d u =
+    let b : d .payload .notBefore < d .payload .notAfter = u .allowed .formed .payload .lasts in (
+      λ e. inside-period s q d u (omega arith) (omega arith),
+      λ e w l. too-late s q d u w l (omega arith),
+    )

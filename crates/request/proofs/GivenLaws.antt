@@ -1,0 +1,36 @@
+-- What is granted (specs/Promises.antt). Assumes nothing.
+use mathlib.Core.Path.{_≡_, refl, sym, _∙_, subst}
+use mathlib.Core.Bool.{false≢true}
+use mathlib.Core.List.{List, [], _∷_}
+use Prim.Native.Nat.{ℕ, _+_, min}
+use Rattle.resource.specs.Text.{pathOf}
+use Rattle.descriptor.specs.Model.{Grant, Descriptor}
+use Rattle.descriptor.specs.Modes.{unionOf}
+use Rattle.steps.specs.Order.{AllPass}
+use Rattle.request.specs.declared.DecisionNumbers.{DecisionNumbers}
+use Rattle.request.specs.Asked.{Asked}
+use Rattle.request.specs.Promises.{Stored, badImage, notHeld, held, Under, stepsFor, grantedFor, FirstServes, GrantedGives}
+use Rattle.request.proofs.StepLaws.{passed-end}
+use Rattle.request.proofs.ServingLaws.{first-serves}
+use Rattle.request.proofs.NumberLaws.{decided-exactly, granted-exactly}
+use Rattle.request.proofs.UnderLaws.{all-stored}
+
+-- What the numbers n grant to q, on a descriptor that is held.
+abbrev Given : List ℕ → Asked → DecisionNumbers → Type 0
+Given s q n = (d : Descriptor) × Under s (q .id) (held d) × ((g : Grant) × FirstServes q d (n .grant) g × (n .mask ≡ unionOf (g ∷ [])))
+    × (n .«session_end» ≡ min (d .payload .notAfter) (q .clock + q .session))
+
+-- Where every step passes, what follows them is given.
+given : (s : List ℕ) (q : Asked) (x : Stored) → Under s (q .id) x → AllPass (stepsFor q x) → Given s q (grantedFor q x)
+given s q badImage u a = absurd (false≢true (a .1 .0))
+given s q notHeld u a = absurd (false≢true (a .1 .1 .0))
+given s q (held d) u a =
+    let w = first-serves (d .payload .grants) (q .mode) (pathOf (q .resource)) (a .1 .1 .1 .1 .1 .1 .1 .1 .0) in
+    (d, u, (w .grant, record { place = w .place; there = w .there; serves = w .serves; first = w .first }, w .mine), refl)
+
+-- `GrantedGives`.
+pub granted-gives : GrantedGives
+granted-gives s q b z =
+    let k = all-stored s (q .id) b in
+    let a = granted-exactly s q (k .0) (k .1) .0 z in
+    subst (Given s q) (sym (decided-exactly s q (k .0) (k .1) ∙ passed-end (stepsFor q (k .0)) (grantedFor q (k .0)) a)) (given s q (k .0) (k .1) a)

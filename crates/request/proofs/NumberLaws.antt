@@ -1,0 +1,155 @@
+-- The numbers that a request is answered, by what the image holds under the id (specs/Promises.antt): the order of the steps. Assumes nothing.
+use mathlib.Core.Path.{_≡_, refl, sym, ap, _∙_}
+use mathlib.Core.Logic.{inr}
+use mathlib.Core.Bool.{Bool, true, false, false≢true}
+use mathlib.Core.List.{List, []}
+use Prim.Native.Nat.{ℕ, _+_}
+use native.Mathlib.Omega.{arith}
+use Rattle.resource.specs.Pattern.{Path}
+use Rattle.resource.specs.Text.{resourceOk, pathOf}
+use Rattle.descriptor.specs.Model.{Grant, Descriptor}
+use Rattle.descriptor.specs.Allowed.{Allowed}
+use Rattle.steps.specs.Order.{Step, orElse, inOrder}
+use Rattle.steps.specs.Key.{isVerdict, isThat, keyOpen}
+use Rattle.steps.proofs.MapLaws.{mapped, in-order-map}
+use Rattle.steps.proofs.Promises as order
+use Rattle.image.specs.declared.Survey.{Survey}
+use Rattle.image.specs.declared.Survey.the-variants.{Sound, Unsound}
+use Rattle.image.specs.Check.{surveyOf, isSound}
+use Rattle.image.proofs.Promises.{sound-exactly, editions-known}
+use Rattle.request.specs.declared.Decision.{Decision}
+use Rattle.request.specs.declared.Decision.the-variants as answers
+use Rattle.request.specs.declared.DecisionNumbers.{DecisionNumbers}
+use Rattle.request.specs.declared.search.Matched.{Matched}
+use Rattle.request.specs.declared.search.Matched.the-variants.{IsAt, Nothing}
+use Rattle.request.specs.Asked.{Asked, wellFormed}
+use Rattle.request.specs.Decision.{Facts, laterSteps, stepsBy, grantedBy, factsIn, decisionOf, numbersOf}
+use Rattle.request.specs.Meaning.{firstServing, factsOfDescriptor, decidedFor}
+use Rattle.request.specs.Promises.{Stored, badImage, notHeld, held, Under, refusal, formed, someServes, firstPlace, firstMask, stepsFor, grantedFor, answerFor, DecidedExactly, GrantedExactly, RefusedExactly, RefusalsZero, EditionsRefused}
+use Rattle.request.proofs.StepLaws.{decidedBy, same-end, passed-end, NotBy, not-by}
+use Rattle.request.proofs.HeldLaws.{decided-in, missingBy, decided-on-none, none-with}
+use Rattle.request.proofs.MeaningLaws.{decided-on-descriptor}
+use Rattle.request.proofs.ServingLaws.{some-found, found-first}
+
+-- the answer's number
+abbrev pub answerOf : DecisionNumbers → ℕ
+answerOf n = n .answer
+
+-- ---- the numbers by what is held
+
+-- The numbers of a decision by the steps are those of the steps with their numbers.
+by-numbers : (q : Asked) (sound there : Bool) (x : Facts) (m : Matched)
+    → numbersOf (decidedBy q sound there x m) ≡ inOrder (mapped numbersOf (stepsBy q sound there x m)) (numbersOf (grantedBy q x m))
+by-numbers q sound there x m = in-order-map numbersOf (stepsBy q sound there x m) (grantedBy q x m)
+
+-- An image that a survey calls unsound.
+unsound-numbers : (s : List ℕ) (q : Asked) → surveyOf s (q .id) ≡ Unsound → numbersOf (decisionOf s q) ≡ answerFor q badImage
+unfolding inOrder orElse stepsBy laterSteps wellFormed isVerdict resourceOk
+unsound-numbers s q e = ap numbersOf (decided-in s q Unsound e) ∙ by-numbers q false false (factsIn s Unsound) Nothing
+
+-- A sound image that does not hold the id.
+missing-numbers : (q : Asked) → numbersOf (missingBy q) ≡ answerFor q notHeld
+unfolding inOrder orElse stepsBy laterSteps wellFormed isVerdict resourceOk
+missing-numbers q = by-numbers q true false (record { before = 0; after = 0; fay = []; terminal = [] }) Nothing
+
+-- What is granted on a descriptor, where some grant of it serves.
+granted-numbers : (q : Asked) (d : Descriptor) → Allowed d → someServes (d .payload .grants) (q .mode) (pathOf (q .resource)) ≡ true
+    → numbersOf (grantedBy q (factsOfDescriptor d) (firstServing (d .payload .grants) (q .mode) (pathOf (q .resource)) 0)) ≡ grantedFor q (held d)
+unfolding grantedBy
+granted-numbers q d a e =
+    let gs : List Grant = d .payload .grants in
+    let x : Path = pathOf (q .resource) in
+    let z : 0 + firstPlace gs (q .mode) x ≡ firstPlace gs (q .mode) x = omega arith in
+    ap (λ (m : Matched). numbersOf (grantedBy q (factsOfDescriptor d) m)) (found-first gs (q .mode) x 0 (a .formed .payload .grants) e)
+    ∙ ap (λ (i : ℕ). numbersOf (grantedBy q (factsOfDescriptor d) (IsAt i (firstMask gs (q .mode) x)))) z
+
+-- The steps on a descriptor that is held, with their numbers.
+held-steps : (q : Asked) (d : Descriptor)
+    → mapped numbersOf (stepsBy q true true (factsOfDescriptor d) (firstServing (d .payload .grants) (q .mode) (pathOf (q .resource)) 0)) ≡ stepsFor q (held d)
+unfolding stepsBy laterSteps wellFormed isVerdict isThat keyOpen resourceOk
+held-steps q d = rw (some-found (d .payload .grants) (q .mode) (pathOf (q .resource)) 0)
+
+-- A descriptor that is held.
+held-numbers : (q : Asked) (d : Descriptor) → Allowed d → numbersOf (decidedFor q d) ≡ answerFor q (held d)
+unfolding decidedFor
+held-numbers q d a =
+    let m : Matched = firstServing (d .payload .grants) (q .mode) (pathOf (q .resource)) 0 in
+    let r : DecisionNumbers = numbersOf (grantedBy q (factsOfDescriptor d) m) in
+    by-numbers q true true (factsOfDescriptor d) m
+    ∙ ap (λ (steps : List (Step DecisionNumbers)). inOrder steps r) (held-steps q d)
+    ∙ same-end (stepsFor q (held d)) r (grantedFor q (held d)) (λ p. granted-numbers q d a (p .1 .1 .1 .1 .1 .1 .1 .1 .0))
+
+-- Bytes that are no image are called unsound.
+unsound : (s id : List ℕ) → Under s id badImage → surveyOf s id ≡ Unsound
+unsound s id u = go (surveyOf s id) refl
+  where
+    go : (v : Survey) → surveyOf s id ≡ v → surveyOf s id ≡ Unsound
+    go (Sound n end h) e = let w = sound-exactly s id (u .0) .0 (ap isSound e) in absurd (u .1 (w .0) (w .1))
+    go Unsound e = e
+
+-- `DecidedExactly`.
+pub decided-exactly : DecidedExactly
+decided-exactly s q badImage u = unsound-numbers s q (unsound s (q .id) u)
+decided-exactly s q notHeld u = ap numbersOf (decided-on-none s q (u .0) (u .1) (none-with s (q .id) (u .0) (u .1) (u .2))) ∙ missing-numbers q
+decided-exactly s q (held d) u =
+    ap numbersOf (decided-on-descriptor s q (u .bodies) d (u .image) (u .bytes) (u .allowed) (u .found)) ∙ held-numbers q d (u .allowed)
+
+-- ---- the order of the steps
+
+-- No step has the number 0.
+never-zero : (q : Asked) (x : Stored) → NotBy 0 (stepsFor q x)
+never-zero q badImage = (inr refl, (inr refl, tt))
+never-zero q notHeld = (inr refl, (inr refl, (inr refl, tt)))
+never-zero q (held d) =
+    (inr refl, (inr refl, (inr refl, (inr refl, (inr refl, (inr refl, (inr refl, (inr refl, (inr refl, (inr refl, (inr refl, tt)))))))))))
+
+-- What follows the steps has the number 0.
+pub granted-zero : (q : Asked) (x : Stored) → grantedFor q x .answer ≡ 0
+granted-zero q badImage = refl
+granted-zero q notHeld = refl
+granted-zero q (held d) = refl
+
+-- `GrantedExactly`.
+pub granted-exactly : GrantedExactly
+granted-exactly s q x u =
+    let e = ap answerOf (decided-exactly s q x u) in (
+      λ z. not-by 0 (stepsFor q x) (grantedFor q x) (never-zero q x) (sym e ∙ z) .0,
+      λ a. e ∙ ap answerOf (passed-end (stepsFor q x) (grantedFor q x) a) ∙ granted-zero q x,
+    )
+
+-- The numbers of a decision other than 0 are a refusal's.
+refused-zero : (x : Decision) → (numbersOf x .answer ≡ 0 → ⊥) → numbersOf x ≡ refusal (numbersOf x .answer)
+refused-zero (answers.Granted grant mask end) n = absurd (n refl)
+refused-zero answers.Malformed n = refl
+refused-zero answers.BadImage n = refl
+refused-zero answers.NotFound n = refl
+refused-zero answers.Revoked n = refl
+refused-zero answers.NotYetValid n = refl
+refused-zero answers.Expired n = refl
+refused-zero answers.SubjectMismatch n = refl
+refused-zero answers.TerminalMismatch n = refl
+refused-zero answers.Insufficient n = refl
+refused-zero answers.KeyInvalid n = refl
+refused-zero answers.BadSignature n = refl
+
+-- `RefusalsZero`.
+pub refusals-zero : RefusalsZero
+refusals-zero s q n = refused-zero (decisionOf s q) n
+
+-- `RefusedExactly`.
+pub refused-exactly : RefusedExactly
+refused-exactly s q x n u other =
+    let e = decided-exactly s q x u in
+    let k = order.fail-exactly DecisionNumbers (stepsFor q x) (grantedFor q x) (refusal n) (λ f. other (ap answerOf f ∙ granted-zero q x)) in (
+      λ z. k .0 (sym e ∙ refusals-zero s q (λ f. other (sym z ∙ f)) ∙ ap refusal z),
+      λ f. ap answerOf (e ∙ k .1 f),
+    )
+
+-- `EditionsRefused`.
+pub editions-refused : EditionsRefused
+unfolding inOrder orElse
+editions-refused s q other =
+    let e = unsound-numbers s q (editions-known s (q .id) other) in (
+      λ z. false≢true (not-by 0 (stepsFor q badImage) (refusal 0) (never-zero q badImage) (sym (ap answerOf e) ∙ z) .0 .1 .0),
+      λ f. e ∙ rw f,
+    )

@@ -20,14 +20,3 @@ body-read = read.body-read
 
 pub encoding-read : EncodingRead
 encoding-read = read.encoding-read
-
--- ---- the names by which `request` cites three of them
-
-pub editions-known : EditionsSurveyed
-editions-known = editions-surveyed
-
-pub lookup-exactly : BodyFound
-lookup-exactly = body-found
-
-pub row-of-body : BodyRead
-row-of-body = body-read

@@ -14,7 +14,7 @@ use Rattle.descriptor.specs.Reader.{Seen, Answer, read, structure, validity, re
 use Rattle.descriptor.specs.Numbers.{numberOf}
 use Rattle.descriptor.specs.View.{descriptorView}
 use Rattle.descriptor.specs.Answer.{fieldsOf, readingOf}
-use Rattle.descriptor_laws.proofs.Promises.{reads-exactly}
+use Rattle.descriptor_laws.proofs.Laws.{reads-exactly}
 use Rattle.descriptor_laws.proofs.grants.MaskLaws.{grants-union}
 use Rattle.descriptor_laws.proofs.places.PlaceLaws.{id-part}
 use Rattle.image.specs.Layout.{idSize}

@@ -18,7 +18,7 @@ use Rattle.descriptor.specs.Reader.{GrantSeen, grantAt, Seen, Answer, read, str
 use Rattle.descriptor.specs.View.{descriptorView}
 use Rattle.descriptor.specs.Answer.{fieldsOf, readingOf}
 use Rattle.descriptor.specs.Numbers.{numberOf}
-use Rattle.descriptor_laws.proofs.Promises.{reads-exactly}
+use Rattle.descriptor_laws.proofs.Laws.{reads-exactly}
 use Rattle.descriptor_laws.proofs.places.PlaceLaws.{terminal-part}
 use Rattle.descriptor.proofs.WordLaws.{terminal-length}
 use Rattle.descriptor.proofs.ValueSteps.{lent-levels}

@@ -18,7 +18,7 @@ use Rattle.descriptor.specs.Allowed.{Formed}
 use Rattle.descriptor.specs.Reader.{GrantSeen, Sum, pairsOf, grantAt}
 use Rattle.descriptor.specs.View.{maskOf, countOf, sumFrom, grantView, grantsView, descriptorView}
 use Rattle.descriptor.specs.View.{grantPlace}
-use Rattle.descriptor_laws.proofs.Promises.{grants-walk}
+use Rattle.descriptor_laws.proofs.Laws.{grants-walk}
 use Rattle.descriptor_laws.proofs.grants.WalkLaws.{dropped, count-of, pairs-of}
 use Rattle.narrowing.specs.Escape.{Rule}
 use Rattle.narrowing.specs.Narrow.{ruleOf, rulesAt, rulesIn, unconstrained}

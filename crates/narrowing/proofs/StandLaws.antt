@@ -14,7 +14,7 @@ use Rattle.descriptor.specs.Allowed.{GrantOk, All, Formed}
 use Rattle.descriptor.specs.Reader.{GrantSeen, Seen, read, readOf}
 use Rattle.descriptor.specs.View.{grantView, descriptorView}
 use Rattle.descriptor.specs.View.{grantPlace}
-use Rattle.descriptor_laws.proofs.Promises.{reads-exactly, grants-walk}
+use Rattle.descriptor_laws.proofs.Laws.{reads-exactly, grants-walk}
 use Rattle.descriptor_laws.proofs.grants.GrantsLaws.{OwnedBy}
 use Rattle.descriptor_laws.proofs.grants.WalkLaws.{dropped, count-of}
 use Rattle.descriptor_laws.proofs.grants.LevelLaws.{part-below}

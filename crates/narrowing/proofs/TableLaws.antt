@@ -21,7 +21,7 @@ use Rattle.descriptor.specs.Reader.{GrantSeen, grantAt, Seen, Answer, read, str
 use Rattle.descriptor.specs.View.{grantsView}
 use Rattle.descriptor.specs.Answer.{readingOf}
 use Rattle.descriptor.proofs.GrantBounds.{pattern-room}
-use Rattle.descriptor_laws.proofs.Promises.{reads-exactly}
+use Rattle.descriptor_laws.proofs.Laws.{reads-exactly}
 use Rattle.narrowing.specs.declared.range.Range.{Range}
 use Rattle.narrowing.specs.Range.{most, textRange, marked}
 use Rattle.narrowing.specs.Scan.{notedAt, rowStart, rowEnd, rowMask, rowLevels, notedRows, InPlace, Filled, lowestFrom, zeros, escapeIn, EscapeOf}

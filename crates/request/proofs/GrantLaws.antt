@@ -22,7 +22,7 @@ use Rattle.descriptor_laws.proofs.grants.GrantsLaws.{OwnedBy}
 use Rattle.descriptor_laws.proofs.grants.WalkLaws.{dropped, count-of, pairs-of}
 use Rattle.descriptor_laws.proofs.grants.LevelLaws.{same-agree, part-below}
 use Rattle.descriptor_laws.proofs.places.PlaceLaws.{terminal-part}
-use Rattle.descriptor_laws.proofs.Promises.{grants-walk}
+use Rattle.descriptor_laws.proofs.Laws.{grants-walk}
 use Rattle.request.specs.declared.search.Matched.{Matched}
 use Rattle.request.specs.declared.search.Matched.the-variants.{Nothing}
 use Rattle.request.specs.Decision.{serves, orNext, firstFrom, matchedOn}

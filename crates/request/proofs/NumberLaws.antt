@@ -16,7 +16,7 @@ use Rattle.steps.proofs.Promises as order
 use Rattle.image.specs.declared.Survey.{Survey}
 use Rattle.image.specs.declared.Survey.the-variants.{Sound, Unsound}
 use Rattle.image.specs.Check.{surveyOf, isSound}
-use Rattle.image.proofs.Promises.{sound-exactly, editions-known}
+use Rattle.image.proofs.Laws.{survey-exactly, editions-surveyed}
 use Rattle.request.specs.declared.Decision.{Decision}
 use Rattle.request.specs.declared.Decision.the-variants as answers
 use Rattle.request.specs.declared.DecisionNumbers.{DecisionNumbers}
@@ -84,7 +84,7 @@ unsound : (s id : List ℕ) → Under s id badImage → surveyOf s id ≡ Unsoun
 unsound s id u = go (surveyOf s id) refl
   where
     go : (v : Survey) → surveyOf s id ≡ v → surveyOf s id ≡ Unsound
-    go (Sound n end h) e = let w = sound-exactly s id (u .0) .0 (ap isSound e) in absurd (u .1 (w .0) (w .1))
+    go (Sound n end h) e = let w = survey-exactly s id (u .0) .0 (ap isSound e) in absurd (u .1 (w .0) (w .1))
     go Unsound e = e
 
 -- `DecidedExactly`.
@@ -149,7 +149,7 @@ refused-exactly s q x n u other =
 pub editions-refused : EditionsRefused
 unfolding inOrder orElse
 editions-refused s q other =
-    let e = unsound-numbers s q (editions-known s (q .id) other) in (
+    let e = unsound-numbers s q (editions-surveyed s (q .id) other) in (
       λ z. false≢true (not-by 0 (stepsFor q badImage) (refusal 0) (never-zero q badImage) (sym (ap answerOf e) ∙ z) .0 .1 .0),
       λ f. e ∙ rw f,
     )

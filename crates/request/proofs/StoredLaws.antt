@@ -16,13 +16,13 @@ use Rattle.image.proofs.HeldLaws.{HeldIs}
 use Rattle.image.proofs.ListLaws.{same-true, with-other}
 use Rattle.image.proofs.RowLaws.{id-length}
 use Rattle.image.proofs.SurveyLaws.{survey-complete}
-use Rattle.image.proofs.Promises.{sound-exactly, lookup-exactly, row-of-body}
+use Rattle.image.proofs.Laws.{survey-exactly, body-found, body-read}
 use Rattle.submission.specs.declared.Submission.{Submission}
 use Rattle.submission.specs.declared.Submission.the-variants as submission
 use Rattle.submission.specs.Submission.{steps, stepsBy, submitted, afterOf, numberOf}
 use Rattle.submission.proofs.ChoiceLaws.{kept-or-done}
 use Rattle.submission.proofs.StepLaws.{done-passed}
-use Rattle.submission.proofs.Promises.{done-exactly, repeat-keeps, stored-last, stored-found}
+use Rattle.submission.proofs.Laws.{held-keeps, stored-last, body-stored}
 use Rattle.request.specs.Asked.{Asked}
 use Rattle.request.specs.Decision.{decisionOf, numbersOf}
 use Rattle.request.specs.Promises.{held, Under, StoredDecided, OthersDecided}
@@ -46,7 +46,7 @@ module _ (d b : List ℕ) (clock verdict : ℕ) (window : Window) (e : submitted
   -- A submission is answered 0 to an image of bodies alone.
   done-holds : AreBytes d → (bs : List (List ℕ)) × Holds d bs
   unfolding steps stepsBy
-  done-holds bytes = sound-exactly d (idOf b) bytes .0 (done-exactly d b clock verdict window .0 e .1 .0)
+  done-holds bytes = survey-exactly d (idOf b) bytes .0 (done-passed d b clock verdict window e .sound)
 
   module _ (bs : List (List ℕ)) (h : Holds d bs) where
     -- After it the buffer holds a list of bodies, in which every other id finds what it found before.
@@ -56,12 +56,12 @@ module _ (d b : List ℕ) (clock verdict : ℕ) (window : Window) (e : submitted
       where
         go : (t : Bool) → hasId (idOf b) bs ≡ t
             → (cs : List (List ℕ)) × Holds (afterOf d b clock verdict window) cs × ((id : List ℕ) → same (idOf b) id ≡ false → bodyWith id cs ≡ bodyWith id bs)
-        go true k = (bs, subst (λ (x : List ℕ). Holds x bs) (sym (repeat-keeps d b clock verdict window bs h k)) h, λ id o. refl)
+        go true k = (bs, subst (λ (x : List ℕ). Holds x bs) (sym (held-keeps d b clock verdict window bs h k)) h, λ id o. refl)
         go false k = (bs ++ (b ∷ []), stored-last d b clock verdict window bs h e k .0, λ id o. with-other id bs b o)
 
     -- The body with the id of what was submitted is what was submitted.
     body-after : (cs : List (List ℕ)) → Holds (afterOf d b clock verdict window) cs → bodyWith (idOf b) cs ≡ some b
-    body-after cs k = sym (lookup-exactly (afterOf d b clock verdict window) (idOf b) cs k (id-length b)) ∙ stored-found d b clock verdict window bs h e
+    body-after cs k = sym (body-found (afterOf d b clock verdict window) (idOf b) cs k (id-length b)) ∙ body-stored d b clock verdict window bs h e
 
 -- `StoredDecided`.
 pub stored-decided : StoredDecided
@@ -69,7 +69,7 @@ stored-decided d b clock verdict window q bytes a z i =
     let e = done-zero (submitted d b clock verdict window) z in
     let w = done-holds d b clock verdict window e bytes in
     let k = holds-after d b clock verdict window e (w .0) (w .1) in
-    let r = row-of-body b a (done-passed d b clock verdict window e .reads) in
+    let r = body-read b a (done-passed d b clock verdict window e .reads) in
     let u : Under (afterOf d b clock verdict window) (q .id) (held (r .0)) = record {
       bodies = k .0;
       image = k .1;

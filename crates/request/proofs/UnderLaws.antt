@@ -23,7 +23,7 @@ use Rattle.image.proofs.HeldLaws.{HeldIs}
 use Rattle.image.proofs.ListLaws.{same-true, is-read}
 use Rattle.image.proofs.RowLaws.{id-read}
 use Rattle.image.proofs.SurveyLaws.{survey-complete, survey-sound, survey-held}
-use Rattle.image.proofs.Promises.{sound-exactly, row-of-body}
+use Rattle.image.proofs.Laws.{survey-exactly, body-read}
 use Rattle.request.specs.Promises.{Stored, badImage, notHeld, held, Under, AllStored, HeldNamed}
 use Rattle.request.proofs.HeldLaws.{some-same, none-some}
 use Rattle.request.proofs.MeaningLaws.{reading-encode}
@@ -45,12 +45,12 @@ pub all-stored : AllStored
 all-stored s id b = go (surveyOf s id) refl
   where
     go : (v : Survey) → surveyOf s id ≡ v → (x : Stored) × Under s id x
-    go Unsound e = (badImage, (b, λ bs h. false≢true (sym (ap isSound e) ∙ sound-exactly s id b .1 (bs, h))))
+    go Unsound e = (badImage, (b, λ bs h. false≢true (sym (ap isSound e) ∙ survey-exactly s id b .1 (bs, h))))
     go (Sound n end Missing) e = (notHeld, (bodiesOf s, survey-sound s id b n end Missing e .0, survey-held s id b n end Missing e .1))
     go (Sound n end (Body at len f)) e =
         let h = survey-held s id b n end (Body at len f) e in
         let bytes : AreBytes (part s at len) = part-bytes s at len b in
-        let r = row-of-body (part s at len) bytes (is-read (part s at len) f (h .reads)) in (
+        let r = body-read (part s at len) bytes (is-read (part s at len) f (h .reads)) in (
           held (r .0),
           record {
             bodies = bodiesOf s;

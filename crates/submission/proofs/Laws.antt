@@ -10,11 +10,3 @@ stored-last = stored.stored-last
 
 pub body-stored : BodyStored
 body-stored = stored.body-stored
-
--- ---- the names by which `request` cites two of them
-
-pub repeat-keeps : HeldKeeps
-repeat-keeps = held-keeps
-
-pub stored-found : BodyStored
-stored-found = body-stored

@@ -50,6 +50,7 @@ done-exactly d b clock verdict window =
 
 -- What is known of a body where every step has passed.
 pub record Passed (d b : List ℕ) : Type 0 where
+  pub sound : isSound (surveyOf d (idOf b)) ≡ true
   pub reads : isRead (reading b) ≡ true
   pub same-bytes : agrees d b (surveyOf d (idOf b)) ≡ true
   pub room : (isHeld (surveyOf d (idOf b)) || hasRoom d b (surveyOf d (idOf b))) ≡ true
@@ -60,12 +61,13 @@ read-passes (Read f) s v = refl
 read-passes Structure s v = s
 read-passes Validity s v = v
 
--- The answer 0 says that the body reads, is not held with other bytes, and is held or has room.
+-- The answer 0 says that the image is sound, and that the body reads, is not held with other bytes, and is held or has room.
 pub done-passed : (d b : List ℕ) (clock verdict : ℕ) (window : Window) → submitted d b clock verdict window ≡ answers.Done → Passed d b
 unfolding steps stepsBy
 done-passed d b clock verdict window e =
     let p : AllPass (steps d b clock verdict window) = done-exactly d b clock verdict window .0 e in
     record {
+      sound = p .1 .0;
       reads = read-passes (reading b) (p .1 .1 .0) (p .1 .1 .1 .0);
       same-bytes = p .1 .1 .1 .1 .1 .1 .1 .1 .0;
       room = p .1 .1 .1 .1 .1 .1 .1 .1 .1 .0;

@@ -38,6 +38,8 @@ fn main() {
     narrowing_of("narrowing, 256, one covers all", one_covers_all());
     narrowing_of("narrowing, 256, long, another order", long_other_order());
     narrowing_of("narrowing, 256, two cover each", two_cover_each());
+    narrowing_of("narrowing, 256 equal, a mode each", equal_mode_each());
+    narrowing_of("narrowing, 256 unlike, a mode each", unlike_mode_each());
     for rows in [1, 63] {
         submission(rows);
     }
@@ -223,6 +225,29 @@ fn two_cover_each() -> (Model, Model) {
     (
         readers((0..256).map(|n| format!("{}{stars}/x{:02x}/{}", start(n), n / 2, tail(n)))),
         readers((0..128).map(|n| format!("{names}/x{n:02x}/**"))),
+    )
+}
+
+/// A parent of 256 long grants that all match each of the child's: 255 equal ones to read and one to write. The child's are to read and to write.
+fn equal_mode_each() -> (Model, Model) {
+    let stars = levels("*", 22);
+    mode_each((0..255).map(|_| stars.clone()))
+}
+
+/// The same, with another pattern for each grant to read.
+fn unlike_mode_each() -> (Model, Model) {
+    let stars = levels("*", 14);
+    mode_each((0..255).map(|n| format!("{}{stars}", start(n))))
+}
+
+/// A parent that grants reading by each of the patterns and writing by one, and a child of 240 grants to do both.
+fn mode_each(patterns: impl Iterator<Item = String>) -> (Model, Model) {
+    let reading = patterns.map(|levels| grant(&["read"], &levels));
+    let writing = grant(&["write"], &levels("*", 22));
+    let both = grant(&["read", "write"], &levels("n", 22));
+    (
+        Model::with(reading.chain([writing]).collect()),
+        Model::with(vec![both; 240]),
     )
 }
 

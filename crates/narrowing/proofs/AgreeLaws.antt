@@ -22,24 +22,14 @@ use Rattle.narrowing.specs.declared.search.Found.{Found}
 use Rattle.narrowing.specs.declared.search.Found.the-variants.{At, Nothing}
 use Rattle.narrowing.specs.Escape.{Rule, covered, canTake, escapesWith, deepest, choose, least, isSome, orZero, fewestNames, lowestMode, ruleAt, firstRule}
 use Rattle.narrowing.specs.Range.{most}
-use Rattle.narrowing.specs.Scan.{below, notedAt, lacksAt, foundAt, lowestFrom, zeros, escapeIn, orNext, firstIn}
+use Rattle.narrowing.specs.Scan.{below, notedAt, lacksAt, foundAt, lowestFrom, lowestIn, zeros, escapeIn, orNext, firstIn}
 use Rattle.narrowing.specs.Narrow.{ruleOf, rulesIn, answerAt}
+use Rattle.narrowing.proofs.LeastLaws.{least-fails, least-same}
 use Rattle.narrowing.proofs.SearchLaws.{with-last}
 use Rattle.narrowing.proofs.NotedLaws.{patternWith, Fits, Stand, no-more, one-more, stand-count, stand-few, zeros-lack, noted-covered, other-covered}
 use Rattle.narrowing.proofs.StandLaws.{read-stands}
 
 -- ---- searches
-
--- where every number fails, none is found
-least-fails : (f : ℕ → Bool) (a n : ℕ) → ((j : ℕ) → a ≤ j → f j ≡ false) → least f a n ≡ none
-least-fails f a zero h = refl
-least-fails f a (suc n) h = rw (h a (omega arith), least-fails f (suc a) n (λ j l. h j (omega arith)))
-
--- tests that agree find the same
-least-same : (f g : ℕ → Bool) (a n : ℕ) → ((j : ℕ) → a ≤ j → j < a + n → f j ≡ g j) → least f a n ≡ least g a n
-least-same f g a zero h = refl
-least-same f g a (suc n) h =
-    ap₂ (λ (b : Bool) (o : Option ℕ). choose b (some a) o) (h a (omega arith) (omega arith)) (least-same f g (suc a) n (λ j i l. h j (omega arith) (omega arith)))
 
 -- where nothing changes from c on, a search that has c finds the same as a longer one
 least-longer : (f : ℕ → Bool) (c : ℕ) → ((j : ℕ) → c ≤ j → f j ≡ f c) → (a n e : ℕ) → c ≤ a + n → least f a (suc n) ≡ least f a (suc (n + e))
@@ -47,7 +37,7 @@ least-longer f c s a zero e h = go (f a) refl
   where
     go : (b : Bool) → f a ≡ b → choose b (some a) none ≡ choose b (some a) (least f (suc a) (0 + e))
     go true q = refl
-    go false q = sym (least-fails f (suc a) (0 + e) (λ j l. s j (omega arith) ∙ sym (s a (omega arith)) ∙ q))
+    go false q = sym (least-fails f (suc a) (0 + e) (λ j l g. s j (omega arith) ∙ sym (s a (omega arith)) ∙ q))
 least-longer f c s a (suc n) e h =
     let i : suc (n + e) ≡ suc n + e = omega arith in
     ap (choose (f a) (some a)) (least-longer f c s (suc a) n e (omega arith) ∙ ap (least f (suc a)) i)
@@ -71,9 +61,9 @@ flat-search f g n z s =
     let two : 2 + n ≡ suc (suc n) = omega arith in
     ap (least f 0) two ∙ ap₂ (λ (b : Bool) (o : Option ℕ). choose b (some 0) o) z (least-fails f 1 (suc n) later)
   where
-    later : (j : ℕ) → 1 ≤ j → f j ≡ false
-    later zero i = absurd (omega arith)
-    later (suc j) i = s j
+    later : (j : ℕ) → 1 ≤ j → j < 1 + suc n → f j ≡ false
+    later zero i l = absurd (omega arith)
+    later (suc j) i l = s j
 
 -- ---- one rule and one mode
 
@@ -100,7 +90,7 @@ fewest-flat qs g d m t e o =
 -- in a mode that the rule does not have no path escapes by it
 fewest-off : (qs : List Rule) (g : Rule) (m : ℕ) → hasMode (g .mask) m ≡ false → fewestNames qs g m ≡ none
 unfolding fewestNames
-fewest-off qs g m o = least-fails (escapesWith qs g m) 0 (2 + deepest qs) (λ j l. rw o)
+fewest-off qs g m o = least-fails (escapesWith qs g m) 0 (2 + deepest qs) (λ j l g. rw o)
 
 -- ---- the modes of a rule
 
@@ -165,7 +155,7 @@ masks-found qs g d t few false e = lowest-found qs g d 0 1 0 4 (λ m o. fewest-f
 -- the escape found in the bytes is that of the rule
 escape-found : (s t u p : List ℕ) (mask : ℕ) {n at : ℕ} {qs : List Rule} → Stand s t n at qs
     → escapeIn s at n (same t u) p mask ≡ foundOf qs (ruleWith mask u p) (lowestMode qs (ruleWith mask u p))
-unfolding escapeIn
+unfolding escapeIn lowestIn
 escape-found s t u p mask {n = n} {at = at} {qs = qs} st =
     masks-found qs (ruleWith mask u p) (cond (same t u) (notedAt s p zeros n at) zeros) (told s t u p st (same t u) refl) (stand-few s t st)
     (endsDeep (levelsOf (levels p))) refl

@@ -19,24 +19,48 @@ use Rattle.descriptor.specs.Reader.{hasMode}
 use Rattle.narrowing.specs.declared.range.Range.{Range}
 use Rattle.narrowing.specs.declared.search.Found.the-variants.{Nothing}
 use Rattle.narrowing.specs.Escape.{least}
-use Rattle.narrowing.specs.Range.{inRange, most, textRange, marked}
-use Rattle.narrowing.specs.Scan.{rowStart, rowEnd, rowMask, rowLevels, notedRows, lacksAt, lowestFrom, zeros, escapeIn, EscapeOf, fullRange, rowCovers}
+use Rattle.narrowing.specs.Range.{inRange, most, textRange}
+use Rattle.narrowing.specs.Scan.{rowStart, rowEnd, rowMask, rowLevels, notedRows, lacksAt, lowestFrom, lowestIn, zeros, EscapeOf, fullRange, rowCovers}
+use Rattle.narrowing.proofs.LeastLaws.{least-fails}
 use Rattle.narrowing.proofs.RangeLaws.{marked-at, or-mode}
-use Rattle.narrowing.proofs.TableLaws.{rows-length}
+use Rattle.narrowing.proofs.TableLaws.{rows-length, escape-nothing}
+
+-- ---- the numbers of names that can be taken
+
+-- the least
+abbrev pub low : Bool → ℕ
+low true = 1
+low false = 0
+
+-- the first that is too many
+abbrev pub high : Bool → ℕ
+high true = most
+high false = 1
+
+-- the search looks at these
+pub lowest-in : (deep : Bool) (d : List ℕ) (mask : ℕ) → lowestIn deep d mask ≡ lowestFrom d mask (low deep) (high deep) 0 4
+unfolding lowestIn
+lowest-in true d mask = refl
+lowest-in false d mask = refl
+
+-- there is one
+pub low-high : (deep : Bool) → low deep ≤ high deep
+low-high true = omega arith
+low-high false = omega arith
+
+-- no mask is noted for more
+pub high-most : (deep : Bool) → high deep ≤ most
+high-most true = omega arith
+high-most false = omega arith
 
 -- ---- nothing is lacking
 
--- where no number passes the search finds none
-least-fails : (f : ℕ → Bool) (a n : ℕ) → ((k : ℕ) → a ≤ k → k < a + n → f k ≡ false) → least f a n ≡ none
-least-fails f a zero h = refl
-least-fails f a (suc n) h = rw (h a (omega arith) (omega arith)) (least-fails f (suc a) n (λ k l g. h k (omega arith) (omega arith)))
-
 -- the masks from `from` on and below `to` have the mode
-abbrev Have : List ℕ → ℕ → ℕ → ℕ → Type 0
+abbrev pub Have : List ℕ → ℕ → ℕ → ℕ → Type 0
 Have d from to m = (k : ℕ) → from ≤ k → k < to → hasMode (getD d k 0) m ≡ true
 
 -- where they have each mode of the mask, nothing is found
-lowest-nothing : (d : List ℕ) (mask from to : ℕ) → from ≤ to → ((m : ℕ) → hasMode mask m ≡ true → Have d from to m)
+pub lowest-nothing : (d : List ℕ) (mask from to : ℕ) → from ≤ to → ((m : ℕ) → hasMode mask m ≡ true → Have d from to m)
     → (m n : ℕ) → lowestFrom d mask from to m n ≡ Nothing
 unfolding lowestFrom
 lowest-nothing d mask from to l h m zero = refl
@@ -56,42 +80,48 @@ kept true x y m h = or-mode x y m ∙ ap (λ (c : Bool). c || hasMode y m) h
 kept false x y m h = h
 
 -- a test or true is true
-or-true : (a : Bool) → (a || true) ≡ true
+pub or-true : (a : Bool) → (a || true) ≡ true
 or-true true = refl
 or-true false = refl
 
 -- a mask joined of two has the modes of the second
-joined : (x y m : ℕ) → hasMode y m ≡ true → hasMode (bitOr x y) m ≡ true
+pub joined : (x y m : ℕ) → hasMode y m ≡ true → hasMode (bitOr x y) m ≡ true
 joined x y m h = or-mode x y m ∙ ap (λ (c : Bool). hasMode x m || c) h ∙ or-true (hasMode x m)
 
--- after n rows are noted the mask at k has a mode of a row whose range has k
-rows-have : (s t p d : List ℕ) (i m k : ℕ) → k < length d → hasMode (rowMask t i) m ≡ true → inRange (textRange (rowLevels s t i) p) k ≡ true
-    → (n : ℕ) → i < n → hasMode (getD (notedRows s t p d n) k 0) m ≡ true
-unfolding notedRows
-rows-have s t p d i m k l h r zero g = absurd (omega arith)
-rows-have s t p d i m k l h r (suc n) g = go (decLt i n) (λ e. rows-have s t p d i m k l h r n e)
-  where
-    x : List ℕ
-    x = notedRows s t p d n
+module _ (s t p d : List ℕ) (m k : ℕ) (l : k < length d) where
+  -- the mask at k, after one row more is noted
+  row-at : (n : ℕ) → (let x = getD (notedRows s t p d n) k 0 in
+      getD (notedRows s t p d (suc n)) k 0 ≡ cond (inRange (textRange (rowLevels s t n) p) k) (bitOr x (rowMask t n)) x)
+  unfolding notedRows
+  row-at n = marked-at (notedRows s t p d n) (textRange (rowLevels s t n) p) (rowMask t n) k (omega (arith, rows-length s t p d n))
 
-    q : Range
-    q = textRange (rowLevels s t n) p
+  -- it keeps its modes
+  row-keeps : (n : ℕ) → hasMode (getD (notedRows s t p d n) k 0) m ≡ true → hasMode (getD (notedRows s t p d (suc n)) k 0) m ≡ true
+  row-keeps n h =
+      ap (λ (y : ℕ). hasMode y m) (row-at n) ∙ kept (inRange (textRange (rowLevels s t n) p) k) (getD (notedRows s t p d n) k 0) (rowMask t n) m h
 
-    one : getD (marked 0 x q (rowMask t n)) k 0 ≡ cond (inRange q k) (bitOr (getD x k 0) (rowMask t n)) (getD x k 0)
-    one = marked-at x q (rowMask t n) k (omega (arith, rows-length s t p d n))
+  -- after n rows it has the modes that it had after i of them
+  pub rows-keep : (i : ℕ) → hasMode (getD (notedRows s t p d i) k 0) m ≡ true → (n : ℕ) → i ≤ n → hasMode (getD (notedRows s t p d n) k 0) m ≡ true
+  rows-keep i h zero g = let this : i ≡ 0 = omega arith in subst (λ (j : ℕ). hasMode (getD (notedRows s t p d j) k 0) m ≡ true) this h
+  rows-keep i h (suc n) g = go (decLt i (suc n)) (λ e. row-keeps n (rows-keep i h n e))
+    where
+      go : Dec (i < suc n) → (i ≤ n → hasMode (getD (notedRows s t p d (suc n)) k 0) m ≡ true) → hasMode (getD (notedRows s t p d (suc n)) k 0) m ≡ true
+      go (yes e) f = f (omega arith)
+      go (no e) f = let this : i ≡ suc n = omega arith in subst (λ (j : ℕ). hasMode (getD (notedRows s t p d j) k 0) m ≡ true) this h
 
-    go : Dec (i < n) → (i < n → hasMode (getD x k 0) m ≡ true) → hasMode (getD (marked 0 x q (rowMask t n)) k 0) m ≡ true
-    go (yes e) f = ap (λ (y : ℕ). hasMode y m) one ∙ kept (inRange q k) (getD x k 0) (rowMask t n) m (f e)
-    go (no e) f =
-        let this : i ≡ n = omega arith in
-        let within : inRange q k ≡ true = subst (λ (j : ℕ). inRange (textRange (rowLevels s t j) p) k ≡ true) this r in
-        ap (λ (y : ℕ). hasMode y m) one ∙ ap (λ (b : Bool). hasMode (cond b (bitOr (getD x k 0) (rowMask t n)) (getD x k 0)) m) within
-        ∙ joined (getD x k 0) (rowMask t n) m (subst (λ (j : ℕ). hasMode (rowMask t j) m ≡ true) this h)
+  -- after n rows it has a mode of a row whose range has k
+  rows-have : (i : ℕ) → hasMode (rowMask t i) m ≡ true → inRange (textRange (rowLevels s t i) p) k ≡ true
+      → (n : ℕ) → i < n → hasMode (getD (notedRows s t p d n) k 0) m ≡ true
+  rows-have i h r n g =
+      let x : ℕ = getD (notedRows s t p d i) k 0 in
+      let here : hasMode (getD (notedRows s t p d (suc i)) k 0) m ≡ true =
+      ap (λ (y : ℕ). hasMode y m) (row-at i) ∙ ap (λ (b : Bool). hasMode (cond b (bitOr x (rowMask t i)) x) m) r ∙ joined x (rowMask t i) m h in
+      rows-keep (suc i) here n g
 
 -- ---- a row that covers alone
 
 -- the numbers between two that the range has
-between : (r : Range) (a b k : ℕ) → (r .lo ≤ a) × (b ≤ r .hi) → a ≤ k → k < b → inRange r k ≡ true
+pub between : (r : Range) (a b k : ℕ) → (r .lo ≤ a) × (b ≤ r .hi) → a ≤ k → k < b → inRange r k ≡ true
 between r a b k e f g = rw (le-leb (r .lo) k (omega (arith, e .0)), lt-ltb k (r .hi) (omega (arith, e .1)))
 
 -- with "**" those that it can take
@@ -105,32 +135,36 @@ full-flat r e =
     let lo : r .lo ≡ 0 = eqb-true (r .lo) 0 (and-left (eqb (r .lo) 0) (ltb 0 (r .hi)) e) in
     (omega arith, leb-true 1 (r .hi) (and-right (eqb (r .lo) 0) (ltb 0 (r .hi)) e))
 
+-- a full range has them
+pub full-all : (r : Range) (deep : Bool) → fullRange r deep ≡ true → (r .lo ≤ low deep) × (high deep ≤ r .hi)
+full-all r true e = full-deep r e
+full-all r false e = full-flat r e
+
 module _ (s t p : List ℕ) (i n mask : ℕ) (l : i < n) (e : bitOr (rowMask t i) mask ≡ rowMask t i) where
   -- the masks from a on and below b have each mode, where the range of the row has these numbers
   rows-full : (a b : ℕ) → b ≤ most → (textRange (rowLevels s t i) p .lo ≤ a) × (b ≤ textRange (rowLevels s t i) p .hi)
       → (m : ℕ) → hasMode mask m ≡ true → Have (notedRows s t p zeros n) a b m
   rows-full a b h f m g k v w =
       let size : length zeros ≡ most = length-replicate {A = ℕ} most 0 in
-      rows-have s t p zeros i m k (omega arith) (sym (ap (λ (x : ℕ). hasMode x m) e) ∙ joined (rowMask t i) mask m g)
+      rows-have s t p zeros m k (omega arith) i (sym (ap (λ (x : ℕ). hasMode x m) e) ∙ joined (rowMask t i) mask m g)
       (between (textRange (rowLevels s t i) p) a b k f v w) n l
 
   -- nothing is lacking
-  full-nothing : (deep : Bool) → fullRange (textRange (rowLevels s t i) p) deep ≡ true
-      → cond deep (lowestFrom (notedRows s t p zeros n) mask 1 most 0 4) (lowestFrom (notedRows s t p zeros n) mask 0 1 0 4) ≡ Nothing
-  full-nothing true f = lowest-nothing (notedRows s t p zeros n) mask 1 most (omega arith) (rows-full 1 most (omega arith) (full-deep (textRange (rowLevels s t i) p) f)) 0 4
-  full-nothing false f = lowest-nothing (notedRows s t p zeros n) mask 0 1 (omega arith) (rows-full 0 1 (omega arith) (full-flat (textRange (rowLevels s t i) p) f)) 0 4
+  full-nothing : (deep : Bool) → fullRange (textRange (rowLevels s t i) p) deep ≡ true → Nothing ≡ lowestIn deep (notedRows s t p zeros n) mask
+  full-nothing deep f =
+      sym (lowest-in deep (notedRows s t p zeros n) mask
+      ∙ lowest-nothing (notedRows s t p zeros n) mask (low deep) (high deep) (low-high deep)
+      (rows-full (low deep) (high deep) (high-most deep) (full-all (textRange (rowLevels s t i) p) deep f)) 0 4)
 
 -- no path escapes where a row covers alone
 pub covers-nothing : (s t p : List ℕ) (i n mask : ℕ) (own deep : Bool) → own ≡ true → deep ≡ endsDeep (levelsOf (levels p)) → i < n
     → rowCovers s t i p mask deep ≡ true → EscapeOf s t n own p mask Nothing
-unfolding rowCovers escapeIn
-covers-nothing s t p i n mask own deep o e l c count at f = go (eqb (bitOr (rowMask t i) mask) (rowMask t i)) refl c
+unfolding rowCovers
+covers-nothing s t p i n mask own deep o e l c = go (eqb (bitOr (rowMask t i) mask) (rowMask t i)) refl c
   where
     go : (b : Bool) → eqb (bitOr (rowMask t i) mask) (rowMask t i) ≡ b → cond b (fullRange (textRange (rowLevels s t i) p) deep) false ≡ true
-        → Nothing ≡ escapeIn s at count own p mask
-    go true q r =
-        rw (o, ← e) (sym (full-nothing s t p i n mask l (eqb-true (bitOr (rowMask t i) mask) (rowMask t i) q) deep r)
-        ∙ ap (λ (d : List ℕ). cond deep (lowestFrom d mask 1 most 0 4) (lowestFrom d mask 0 1 0 4)) (f .noted p zeros))
+        → EscapeOf s t n own p mask Nothing
+    go true q r = escape-nothing s t n own p mask deep o e (full-nothing s t p i n mask l (eqb-true (bitOr (rowMask t i) mask) (rowMask t i) q) deep r)
     go false q r = no-flag r
 
 -- ---- the code's tests

@@ -1,5 +1,5 @@
 -- Laws of the least number of a range that passes a test (specs/Escape.antt). Assumes nothing.
-use mathlib.Core.Path.{_≡_, refl}
+use mathlib.Core.Path.{_≡_, refl, ap₂}
 use mathlib.Core.Bool.{Bool, true, false}
 use mathlib.Core.Option.{Option, none, some, Option·none-ne-some, Option·some-ne-none}
 use mathlib.Core.Logic.{⊎-elim}
@@ -43,6 +43,17 @@ least-none f a (suc n) e j h l = go (f a) refl e (least-none f (suc a) n) j h l
         → (least f (suc a) n ≡ none → (j : ℕ) → suc a ≤ j → j < suc a + n → f j ≡ false) → (j : ℕ) → a ≤ j → j < a + suc n → f j ≡ false
     go true q w r = absurd (Option·some-ne-none a w)
     go false q w r = from-next f a (λ j. j < a + suc n) q (λ j h l. r w j h (omega arith))
+
+-- where no number passes the search finds none
+pub least-fails : (f : ℕ → Bool) (a n : ℕ) → ((k : ℕ) → a ≤ k → k < a + n → f k ≡ false) → least f a n ≡ none
+least-fails f a zero h = refl
+least-fails f a (suc n) h = rw (h a (omega arith) (omega arith)) (least-fails f (suc a) n (λ k l g. h k (omega arith) (omega arith)))
+
+-- tests that agree find the same
+pub least-same : (f g : ℕ → Bool) (a n : ℕ) → ((j : ℕ) → a ≤ j → j < a + n → f j ≡ g j) → least f a n ≡ least g a n
+least-same f g a zero h = refl
+least-same f g a (suc n) h =
+    ap₂ (λ (b : Bool) (o : Option ℕ). choose b (some a) o) (h a (omega arith) (omega arith)) (least-same f g (suc a) n (λ j i l. h j (omega arith) (omega arith)))
 
 -- a search that is some is that of its number
 pub some-of : (o : Option ℕ) → isSome o ≡ true → o ≡ some (orZero o)

@@ -18,6 +18,7 @@ pub mod CoverSteps
 pub mod SearchSteps
 pub mod TableLaws
 pub mod AloneLaws
+pub mod NotingLaws
 pub mod DeepSteps
 pub mod NarrowSteps
 pub mod OrderLaws

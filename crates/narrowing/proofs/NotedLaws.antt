@@ -97,7 +97,7 @@ unfolding notedAt
 noted-step s p d n at next g e = rw (notedAt, e)
 
 -- a mask joined where a test holds
-or-where : (b : Bool) (x mask m : ℕ) → hasMode (cond b (bitOr x mask) x) m ≡ (hasMode x m || (hasMode mask m && b))
+pub or-where : (b : Bool) (x mask m : ℕ) → hasMode (cond b (bitOr x mask) x) m ≡ (hasMode x m || (hasMode mask m && b))
 or-where true x mask m = or-mode x mask m ∙ ap (λ (c : Bool). hasMode x m || c) (sym (and-true (hasMode mask m)))
 or-where false x mask m = sym (ap (λ (c : Bool). hasMode x m || c) (and-false (hasMode mask m)) ∙ or-false (hasMode x m))
 
@@ -148,7 +148,7 @@ zero-at (suc n) zero = refl
 zero-at (suc n) (suc k) = zero-at n k
 
 -- 0 has no mode
-zero-lacks : (m : ℕ) → hasMode 0 m ≡ false
+pub zero-lacks : (m : ℕ) → hasMode 0 m ≡ false
 unfolding hasMode
 zero-lacks m = rw (zero-div (2 ^ m))
 

@@ -6,7 +6,7 @@ use Prim.Native.Nat.{ℕ, zero, suc, _+_, _*_, _-_, _≤_, _<_}
 use native.Mathlib.Numerals.{add-one}
 use native.Mathlib.Decide.{decLt}
 use native.Mathlib.Omega.{arith}
-use lib.ListN.{length, getD, set, take, drop, length-set, length-replicate}
+use lib.ListN.{length, getD, set, length-set}
 use lib.Seq.{getD-set-same, getD-set-other}
 use Rattle.cbor_item.specs.Bytes.{AreBytes, part}
 use Rattle.cbor_item.specs.Reads.{got, refused}
@@ -22,9 +22,9 @@ use Rattle.descriptor.specs.View.{grantsView}
 use Rattle.descriptor.specs.Answer.{readingOf}
 use Rattle.descriptor.proofs.GrantBounds.{pattern-room}
 use Rattle.descriptor_laws.proofs.Laws.{reads-exactly}
-use Rattle.narrowing.specs.declared.range.Range.{Range}
-use Rattle.narrowing.specs.Range.{most, textRange, marked}
-use Rattle.narrowing.specs.Scan.{notedAt, rowStart, rowEnd, rowMask, rowLevels, notedRows, InPlace, Filled, lowestFrom, zeros, escapeIn, EscapeOf}
+use Rattle.narrowing.specs.declared.search.Found.the-variants.{Nothing}
+use Rattle.narrowing.specs.Range.{textRange, marked}
+use Rattle.narrowing.specs.Scan.{notedAt, rowStart, rowEnd, rowMask, rowLevels, notedRows, InPlace, Filled, lowestFrom, lowestIn, zeros, escapeIn, EscapeOf}
 use Rattle.narrowing.proofs.RangeLaws.{marked-length}
 use Rattle.narrowing.proofs.SearchSteps.{noted-next, noted-stop, noted-done}
 
@@ -35,18 +35,6 @@ pub rows-length : (s t p d : List ℕ) (n : ℕ) → length (notedRows s t p d n
 unfolding notedRows
 rows-length s t p d zero = refl
 rows-length s t p d (suc i) = marked-length 0 (notedRows s t p d i) (textRange (rowLevels s t i) p) (rowMask t i) ∙ rows-length s t p d i
-
-module _ (s t p d : List ℕ) where
-  -- no row is noted at first
-  pub rows-begin : d ≡ notedRows s t p d 0
-  unfolding notedRows
-  rows-begin = refl
-
-  -- one row more was noted, as the code took its levels and wrote
-  pub rows-next : (i : ℕ) (x y : List ℕ) (r : Range) → x ≡ notedRows s t p d i
-      → r ≡ textRange (take (rowEnd t i - rowStart t i) (drop (rowStart t i) s)) p → y ≡ marked 0 x r (rowMask t i) → y ≡ notedRows s t p d (i + 1)
-  unfolding notedRows part
-  rows-next i x y r e f g = g ∙ rw (add-one i, e, f)
 
 -- ---- one row more
 
@@ -167,32 +155,40 @@ module _ (s t : List ℕ) (i left here count at : ℕ) (b : Begun s t i left her
 
 -- ---- an escape
 
-module _ (s t : List ℕ) (n : ℕ) (own : Bool) (p : List ℕ) where
-  -- the masks, noted where the terminal id is the parent's
-  abbrev pub masksOf : List ℕ
-  masksOf = cond own (notedRows s t p zeros n) zeros
+-- nothing is lacking where the masks are noted
+pub escape-nothing : (s t : List ℕ) (n : ℕ) (own : Bool) (p : List ℕ) (mask : ℕ) (deep : Bool) → own ≡ true → deep ≡ endsDeep (levelsOf (levels p))
+    → Nothing ≡ lowestIn deep (notedRows s t p zeros n) mask → EscapeOf s t n own p mask Nothing
+unfolding escapeIn
+escape-nothing s t n own p mask deep o f e count at h = rw (o, ← f) (e ∙ ap (λ (x : List ℕ). lowestIn deep x mask) (h .noted p zeros))
 
-  -- they are 128
-  pub masks-length : (d : List ℕ) → d ≡ masksOf → 128 ≡ length d
-  masks-length d e = sym (ap length e ∙ by own)
-    where
-      by : (b : Bool) → length (cond b (notedRows s t p zeros n) zeros) ≡ 128
-      by true = rows-length s t p zeros n ∙ length-replicate {A = ℕ} most 0
-      by false = length-replicate {A = ℕ} most 0
+module _ (s t : List ℕ) (n : ℕ) (own : Bool) (p : List ℕ) (mask : ℕ) (d : List ℕ) (deep : Bool) where
+  -- the terminal id is the parent's, and the masks x tell what those with all rows noted do
+  pub met-own : (x : List ℕ) → d ≡ x → own ≡ true → lowestIn deep x mask ≡ lowestIn deep (notedRows s t p zeros n) mask
+      → lowestIn deep d mask ≡ lowestIn deep (cond own (notedRows s t p zeros n) zeros) mask
+  met-own x e o f = rw (e, o) f
+
+  -- it is not
+  pub met-other : d ≡ zeros → own ≡ false → lowestIn deep d mask ≡ lowestIn deep (cond own (notedRows s t p zeros n) zeros) mask
+  met-other e o = rw (e, o)
+
+module _ (s t : List ℕ) (n : ℕ) (own : Bool) (p : List ℕ) (mask : ℕ) (d : List ℕ) (deep : Bool)
+    (e : lowestIn deep d mask ≡ lowestIn deep (cond own (notedRows s t p zeros n) zeros) mask) (f : deep ≡ endsDeep (levelsOf (levels p))) where
+  -- the masks d tell of an escape what those do that are noted where the terminal id is the parent's
+  escape-told : EscapeOf s t n own p mask (lowestIn deep d mask)
+  unfolding escapeIn
+  escape-told count at h =
+      e ∙ ap (λ (x : List ℕ). lowestIn deep (cond own x zeros) mask) (h .noted p zeros)
+      ∙ ap (λ (b : Bool). lowestIn b (cond own (notedAt s p zeros count at) zeros) mask) f
 
   -- "**" takes one name or more
-  pub escape-deep : (mask : ℕ) (d : List ℕ) (b : Bool) → d ≡ masksOf → b ≡ endsDeep (levelsOf (levels p)) → b ≡ true
-      → EscapeOf s t n own p mask (lowestFrom d mask 1 128 0 4)
-  unfolding escapeIn
-  escape-deep mask d b e f g count at h =
-      ap (λ (x : List ℕ). lowestFrom x mask 1 128 0 4) (e ∙ ap (λ (x : List ℕ). cond own x zeros) (h .noted p zeros)) ∙ rw (sym f ∙ g)
+  pub escape-deep : deep ≡ true → EscapeOf s t n own p mask (lowestFrom d mask 1 128 0 4)
+  unfolding lowestIn
+  escape-deep g = subst (λ (b : Bool). EscapeOf s t n own p mask (lowestIn b d mask)) g escape-told
 
   -- without "**" there is none to take
-  pub escape-flat : (mask : ℕ) (d : List ℕ) (b : Bool) → d ≡ masksOf → b ≡ endsDeep (levelsOf (levels p)) → b ≡ false
-      → EscapeOf s t n own p mask (lowestFrom d mask 0 1 0 4)
-  unfolding escapeIn
-  escape-flat mask d b e f g count at h =
-      ap (λ (x : List ℕ). lowestFrom x mask 0 1 0 4) (e ∙ ap (λ (x : List ℕ). cond own x zeros) (h .noted p zeros)) ∙ rw (sym f ∙ g)
+  pub escape-flat : deep ≡ false → EscapeOf s t n own p mask (lowestFrom d mask 0 1 0 4)
+  unfolding lowestIn
+  escape-flat g = subst (λ (b : Bool). EscapeOf s t n own p mask (lowestIn b d mask)) g escape-told
 
 -- ---- how many grants there are
 

@@ -2,14 +2,14 @@
 -- to Escape.antt and Narrow.antt.
 use mathlib.Core.Path.{_≡_}
 use mathlib.Core.Bool.{Bool, true, false, not, cond, _&&_}
-use mathlib.Core.List.{List, [], _∷_}
+use mathlib.Core.List.{List}
 use mathlib.Core.Option.{Option, none, some}
 use Prim.Native.Nat.{ℕ, zero, suc, _+_, _*_, _-_, _≤_, _<_}
 use lib.ListN.{length, getD, replicate}
 use Rattle.cbor_item.specs.Bytes.{part, same}
 use lib.Dec.{eqb, leb, ltb}
 use lib.Bits.{bitOr}
-use Rattle.cbor_item.specs.Reads.{Got, got, refused}
+use Rattle.cbor_item.specs.Reads.{got, refused}
 use Rattle.cbor_item.specs.Head.{Span}
 use Rattle.resource.specs.Level.{levels}
 use Rattle.resource.specs.Pattern.{endsDeep}
@@ -78,15 +78,17 @@ lowestFrom d mask from to m zero = Nothing
 lowestFrom d mask from to m (suc n) =
     elim (hasMode mask m) [ true ↦ foundAt m (least (lacksAt d m) from (to - from)) (lowestFrom d mask from to (m + 1) n) | false ↦ lowestFrom d mask from to (m + 1) n ]
 
+-- the first of all modes, with each number of names that can be taken: from 1 on where the levels end with "**", which `deep` says, else 0
+unfoldable pub lowestIn : Bool → List ℕ → ℕ → Found
+lowestIn deep d mask = cond deep (lowestFrom d mask 1 most 0 4) (lowestFrom d mask 0 1 0 4)
+
 -- no mode is noted
 abbrev pub zeros : List ℕ
 zeros = replicate most 0
 
 -- how a path escapes by a grant with the levels p and the mask, under the `count` grants from a place of s on; `own` where the terminal id is theirs
 unfoldable pub escapeIn : List ℕ → ℕ → ℕ → Bool → List ℕ → ℕ → Found
-escapeIn s at count own p mask =
-    let d = cond own (notedAt s p zeros count at) zeros in
-    cond (endsDeep (levelsOf (levels p))) (lowestFrom d mask 1 most 0 4) (lowestFrom d mask 0 1 0 4)
+escapeIn s at count own p mask = lowestIn (endsDeep (levelsOf (levels p))) (cond own (notedAt s p zeros count at) zeros) mask
 
 -- r is how a path escapes under the grants, any number from any place of s on, of which t has the n rows
 abbrev pub EscapeOf : List ℕ → List ℕ → ℕ → Bool → List ℕ → ℕ → Found → Type 0
@@ -104,6 +106,22 @@ rowCovers s t i p mask deep = cond (eqb (bitOr (rowMask t i) mask) (rowMask t i)
 -- where r is one of the n rows, its grant alone covers a grant with the levels p and the mask
 abbrev pub AloneOf : List ℕ → List ℕ → ℕ → List ℕ → ℕ → Bool → ℕ → Type 0
 AloneOf s t n p mask deep r = r < n → rowCovers s t r p mask deep ≡ true
+
+-- the masks after row i was noted
+unfoldable pub rowNoted : List ℕ → List ℕ → ℕ → List ℕ → List ℕ → List ℕ
+rowNoted s t i p d = marked 0 d (textRange (rowLevels s t i) p) (rowMask t i)
+
+-- the modes of row i, where its grant covers the levels p with each number of names, else none
+unfoldable pub fullModes : List ℕ → List ℕ → ℕ → List ℕ → Bool → ℕ
+fullModes s t i p deep = cond (fullRange (textRange (rowLevels s t i) p) deep) (rowMask t i) 0
+
+-- where r is one of the n rows, no path escapes by a grant with the levels p and the mask
+abbrev pub CoveredOf : List ℕ → List ℕ → ℕ → List ℕ → List ℕ → ℕ → Bool → ℕ → Type 0
+CoveredOf s t n p d mask deep r = r < n → Nothing ≡ lowestIn deep (notedRows s t p d n) mask
+
+-- where r is no row, the masks e tell of an escape what the masks with all rows noted do
+abbrev pub NotedOf : List ℕ → List ℕ → ℕ → List ℕ → List ℕ → ℕ → Bool → ℕ → List ℕ → Type 0
+NotedOf s t n p d mask deep r e = n ≤ r → lowestIn deep e mask ≡ lowestIn deep (notedRows s t p d n) mask
 
 -- an escape by the grant at i, or what the next grants have
 abbrev pub orNext : ℕ → Found → Narrowing → Narrowing

@@ -13,8 +13,8 @@ ghost use Rattle.resource.specs.Pattern.{endsDeep};
 ghost use Rattle.resource.specs.Text.{levelsOf};
 ghost use Rattle.descriptor.specs.Reader.{hasMode};
 ghost use Rattle.narrowing.specs.Escape.{least, orElse};
-ghost use Rattle.narrowing.specs.Range.{range};
-ghost use Rattle.narrowing.specs.Scan.{rowStart, rowEnd, notedRows, InPlace, Filled, lacksAt, lowestFrom, EscapeOf, fullRange, rowCovers, AloneOf, FirstOf};
+ghost use Rattle.narrowing.specs.Range.{range, most};
+ghost use Rattle.narrowing.specs.Scan.{rowStart, rowEnd, InPlace, Filled, lacksAt, lowestFrom, EscapeOf, fullRange, rowCovers, AloneOf, fullModes, rowNoted, CoveredOf, NotedOf, FirstOf};
 
 // A mode and a number of names.
 pub(crate) enum Found {
@@ -180,8 +180,27 @@ fn alone(
     rows
 }
 
-// Notes for each number of names the modes in which the grants of the table cover the levels p, and answers `rows`. Where a grant alone covers a grant with these
-// levels and the mask, it stops and answers its row.
+// Notes row i, for each number of names with which its grant covers the levels p. Answers its modes where it does so with every number, else 0.
+fn note_row(parent: &[u8], table: &[usize], i: usize, p: &[u8], deep: bool, d: &mut [u64]) -> u64
+    requires { ⌜ (3 * i + 2 < length (now table)) × (rowStart (now table) i ≤ rowEnd (now table) i) × (rowEnd (now table) i ≤ length (now parent)) ⌝ }
+    ensures modes { λ r. ⌜ r ≡ fullModes (now (parent .entry)) (now (table .entry)) i (now (p .entry)) deep ⌝ }
+    ensures noted { λ r. ⌜ now (d .exit) ≡ rowNoted (now (parent .entry)) (now (table .entry)) i (now (p .entry)) (now (d .entry)) ⌝ }
+{
+    let k = 3 * i;
+    let start = table[k];
+    let end = table[k + 1];
+    let modes = table[k + 2] as u64;
+    let r = cover(&parent[start..end], p);
+    let all = full(r.lo, r.hi, deep);
+    mark(d, r, modes);
+    if all {
+        return modes;
+    }
+    0
+}
+
+// Notes for each number of names the modes in which the grants of the table cover the levels p, and answers `rows`. A row that adds no mode of the mask to
+// those that the rows before it cover with every number is left out; where these are all modes of the mask, it stops and answers the last of these rows.
 fn note(
     parent: &[u8],
     table: &[usize],
@@ -191,30 +210,27 @@ fn note(
     deep: bool,
     d: &mut [u64],
 ) -> usize
-    requires { ⌜ InPlace (now parent) (now table) rows ⌝ }
-    ensures alone { λ r. ⌜ AloneOf (now (parent .entry)) (now (table .entry)) rows (now (p .entry)) mask deep r ⌝ }
-    ensures noted { λ r. ⌜ (rows ≤ r → now (d .exit) ≡ notedRows (now (parent .entry)) (now (table .entry)) (now (p .entry)) (now (d .entry)) rows) ⌝ }
+    requires { ⌜ InPlace (now parent) (now table) rows × (length (now d) ≡ most) ⌝ }
+    ensures covered { λ r. ⌜ CoveredOf (now (parent .entry)) (now (table .entry)) rows (now (p .entry)) (now (d .entry)) mask deep r ⌝ }
+    ensures noted { λ r. ⌜ NotedOf (now (parent .entry)) (now (table .entry)) rows (now (p .entry)) (now (d .entry)) mask deep r (now (d .exit)) ⌝ }
 {
+    let mut done: u64 = 0;
     let mut i = 0;
     while i < rows {
-        let k = 3 * i;
-        let start = table[k];
-        let end = table[k + 1];
-        let modes = table[k + 2] as u64;
-        let r = cover(&parent[start..end], p);
-        if modes | mask == modes {
-            if full(r.lo, r.hi, deep) {
+        let modes = table[3 * i + 2] as u64;
+        if (modes & mask) | done != done {
+            done = done | note_row(parent, table, i, p, deep, d);
+            if done | mask == done {
                 return i;
             }
         }
-        mark(d, r, modes);
         i += 1;
     }
     rows
 }
 
-// How a path escapes by a grant with the levels p and the mask; `own` where its terminal id is the parent's. Where one row alone covers the grant,
-// `near` becomes that row.
+// How a path escapes by a grant with the levels p and the mask; `own` where its terminal id is the parent's. Where the rows up to one
+// cover the grant, `near` becomes that row.
 fn escape(
     parent: &[u8],
     table: &[usize],

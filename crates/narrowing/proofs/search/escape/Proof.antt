@@ -1,26 +1,28 @@
 -- `escape` meets its contract. Assumes nothing.
-use mathlib.Core.Path.{_≡_, _∙_}
+use mathlib.Core.Path.{_≡_, sym, ap, _∙_}
+use mathlib.Core.Bool.{cond}
 use mathlib.Core.Logic.{⊎-elim}
+use Prim.Native.Nat.{ℕ}
 use native.Mathlib.Omega.{arith}
-use lib.ListN.{length}
+use lib.ListN.{length, length-replicate}
 use borrow.Author.Needs.{needs}
-use Rattle.narrowing.proofs.TableLaws.{masksOf, masks-length, escape-deep, escape-flat}
-use Rattle.narrowing.proofs.AloneLaws.{covers-nothing}
+use Rattle.narrowing.specs.Scan.{notedRows, lowestIn, zeros}
+use Rattle.narrowing.proofs.TableLaws.{escape-nothing, met-own, met-other, escape-deep, escape-flat}
 use Rattle.narrowing.proofs.search.escape.Statement.{statement}
 use Rattle.narrowing.proofs.search.escape.Tie as tie
 
--- where the two ways meet, the masks are noted or none is
+-- where the two ways meet, the masks tell what those do that are noted where the terminal id is the parent's
 noted : (j : tie.Joined1)
-    → j .if1 .d
-    ≡ masksOf (j .before .before .before .before .before .args .parent .now) (j .before .before .before .before .before .args .table .now) (j .before .before .before .before .before .args .rows)
-    (j .before .before .before .before .before .args .own) (j .before .before .before .before .before .args .p .now)
-noted j = ⊎-elim (λ w. w .5 ∙ w .2 .ensures .1 (w .4 .left) ∙ rw (w .0 .taken)) (λ w. w .1 ∙ rw (w .0 .left)) (j .if1 .came)
+    → (let a = j .before .before .before .before .before .args in
+    lowestIn (j .before .ends-deep .result) (j .if1 .d) (a .mask)
+    ≡ lowestIn (j .before .ends-deep .result) (cond (a .own) (notedRows (a .parent .now) (a .table .now) (a .p .now) zeros (a .rows)) zeros) (a .mask))
+noted j =
+    ⊎-elim (λ w. met-own _ _ _ _ _ _ _ _ _ (w .5) (w .0 .taken) (w .2 .ensures .1 (w .4 .left))) (λ w. met-other _ _ _ _ _ _ _ _ (w .1) (w .0 .left))
+    (j .if1 .came)
 
 -- they are 128
 full : (j : tie.Joined1) → 128 ≡ length (j .if1 .d)
-full j =
-    let a = j .before .before .before .before .before .args in
-    masks-length (a .parent .now) (a .table .now) (a .rows) (a .own) (a .p .now) (j .if1 .d) (noted j)
+full j = ⊎-elim (λ w. sym (ap length (w .5) ∙ w .2 .kept .1 .1 .1 .1 .1 .1 .0 ∙ length-replicate {A = ℕ} 128 0)) (λ w. sym (ap length (w .1) ∙ length-replicate {A = ℕ} 128 0)) (j .if1 .came)
 
 ends-deep-requires : tie.Need-ends-deep-requires
 ends-deep-requires c κs = search needs
@@ -35,7 +37,7 @@ returns : tie.Need-returns
 returns c =
     let n = c .before .before in
     let t = n .before .before in
-    covers-nothing _ _ _ _ _ _ _ _ (t .if1 .taken) (t .before .ends-deep .ensures) (c .if2 .taken) (n .note .ensures .0 (c .if2 .taken))
+    escape-nothing _ _ _ _ _ _ _ (t .if1 .taken) (t .before .ends-deep .ensures) (n .note .ensures .0 (c .if2 .taken))
 
 slice-aggregate-lowest : tie.Need-slice-aggregate-lowest
 slice-aggregate-lowest c = full (c .before .before)

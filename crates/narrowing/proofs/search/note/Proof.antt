@@ -1,91 +1,58 @@
--- `note` meets its contract. The invariant: the rows so far are noted. The measure: the rows left. Assumes nothing.
-use mathlib.Core.Path.{_≡_, sym, ap, _∙_}
+-- `note` meets its contract. The invariant: the rows so far are noted, but for those that add no mode. The measure: the rows left. Assumes nothing.
+use mathlib.Core.Path.{_≡_, sym, _∙_}
+use mathlib.Core.Logic.{⊎-elim}
 use Prim.Native.Nat.{_+_, _*_, _-_, _≤_, _<_}
 use native.Mathlib.Omega.{arith}
-use lib.ListN.{length}
 use borrow.Author.Needs.{needs}
-use Rattle.narrowing.specs.Scan.{rowStart, rowEnd, notedRows}
-use Rattle.narrowing.proofs.TableLaws.{rows-length, rows-begin, rows-next}
-use Rattle.narrowing.proofs.AloneLaws.{covers-range}
+use lib.ListN.{length}
+use Rattle.narrowing.proofs.NotingLaws.{Noting, noting-begin, noting-met, noting-skip, noting-next, noting-covered, noting-end}
 use Rattle.narrowing.proofs.search.note.Statement.{statement}
 use Rattle.narrowing.proofs.search.note.Tie as tie
 
 abbrev Inv-loop : tie.InvT-loop
-Inv-loop parent table rows p mask deep d₀ i₀ d i = (i ≤ rows) × (d ≡ notedRows parent table p d₀ i)
+Inv-loop parent table rows p mask deep d₀ done₀ i₀ d done i = (i ≤ rows) × Noting parent table p d₀ mask deep d done i
 
 abbrev μ-loop : tie.MeasureT-loop
-μ-loop parent table rows p mask deep d₀ i₀ d i = rows - i
+μ-loop parent table rows p mask deep d₀ done₀ i₀ d done i = rows - i
 
 -- the table has the row
 room : (k : tie.In-loop Inv-loop μ-loop) → 3 * k .before .loop .i + 2 < length (k .before .before .before .before .before .before .args .table .now)
-room k = omega (arith, k .before .before .before .before .before .before .pre .room, k .loop-test .taken)
-
--- its levels lie in the parent's bytes
-inside : (k : tie.In-loop Inv-loop μ-loop)
-    → (rowStart (k .before .before .before .before .before .before .args .table .now) (k .before .loop .i) ≤ rowEnd (k .before .before .before .before .before .before .args .table .now) (k .before .loop .i))
-    × (rowEnd (k .before .before .before .before .before .before .args .table .now) (k .before .loop .i) ≤ length (k .before .before .before .before .before .before .args .parent .now))
-inside k = k .before .before .before .before .before .before .pre .row _ (k .loop-test .taken)
+room k = omega (arith, k .before .before .before .before .before .before .pre .0 .room, k .loop-test .taken)
 
 loop-holds : tie.Need-loop-holds Inv-loop μ-loop
-loop-holds c = (omega arith, rows-begin _ _ _ _)
-
-mul-k : tie.Need-mul-k Inv-loop μ-loop
-mul-k c = omega (arith, room c)
-
-mul-start : tie.Need-mul-start Inv-loop μ-loop
-mul-start c = omega (arith, room c)
-
-shared-slice-read-start : tie.Need-shared-slice-read-start Inv-loop μ-loop
-shared-slice-read-start c = omega (arith, room (c .before))
-
-add-end : tie.Need-add-end Inv-loop μ-loop
-add-end c = omega (arith, room (c .before))
-
-mul-end : tie.Need-mul-end Inv-loop μ-loop
-mul-end c = omega (arith, room (c .before))
-
-shared-slice-read-end : tie.Need-shared-slice-read-end Inv-loop μ-loop
-shared-slice-read-end c = omega (arith, room (c .before .before))
-
-add-modes : tie.Need-add-modes Inv-loop μ-loop
-add-modes c = omega (arith, room (c .before .before))
+loop-holds c = (omega arith, noting-begin _ _ _ _ _ _ (c .before .before .before .before .pre .1))
 
 mul-modes : tie.Need-mul-modes Inv-loop μ-loop
-mul-modes c = omega (arith, room (c .before .before))
+mul-modes c = omega (arith, room c)
+
+add-modes : tie.Need-add-modes Inv-loop μ-loop
+add-modes c = omega (arith, room c)
+
+mul-modes-2 : tie.Need-mul-modes-2 Inv-loop μ-loop
+mul-modes-2 c = omega (arith, room c)
 
 shared-slice-read-modes : tie.Need-shared-slice-read-modes Inv-loop μ-loop
-shared-slice-read-modes c = omega (arith, room (c .before .before .before))
+shared-slice-read-modes c = room (c .before)
 
-sub-cover : tie.Need-sub-cover Inv-loop μ-loop
-sub-cover c = inside (c .before .before .before) .0
-
-part-cover-start : tie.Need-part-cover-start Inv-loop μ-loop
-part-cover-start c = omega (arith, inside (c .before .before .before) .0, inside (c .before .before .before) .1)
-
-part-cover-end : tie.Need-part-cover-end Inv-loop μ-loop
-part-cover-end c = omega (arith, inside (c .before .before .before) .0, inside (c .before .before .before) .1)
-
-cover-requires : tie.Need-cover-requires Inv-loop μ-loop
-cover-requires c κs = search needs
-
-full-requires : tie.Need-full-requires Inv-loop μ-loop
-full-requires c κs = search needs
+note-row-requires : tie.Need-note-row-requires Inv-loop μ-loop
+note-row-requires c κs =
+    let i = c .before .before .before in
+    let r = i .before .before .before .before .before .before .pre .0 .row _ (i .loop-test .taken) in
+    (room i, r .0, r .1)
 
 same-length : tie.Need-same-length Inv-loop μ-loop
 same-length c =
-    let l = c .before .before .before .before .before .before .before .before .before in
-    ap length (l .loop .inv .1) ∙ rows-length _ _ _ _ _
+    let v = c .before .before .before in
+    let i = v .before .before .before .before in
+    let n = noting-next _ _ _ _ _ _ _ _ _ (i .before .loop .inv .1) _ _ (v .note-row .ensures .1) (v .note-row .ensures .0) in
+    n .size ∙ sym (n .whole)
 
 returns : tie.Need-returns Inv-loop μ-loop
 returns c =
-    let f = c .before in
-    let v = f .before .before in (
-      λ l. sym (f .full .ensures ∙ covers-range _ _ _ _ _ _ _ (f .before .if1 .taken) (v .cover .ensures)) ∙ c .if2 .taken,
-      λ h. absurd (omega (arith, v .before .before .before .before .before .loop-test .taken)),
-    )
-
-mark-requires : tie.Need-mark-requires Inv-loop μ-loop
-mark-requires c κs = search needs
+    let v = c .before .before .before in
+    let i = v .before .before .before .before in
+    let n = noting-next _ _ _ _ _ _ _ _ _ (i .before .loop .inv .1) _ _ (v .note-row .ensures .1) (v .note-row .ensures .0) in
+    (λ l. noting-covered _ _ _ _ _ _ _ _ _ n _ (omega (arith, i .loop-test .taken)) (c .if2 .taken), λ h. absurd (omega (arith, i .loop-test .taken)))
 
 add-i : tie.Need-add-i Inv-loop μ-loop
 add-i c = search needs
@@ -95,22 +62,23 @@ loop-less c = search needs
 
 loop-again : tie.Need-loop-again Inv-loop μ-loop
 loop-again c =
-    let m = c .before .before in
-    let v = m .before .before .before in
-    let i = v .before .before .before .before .before in
-    let l = i .before in (
+    let k = c .before in
+    let i = k .before in (
       omega (arith, i .loop-test .taken),
-      rows-next _ _ _ _ _ _ _ _ (l .loop .inv .1) (v .cover .ensures) (m .mark .ensures),
+      ⊎-elim
+          (λ w. noting-met _ _ _ _ _ _ _ _ _ (noting-next _ _ _ _ _ _ _ _ _ (i .before .loop .inv .1) _ _ (w .2 .ensures .1) (w .2 .ensures .0)) _ _ (w .6) (w .7))
+          (λ w. noting-met _ _ _ _ _ _ _ _ _ (noting-skip _ _ _ _ _ _ _ _ _ (i .before .loop .inv .1) (w .0 .left)) _ _ (w .1) (w .2))
+          (c .if1 .came),
     )
 
 same-length-2 : tie.Need-same-length-2 Inv-loop μ-loop
-same-length-2 c = ap length (c .before .loop .inv .1) ∙ rows-length _ _ _ _ _
+same-length-2 c = c .before .loop .inv .1 .size ∙ sym (c .before .loop .inv .1 .whole)
 
 returns-2 : tie.Need-returns-2 Inv-loop μ-loop
 returns-2 c =
     let l = c .before in
     let e : l .loop .i ≡ l .before .before .before .before .before .args .rows = omega (arith, l .loop .inv .0, c .loop-test .left) in
-    (λ h. absurd (omega arith), λ h. l .loop .inv .1 ∙ rw e)
+    (λ h. absurd (omega arith), λ h. noting-end _ _ _ _ _ _ _ _ _ (l .loop .inv .1) ∙ rw e)
 
 pub note-spec : {M : Type 1} → statement M
 note-spec =
@@ -119,23 +87,13 @@ note-spec =
     Inv-loop
     μ-loop
     loop-holds
-    mul-k
-    mul-start
-    shared-slice-read-start
-    add-end
-    mul-end
-    shared-slice-read-end
-    add-modes
     mul-modes
+    add-modes
+    mul-modes-2
     shared-slice-read-modes
-    sub-cover
-    part-cover-start
-    part-cover-end
-    cover-requires
-    full-requires
+    note-row-requires
     same-length
     returns
-    mark-requires
     add-i
     loop-less
     loop-again

@@ -1,4 +1,5 @@
--- What the answers of the code say: of the inner functions as answers of exact readers, of reading as document 01's numbers and values.
+-- A reader of the promises does not need this page.
+-- What the answers of the code say, of the inner functions and of reading, as answers of exact readers.
 use mathlib.Core.Bool.{Bool, true, false, cond, not}
 use mathlib.Core.List.{List}
 use mathlib.Core.Option.{Option, none, some}

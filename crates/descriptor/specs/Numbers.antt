@@ -1,5 +1,5 @@
--- What reading hands back, in document 01's numbers: the names and the order are those of include/cap.h. What each number is of the descriptor that was read
--- is promised in Promises.antt.
+-- A reader of the promises does not need this page: what each number is of the descriptor or the grant that was read is promised in specs/Promises.antt of
+-- `descriptor_laws`. What reading hands back, in document 01's numbers; the names and the order are those of include/cap.h.
 use mathlib.Core.List.{List}
 use Prim.Native.Nat.{ℕ}
 use Rattle.cbor_item.specs.Head.{Span, spanOf}

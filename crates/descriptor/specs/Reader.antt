@@ -1,3 +1,4 @@
+-- A reader of the promises does not need this page.
 -- The reader of descriptors as a function of bytes and a place, in one pass. These definitions compute: the code answers what they say.
 use mathlib.Core.Bool.{Bool, true, false, not, _&&_, _||_, cond}
 use mathlib.Core.List.{List, [], _∷_, _++_}

@@ -1,3 +1,4 @@
+-- A reader of the promises does not need this page.
 -- Readers of single values at a place: a number under a head, a text, a byte string, a name of a table. These definitions compute.
 use mathlib.Core.Bool.{Bool, true, false, cond, _&&_}
 use mathlib.Core.List.{List, [], _∷_}

@@ -1,3 +1,4 @@
+-- A reader of the promises does not need this page.
 -- What is seen of a value that stands at a place: the places and numbers that the reader answers for it.
 use mathlib.Core.List.{List, [], _∷_, _++_}
 use mathlib.Core.Option.{Option}

@@ -1,5 +1,4 @@
 -- A new image is the image of no bodies (specs/Fresh.antt). Assumes nothing.
-use mathlib.Core.Path.{refl}
 use lib.ListN.{length}
 use borrow.Author.Tests.{le-ltb, lt-ltb}
 use Rattle.cbor_item.specs.Encoding.{bigEndian}

@@ -1,14 +1,14 @@
 -- The layout of an image in document 01's numbers, and which bodies a buffer holds (specs/Image.antt). Assumes nothing.
 use mathlib.Core.Path.{_≡_, refl, sym, ap, ap₂, _∙_}
-use mathlib.Core.Bool.{Bool, true, false, _||_, false≢true}
+use mathlib.Core.Bool.{Bool, true, false, false≢true}
 use mathlib.Core.List.{List, [], _∷_, _++_}
-use Prim.Native.Nat.{ℕ, _/_, _%_, _<_}
+use Prim.Native.Nat.{ℕ, _<_}
 use native.Mathlib.Omega.{arith}
 use lib.ListN.{length}
 use Rattle.cbor_item.specs.Bytes.{same}
 use Rattle.cbor_item.specs.Encoding.{bigEndian}
 use Rattle.cbor_item.specs.Reads.{AllFrom}
-use Rattle.image.specs.Image.{idOf, modesOf, header, row, rowsOf, joined, imageOf, hasId, BodyOk, seenWith, BodiesOk, Holds, bodyWith}
+use Rattle.image.specs.Image.{idOf, modesOf, header, row, rowsOf, joined, imageOf, hasId, BodyOk, seenWith, bodyWith}
 use Rattle.image.specs.Promises.{four, LayoutFixed, answerOf, Every, IdsDiffer, HoldsExactly, BodyOfId}
 use Rattle.image.proofs.RowLaws.{id-length, modes-small}
 use Rattle.image.proofs.ListLaws.{same-true, true-same, or-no-left, or-no-right, or-true, rest-new, has-snoc, with-first, with-rest}

@@ -18,7 +18,7 @@ use Rattle.image.specs.declared.Survey.{Survey}
 use Rattle.image.specs.declared.Survey.the-variants.{Sound, Unsound}
 use Rattle.image.specs.declared.Finding.{Finding}
 use Rattle.image.specs.declared.Finding.the-variants.{Found, BadId, BadImage, NotHeld}
-use Rattle.image.specs.Image.{Holds, bodyWith}
+use Rattle.image.specs.Image.{bodyWith}
 use Rattle.image.specs.Check.{surveyOf, isSound, heldAt, foundIn, findOf, bodySpan, numbersOf}
 use Rattle.image.specs.Promises.{refusal, FoundAt, LookupExactly, SoundExactly, EditionsKnown, BodyHanded}
 use Rattle.image.proofs.HeldLaws.{HeldIs}

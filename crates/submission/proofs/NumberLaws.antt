@@ -34,7 +34,7 @@ use Rattle.image.proofs.SurveyLaws.{survey-complete}
 use Rattle.image.proofs.Laws.{survey-exactly, body-read, encoding-read}
 use Rattle.submission.specs.declared.Submission.the-variants as answers
 use Rattle.submission.specs.Submission.{stepsBy, steps, submitted, numberOf}
-use Rattle.submission.specs.Promises.{Stored, unsound, bodies, structure, validity, descriptor as encoding, IsStored, IsBody, Meets, AlwaysMeets, stepsFor, SubmittedExactly, DoneExactly, RefusedExactly}
+use Rattle.submission.specs.Promises.{Stored, unsound, bodies, structure, validity, descriptor as encoding, IsStored, IsBody, AlwaysMeets, stepsFor, SubmittedExactly, DoneExactly, RefusedExactly}
 use Rattle.submission.specs.Promises as promised
 use Rattle.submission.proofs.GrowLaws.{length-more}
 

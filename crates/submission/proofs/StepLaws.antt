@@ -11,7 +11,7 @@ use Rattle.descriptor.specs.declared.Reading.{Reading}
 use Rattle.descriptor.specs.declared.Reading.the-variants.{Read, Structure, Validity}
 use Rattle.steps.specs.declared.Window.{Window}
 use Rattle.steps.specs.Key.{isVerdict}
-use Rattle.steps.specs.Order.{Step, step, orElse, inOrder, AllPass, NoneIs}
+use Rattle.steps.specs.Order.{Step, AllPass, NoneIs}
 use Rattle.steps.proofs.OrderLaws.{passes, fails, decided}
 use Rattle.steps.proofs.Promises as order
 use Rattle.image.specs.declared.Survey.the-variants.{Unsound}

@@ -1,14 +1,13 @@
 -- What a submission leaves in an image, said of its bodies (specs/Laws.antt). Assumes nothing.
 use mathlib.Core.Path.{_≡_, refl, sym, ap, _∙_, subst}
-use mathlib.Core.Logic.{_↔_, _⊎_, inl, inr, ⊎-elim}
 use mathlib.Core.Bool.{Bool, true, false, _&&_, _||_, false≢true}
 use mathlib.Core.List.{List, [], _∷_, _++_}
-use mathlib.Core.Option.{none, some}
+use mathlib.Core.Option.{some}
 use Prim.Native.Nat.{ℕ, _+_, _≤_, _<_}
 use native.Mathlib.Omega.{arith}
 use lib.ListN.{length, drop}
 use lib.Dec.{leb, ltb}
-use borrow.Author.Tests.{ltb-true, ltb-false, leb-true, leb-false}
+use borrow.Author.Tests.{ltb-true, leb-true}
 use Rattle.cbor_item.specs.Bytes.{part, same}
 use Rattle.cbor_item.proofs.Tests.{and-left, and-right}
 use Rattle.descriptor.specs.declared.Fields.{Fields}
@@ -18,10 +17,10 @@ use Rattle.image.specs.declared.Held.the-variants.{Missing, Body}
 use Rattle.image.specs.declared.Survey.{Survey}
 use Rattle.image.specs.declared.Survey.the-variants.{Sound}
 use Rattle.image.specs.Layout.{rowSize, mostRows}
-use Rattle.image.specs.Image.{idOf, imageOf, hasId, Holds, bodyWith}
+use Rattle.image.specs.Image.{idOf, imageOf, hasId, Holds}
 use Rattle.image.specs.Check.{surveyOf, findOf, bodyFound, isHeld}
 use Rattle.image.proofs.RowLaws.{id-length}
-use Rattle.image.proofs.ListLaws.{same-true, true-same, with-new, with-other}
+use Rattle.image.proofs.ListLaws.{same-true, true-same, with-new}
 use Rattle.image.proofs.HeldLaws.{HeldBody, HeldIs}
 use Rattle.image.proofs.SurveyLaws.{survey-complete}
 use Rattle.image.proofs.Laws.{bodies-named, body-found, editions-surveyed}
@@ -29,8 +28,8 @@ use Rattle.submission.specs.declared.Submission.the-variants as answers
 use Rattle.submission.specs.Submission.{agrees, hasRoom, submitted, numberOf, afterOf}
 use Rattle.submission.specs.Promises.{RefusalKeeps, EditionsRefused}
 use Rattle.submission.specs.Laws.{HeldKeeps, StoredLast, BodyStored}
-use Rattle.submission.proofs.ChoiceLaws.{kept-or-done, refused-keeps}
-use Rattle.submission.proofs.GrowLaws.{length-more, bodies-more}
+use Rattle.submission.proofs.ChoiceLaws.{refused-keeps}
+use Rattle.submission.proofs.GrowLaws.{bodies-more}
 use Rattle.submission.proofs.SubmitLaws.{after-held, after-new}
 use Rattle.submission.proofs.StepLaws.{done-passed, unsound-refused}
 

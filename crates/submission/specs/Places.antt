@@ -1,4 +1,4 @@
--- What is known of the places that a survey answers: they lie in the image.
+-- What is known of the places that a survey answers: they lie in the image. A reader of the promises does not need this page.
 use mathlib.Core.List.{List}
 use Prim.Native.Nat.{ℕ, _+_, _≤_}
 use lib.ListN.{length}

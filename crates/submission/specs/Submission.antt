@@ -1,4 +1,4 @@
--- Submission: the steps in document 01's order, the answer, and the buffer after it. These definitions compute.
+-- Submission: what the code answers, and the buffer after it. These definitions compute. A reader of the promises does not need this page.
 use mathlib.Core.Bool.{Bool, true, false, not, cond, _&&_, _||_}
 use mathlib.Core.List.{List, [], _∷_, _++_}
 use Prim.Native.Nat.{ℕ, _+_}

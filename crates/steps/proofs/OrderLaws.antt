@@ -39,6 +39,10 @@ order-mapped f (s ∷ steps) r = go (s .passes) (order-mapped f steps r)
     go true e = e
     go false e = refl
 
+-- Steps that pass alike and have the same refusal, before steps that do so.
+pub alike : {R : Type 0} {t u : Bool} {a b : R} {ss us : List (Step R)} → t ≡ u → a ≡ b → ss ≡ us → (step t a ∷ ss) ≡ (step u b ∷ us)
+alike e f g = rw (e, f, g)
+
 -- ---- the two promises
 
 no-way : {X : Type 0} {b : Bool} → b ≡ true → b ≡ false → X

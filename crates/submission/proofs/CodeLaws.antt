@@ -31,37 +31,38 @@ use Rattle.submission.specs.declared.choose.Choice.{Choice}
 use Rattle.submission.specs.declared.choose.Choice.the-variants.{Answer, Store}
 use Rattle.submission.specs.declared.choose.Admission.{Admission}
 use Rattle.submission.specs.declared.choose.Admission.the-variants.{Refused, Admitted}
+use Rattle.submission.specs.Submission.{longestLead}
 use Rattle.submission.specs.Places.{HeldFits}
 use Rattle.submission.specs.Stages.{admitted, placed, whenAdmitted, chosenRead, chosenUnread, chosenBy, choiceOf, raised, withRow, grown}
 
 -- ---- the beginning, the issuer, the key and the signature
 
 -- A descriptor that begins more than a day ahead is refused.
-pub admit-late : (before clock verdict : ℕ) (window : Window) → clock + 86400 < before → Refused answers.Validity ≡ admitted before clock verdict window
+pub admit-late : (before clock verdict : ℕ) (window : Window) → clock + longestLead < before → Refused answers.Validity ≡ admitted before clock verdict window
 unfolding admitted
-admit-late before clock verdict window h = rw (lt-leb before (clock + 86400) h)
+admit-late before clock verdict window h = rw (lt-leb before (clock + longestLead) h)
 
-module _ (before clock verdict : ℕ) (window : Window) (h : before ≤ clock + 86400) where
+module _ (before clock verdict : ℕ) (window : Window) (h : before ≤ clock + longestLead) where
   -- Where there is no such key the issuer is unknown.
   pub admit-issuer : verdict ≡ 2 → Refused answers.UnknownIssuer ≡ admitted before clock verdict window
   unfolding admitted isThat
-  admit-issuer e = rw (le-leb before (clock + 86400) h, eq-eqb verdict 2 e)
+  admit-issuer e = rw (le-leb before (clock + longestLead) h, eq-eqb verdict 2 e)
 
   module _ (n : verdict ≡ 2 → ⊥) (opens : Bool) (k : opens ≡ keyOpen window clock) where
     -- A key whose window the clock is not in is refused.
     pub admit-key : not opens ≡ true → Refused answers.KeyInvalid ≡ admitted before clock verdict window
     unfolding admitted isThat
-    admit-key t = rw (le-leb before (clock + 86400) h, ne-eqb verdict 2 n, sym k ∙ not-true opens t)
+    admit-key t = rw (le-leb before (clock + longestLead) h, ne-eqb verdict 2 n, sym k ∙ not-true opens t)
 
     -- A bad signature is refused.
     pub admit-bad : not opens ≡ false → verdict ≡ 1 → Refused answers.BadSignature ≡ admitted before clock verdict window
     unfolding admitted isThat
-    admit-bad t e = rw (le-leb before (clock + 86400) h, ne-eqb verdict 2 n, sym k ∙ not-false opens t, eq-eqb verdict 1 e)
+    admit-bad t e = rw (le-leb before (clock + longestLead) h, ne-eqb verdict 2 n, sym k ∙ not-false opens t, eq-eqb verdict 1 e)
 
     -- Else all pass.
     pub admit-all : not opens ≡ false → (verdict ≡ 1 → ⊥) → Admitted ≡ admitted before clock verdict window
     unfolding admitted isThat
-    admit-all t e = rw (le-leb before (clock + 86400) h, ne-eqb verdict 2 n, sym k ∙ not-false opens t, ne-eqb verdict 1 e)
+    admit-all t e = rw (le-leb before (clock + longestLead) h, ne-eqb verdict 2 n, sym k ∙ not-false opens t, ne-eqb verdict 1 e)
 
 -- ---- a body that is held, and one that is not
 

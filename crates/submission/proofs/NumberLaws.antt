@@ -2,10 +2,11 @@
 use mathlib.Core.Path.{_≡_, refl, sym, ap, ap₂, _∙_, subst}
 use mathlib.Core.Bool.{Bool, true, _&&_, false≢true}
 use mathlib.Core.List.{List, [], _∷_}
-use Prim.Native.Nat.{ℕ, _<_}
+use mathlib.Core.Option.{Option}
+use Prim.Native.Nat.{ℕ, _+_, _<_}
 use native.Mathlib.Omega.{arith}
 use lib.ListN.{length}
-use lib.Dec.{ltb}
+use lib.Dec.{leb, ltb}
 use borrow.Author.Tests.{ltb-true}
 use Rattle.cbor_item.specs.Bytes.{AreBytes}
 use Rattle.cbor_item.proofs.Tests.{and-left, and-right}
@@ -20,7 +21,7 @@ use Rattle.descriptor.specs.Answer.{readingOf}
 use Rattle.steps.specs.declared.Window.{Window}
 use Rattle.steps.specs.Order.{Step, orElse, inOrder, NoneIs}
 use Rattle.steps.specs.Key.{isVerdict, isThat, keyOpen}
-use Rattle.steps.proofs.OrderLaws.{mapped, order-mapped}
+use Rattle.steps.proofs.OrderLaws.{mapped, order-mapped, alike}
 use Rattle.steps.proofs.Promises as order
 use Rattle.image.specs.declared.Held.{Held}
 use Rattle.image.specs.declared.Held.the-variants.{Missing, Body}
@@ -34,7 +35,7 @@ use Rattle.image.proofs.SurveyLaws.{survey-complete}
 use Rattle.image.proofs.Laws.{survey-exactly, body-read, encoding-read}
 use Rattle.submission.specs.declared.Submission.the-variants as answers
 use Rattle.submission.specs.Submission.{stepsBy, steps, submitted, numberOf}
-use Rattle.submission.specs.Promises.{Stored, unsound, bodies, structure, validity, descriptor as encoding, IsStored, IsBody, AlwaysMeets, stepsFor, SubmittedExactly, DoneExactly, RefusedExactly}
+use Rattle.submission.specs.Promises.{Stored, unsound, bodies, structure, validity, descriptor as encoding, IsStored, IsBody, AlwaysMeets, isSame, stepsFor, SubmittedExactly, DoneExactly, RefusedExactly}
 use Rattle.submission.specs.Promises as promised
 use Rattle.submission.proofs.GrowLaws.{length-more}
 
@@ -75,8 +76,30 @@ by-descriptor : (d : List ℕ) (clock verdict : ℕ) (window : Window) (bs : Lis
     → numberBy d (encode c) clock verdict window (Read f) (Sound (length bs) (length (imageOf bs)) h)
     ≡ inOrder (stepsFor (bodies bs) (encoding c) (length d) clock verdict window) 0
 unfolding stepsBy isVerdict isThat keyOpen
-by-descriptor d clock verdict window bs c f Missing e k = rw (e, k .0, length-more bs (encode c))
-by-descriptor d clock verdict window bs c f (Body at len g) e k = rw (e, k .which)
+by-descriptor d clock verdict window bs c f Missing e k =
+    ap (λ (l : List (Step ℕ)). inOrder l 0)
+    (alike refl refl
+    (alike refl refl
+    (alike refl refl
+    (alike refl refl
+    (alike (ap (λ (n : ℕ). leb n (clock + 86400)) e) refl
+    (alike refl refl
+    (alike refl refl
+    (alike refl refl
+    (alike (sym (ap (λ (o : Option (List ℕ)). isSame o (encode c)) (k .0))) refl
+    (alike (rw (k .0, length-more bs (encode c))) refl refl))))))))))
+by-descriptor d clock verdict window bs c f (Body at len g) e k =
+    ap (λ (l : List (Step ℕ)). inOrder l 0)
+    (alike refl refl
+    (alike refl refl
+    (alike refl refl
+    (alike refl refl
+    (alike (ap (λ (n : ℕ). leb n (clock + 86400)) e) refl
+    (alike refl refl
+    (alike refl refl
+    (alike refl refl
+    (alike (sym (ap (λ (o : Option (List ℕ)). isSame o (encode c)) (k .which))) refl
+    (alike (rw (k .which)) refl refl))))))))))
 
 -- ---- the number of a descriptor
 

@@ -2,13 +2,14 @@
 use mathlib.Core.Logic.{⊎-elim}
 use Prim.Native.Nat.{_+_, _≤_}
 use native.Mathlib.Omega.{arith}
+use Rattle.submission.specs.Submission.{longestLead}
 use Rattle.submission.proofs.CodeLaws.{admit-late, admit-issuer, admit-key, admit-bad, admit-all}
 use borrow.Author.Needs.{needs}
 use Rattle.submission.proofs.choose.admit.Statement.{statement}
 use Rattle.submission.proofs.choose.admit.Tie as tie
 
 -- past the first test the descriptor begins at most a day ahead
-lead : (j : tie.Joined1) → j .before .args .before ≤ j .before .args .clock + 86400
+lead : (j : tie.Joined1) → j .before .args .before ≤ j .before .args .clock + longestLead
 lead j = ⊎-elim (λ w. omega (arith, w .0 .taken, w .1 .left)) (λ w. omega (arith, w .left)) (j .if1 .came)
 
 sub-if2 : tie.Need-sub-if2

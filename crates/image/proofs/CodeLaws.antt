@@ -30,7 +30,7 @@ use Rattle.image.specs.declared.Survey.{Survey}
 use Rattle.image.specs.declared.Survey.the-variants.{Unsound}
 use Rattle.image.specs.declared.Finding.the-variants.{BadId}
 use Rattle.image.specs.declared.Made.the-variants.{Done, TooShort}
-use Rattle.image.specs.Layout.{rowPlace}
+use Rattle.image.specs.Layout.{imageEdition, modeEdition, mostRows, rowPlace}
 use Rattle.image.specs.Image.{reading}
 use Rattle.image.specs.Check.{rowCount, rowId, rowLength, headerFits, idAmong, rowFits, onRead, rowAt, noted, rowsFrom, checked, surveyed, surveyOf, foundIn, findOf}
 use Rattle.image.specs.Fresh.{fresh, madeOf, afterNew}
@@ -57,16 +57,16 @@ and-four a b c d = and-assoc (a && b) c d ∙ and-assoc a b (c && d)
 
 -- The four tests of the code are those of the header.
 pub header-is : (s : List ℕ) (a b c d : ℕ) → 8 ≤ length s → a ≡ numberIn s 0 2 → b ≡ numberIn s 2 2 → c ≡ numberIn s 4 2 → d ≡ numberIn s 6 2
-    → (((eqb a 1 && eqb b 1) && leb c 64) && eqb d 0) ≡ headerFits s
+    → (((eqb a imageEdition && eqb b modeEdition) && leb c mostRows) && eqb d 0) ≡ headerFits s
 unfolding headerFits rowCount
 header-is s a b c d h ea eb ec ed =
     let fa : a ≡ numberAt s 0 2 = ea ∙ number-in s 0 2 (omega arith) (omega arith) in
     let fb : b ≡ numberAt s 2 2 = eb ∙ number-in s 2 2 (omega arith) (omega arith) in
     let fc : c ≡ numberAt s 4 2 = ec ∙ number-in s 4 2 (omega arith) (omega arith) in
     let fd : d ≡ numberAt s 6 2 = ed ∙ number-in s 6 2 (omega arith) (omega arith) in
-    and-four (eqb a 1) (eqb b 1) (leb c 64) (eqb d 0)
-    ∙ ap₂ (λ (x y : ℕ). eqb x 1 && (eqb y 1 && (leb c 64 && eqb d 0))) fa fb
-    ∙ ap₂ (λ (x y : ℕ). eqb (numberAt s 0 2) 1 && (eqb (numberAt s 2 2) 1 && (leb x 64 && eqb y 0))) fc fd
+    and-four (eqb a imageEdition) (eqb b modeEdition) (leb c mostRows) (eqb d 0)
+    ∙ ap₂ (λ (x y : ℕ). eqb x imageEdition && (eqb y modeEdition && (leb c mostRows && eqb d 0))) fa fb
+    ∙ ap₂ (λ (x y : ℕ). eqb (numberAt s 0 2) imageEdition && (eqb (numberAt s 2 2) modeEdition && (leb x mostRows && eqb y 0))) fc fd
 
 -- ---- one row
 
@@ -205,8 +205,8 @@ pub header-few : (s : List ℕ) (n : ℕ) (b : Bool) → 8 ≤ length s → b �
 unfolding headerFits
 header-few s n b h p t e =
     let y : headerFits s ≡ true = sym p ∙ not-false b t in
-    let u = and-right (eqb (numberAt s 2 2) 1) (leb (rowCount s) 64 && eqb (numberAt s 6 2) 0) (and-right (eqb (numberAt s 0 2) 1) _ y) in
-    omega (arith, leb-true (rowCount s) 64 (and-left (leb (rowCount s) 64) (eqb (numberAt s 6 2) 0) u), count-is s n h e)
+    let u = and-right (eqb (numberAt s 2 2) modeEdition) (leb (rowCount s) mostRows && eqb (numberAt s 6 2) 0) (and-right (eqb (numberAt s 0 2) imageEdition) _ y) in
+    omega (arith, leb-true (rowCount s) mostRows (and-left (leb (rowCount s) mostRows) (eqb (numberAt s 6 2) 0) u), count-is s n h e)
 
 -- Bytes under a header are not sound.
 pub survey-short : (s id : List ℕ) → length s < 8 → Unsound ≡ surveyOf s id

@@ -39,14 +39,14 @@ module _ (s : List ℕ) (q : Asked) (d : Descriptor) (u : Under s (q .id) (held 
     -- From not_after on it is 10.
     too-late : d .payload .notAfter ≤ q .clock → numbersOf (decisionOf s q) ≡ refusal 10
     too-late h =
-        let b : d .payload .notBefore < d .payload .notAfter = u .allowed .formed .payload .lasts in
+        let b : d .payload .notBefore < d .payload .notAfter = u .2 .allowed .formed .payload .lasts in
         decided-exactly s q (held d) u
         ∙ sym (decided (passes w (passes refl (passes refl (passes (ap not l) (passes (le-leb (d .payload .notBefore) (q .clock) (omega arith)) (fails (le-ltb _ _ h))))))))
 
 -- `BeginBoundary`.
 pub begin-boundary : BeginBoundary
 begin-boundary s q d u =
-    let b : d .payload .notBefore < d .payload .notAfter = u .allowed .formed .payload .lasts in (
+    let b : d .payload .notBefore < d .payload .notAfter = u .2 .allowed .formed .payload .lasts in (
       λ e. inside-period s q d u (omega arith) (omega arith),
       λ e w l. too-early s q d u w l (omega arith),
     )
@@ -54,7 +54,7 @@ begin-boundary s q d u =
 -- `EndBoundary`.
 pub end-boundary : EndBoundary
 end-boundary s q d u =
-    let b : d .payload .notBefore < d .payload .notAfter = u .allowed .formed .payload .lasts in (
+    let b : d .payload .notBefore < d .payload .notAfter = u .2 .allowed .formed .payload .lasts in (
       λ e. inside-period s q d u (omega arith) (omega arith),
       λ e w l. too-late s q d u w l (omega arith),
     )

@@ -1,6 +1,6 @@
 -- What a request is decided on: the survey of the image, and the body that a sound image holds (specs/Decision.antt). Assumes nothing.
 use mathlib.Core.Path.{_≡_, refl, sym, ap, _∙_}
-use mathlib.Core.Bool.{Bool, true, false, false≢true}
+use mathlib.Core.Bool.{Bool, true, false}
 use mathlib.Core.List.{List, []}
 use mathlib.Core.Option.{none, some}
 use Prim.Native.Nat.{ℕ}
@@ -14,7 +14,7 @@ use Rattle.image.specs.declared.Held.{Held}
 use Rattle.image.specs.declared.Held.the-variants.{Missing, Body}
 use Rattle.image.specs.declared.Survey.{Survey}
 use Rattle.image.specs.declared.Survey.the-variants.{Sound}
-use Rattle.image.specs.Image.{reading, imageOf, hasId, Holds, bodyWith}
+use Rattle.image.specs.Image.{reading, imageOf, Holds, bodyWith}
 use Rattle.image.specs.Check.{surveyOf, isSound, isHeld}
 use Rattle.image.proofs.HeldLaws.{HeldIs}
 use Rattle.image.proofs.SurveyLaws.{survey-complete}
@@ -93,11 +93,3 @@ decided-on-none s q bs h e =
     go : (k : Held) → HeldIs s (q .id) bs k → decidedIn s q (Sound (length bs) (length (imageOf bs)) k) ≡ missingBy q
     go Missing i = refl
     go (Body at len g) i = absurd (none-some (part s at len) (sym e ∙ i .which))
-
--- Where none of the bodies has the id, no body is found under it.
-pub none-with : (s id : List ℕ) (bs : List (List ℕ)) → Holds s bs → hasId id bs ≡ false → bodyWith id bs ≡ none
-none-with s id bs h n = let w = survey-complete s id bs h in go (w .0) (w .2)
-  where
-    go : (k : Held) → HeldIs s id bs k → bodyWith id bs ≡ none
-    go Missing i = i .0
-    go (Body at len g) i = absurd (false≢true (sym n ∙ i .mine))

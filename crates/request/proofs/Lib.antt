@@ -9,9 +9,9 @@ pub mod MatchLaws
 pub mod GrantLaws
 pub mod MeaningLaws
 pub mod ServingLaws
+pub mod UnderLaws
 pub mod NumberLaws
 pub mod BoundaryLaws
-pub mod UnderLaws
 pub mod GivenLaws
 pub mod StoredLaws
 pub mod Promises

@@ -13,10 +13,9 @@ use Rattle.steps.specs.Order.{Step, orElse, inOrder}
 use Rattle.steps.specs.Key.{isVerdict, isThat, keyOpen}
 use Rattle.steps.proofs.MapLaws.{mapped, in-order-map}
 use Rattle.steps.proofs.Promises as order
-use Rattle.image.specs.declared.Survey.{Survey}
-use Rattle.image.specs.declared.Survey.the-variants.{Sound, Unsound}
-use Rattle.image.specs.Check.{surveyOf, isSound}
-use Rattle.image.proofs.Laws.{survey-exactly, editions-surveyed}
+use Rattle.image.specs.declared.Survey.the-variants.{Unsound}
+use Rattle.image.specs.Check.{surveyOf}
+use Rattle.image.proofs.Laws.{editions-surveyed}
 use Rattle.request.specs.declared.Decision.{Decision}
 use Rattle.request.specs.declared.Decision.the-variants as answers
 use Rattle.request.specs.declared.DecisionNumbers.{DecisionNumbers}
@@ -25,10 +24,11 @@ use Rattle.request.specs.declared.search.Matched.the-variants.{IsAt, Not
 use Rattle.request.specs.Asked.{Asked, wellFormed}
 use Rattle.request.specs.Decision.{Facts, laterSteps, stepsBy, grantedBy, factsIn, decisionOf, numbersOf}
 use Rattle.request.specs.Meaning.{firstServing, factsOfDescriptor, decidedFor}
-use Rattle.request.specs.Promises.{Stored, badImage, notHeld, held, Under, refusal, formed, someServes, firstPlace, firstMask, stepsFor, grantedFor, answerFor, DecidedExactly, GrantedExactly, RefusedExactly, RefusalsZero, EditionsRefused}
+use Rattle.request.specs.Promises.{Stored, badImage, notHeld, held, Among, refusal, formed, someServes, firstPlace, firstMask, stepsFor, grantedFor, answerFor, DecidedExactly, GrantedExactly, RefusedExactly, RefusalsZero, EditionsRefused}
 use Rattle.request.proofs.StepLaws.{decidedBy, same-end, passed-end, NotBy, not-by}
-use Rattle.request.proofs.HeldLaws.{decided-in, missingBy, decided-on-none, none-with}
+use Rattle.request.proofs.HeldLaws.{decided-in, missingBy, decided-on-none}
 use Rattle.request.proofs.MeaningLaws.{decided-on-descriptor}
+use Rattle.request.proofs.UnderLaws.{held-found, none-found, unsound}
 use Rattle.request.proofs.ServingLaws.{some-found, found-first}
 
 -- the answer's number
@@ -79,20 +79,13 @@ held-numbers q d a =
     ∙ ap (λ (steps : List (Step DecisionNumbers)). inOrder steps r) (held-steps q d)
     ∙ same-end (stepsFor q (held d)) r (grantedFor q (held d)) (λ p. granted-numbers q d a (p .1 .1 .1 .1 .1 .1 .1 .1 .0))
 
--- Bytes that are no image are called unsound.
-unsound : (s id : List ℕ) → Under s id badImage → surveyOf s id ≡ Unsound
-unsound s id u = go (surveyOf s id) refl
-  where
-    go : (v : Survey) → surveyOf s id ≡ v → surveyOf s id ≡ Unsound
-    go (Sound n end h) e = let w = survey-exactly s id (u .0) .0 (ap isSound e) in absurd (u .1 (w .0) (w .1))
-    go Unsound e = e
-
 -- `DecidedExactly`.
 pub decided-exactly : DecidedExactly
 decided-exactly s q badImage u = unsound-numbers s q (unsound s (q .id) u)
-decided-exactly s q notHeld u = ap numbersOf (decided-on-none s q (u .0) (u .1) (none-with s (q .id) (u .0) (u .1) (u .2))) ∙ missing-numbers q
+decided-exactly s q notHeld u = ap numbersOf (decided-on-none s q (u .0) (u .1) (none-found s (q .id) u)) ∙ missing-numbers q
 decided-exactly s q (held d) u =
-    ap numbersOf (decided-on-descriptor s q (u .bodies) d (u .image) (u .bytes) (u .allowed) (u .found)) ∙ held-numbers q d (u .allowed)
+    let a : Among (u .0) (q .id) d = u .2 in
+    ap numbersOf (decided-on-descriptor s q (u .0) d (u .1) (a .bytes) (a .allowed) (held-found s (q .id) d u)) ∙ held-numbers q d (a .allowed)
 
 -- ---- the order of the steps
 

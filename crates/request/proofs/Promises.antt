@@ -1,6 +1,6 @@
 -- The promises of specs/Promises.antt, each from its law. Assumes nothing.
 use mathlib.Core.Path.{refl}
-use Rattle.request.specs.Promises.{AskedInOrder, ListedExactly, AllStored, HeldNamed, DecidedExactly, GrantedExactly, RefusedExactly, RefusalsZero, EditionsRefused, GrantedGives, BeginBoundary, EndBoundary, StoredDecided, OthersDecided}
+use Rattle.request.specs.Promises.{AskedInOrder, ListedExactly, AllStored, DecidedExactly, GrantedExactly, RefusedExactly, RefusalsZero, EditionsRefused, GrantedGives, BeginBoundary, EndBoundary, StoredDecided, OthersDecided}
 use Rattle.request.proofs.ListedLaws as listed
 use Rattle.request.proofs.UnderLaws as under
 use Rattle.request.proofs.NumberLaws as numbers
@@ -20,9 +20,6 @@ listed-exactly = listed.listed-exactly
 
 pub all-stored : AllStored
 all-stored = under.all-stored
-
-pub held-named : HeldNamed
-held-named = under.held-named
 
 -- ---- the order of the steps
 

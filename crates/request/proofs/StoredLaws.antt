@@ -7,6 +7,8 @@ use mathlib.Core.Option.{some}
 use Prim.Native.Nat.{ℕ}
 use native.Mathlib.Omega.{arith}
 use Rattle.cbor_item.specs.Bytes.{AreBytes, part, same}
+use Rattle.descriptor.specs.Model.{Descriptor, encode}
+use Rattle.descriptor.specs.Allowed.{Allowed}
 use Rattle.steps.specs.declared.Window.{Window}
 use Rattle.image.specs.declared.Held.{Held}
 use Rattle.image.specs.declared.Held.the-variants.{Missing, Body}
@@ -27,6 +29,7 @@ use Rattle.request.specs.Asked.{Asked}
 use Rattle.request.specs.Decision.{decisionOf, numbersOf}
 use Rattle.request.specs.Promises.{held, Under, StoredDecided, OthersDecided}
 use Rattle.request.proofs.HeldLaws.{decided-on-body, decided-on-none}
+use Rattle.request.proofs.UnderLaws.{found-among}
 use Rattle.request.proofs.NumberLaws.{decided-exactly}
 
 -- The number 0 is that of no refusal.
@@ -63,21 +66,28 @@ module _ (d b : List ℕ) (clock verdict : ℕ) (window : Window) (e : submitted
     body-after : (cs : List (List ℕ)) → Holds (afterOf d b clock verdict window) cs → bodyWith (idOf b) cs ≡ some b
     body-after cs k = sym (body-found (afterOf d b clock verdict window) (idOf b) cs k (id-length b)) ∙ body-stored d b clock verdict window bs h e
 
+    -- A descriptor of which that is the encoding and the id is held.
+    stored-under : (c : Descriptor) → Allowed c → AreBytes b → b ≡ encode c → idOf b ≡ c .payload .id → (id : List ℕ) → id ≡ c .payload .id
+        → Under (afterOf d b clock verdict window) id (held c)
+    stored-under c o bytes i j id k =
+        let w = holds-after in
+        let found : bodyWith id (w .0) ≡ some (encode c)
+        = ap (λ (x : List ℕ). bodyWith x (w .0)) (k ∙ sym j) ∙ body-after (w .0) (w .1) ∙ ap some i in
+        (w .0, w .1, found-among id (w .0) c o (subst AreBytes i bytes) (sym k) found)
+
 -- `StoredDecided`.
 pub stored-decided : StoredDecided
-stored-decided d b clock verdict window q bytes a z i =
+stored-decided d b clock verdict window bytes a z =
     let e = done-zero (submitted d b clock verdict window) z in
     let w = done-holds d b clock verdict window e bytes in
-    let k = holds-after d b clock verdict window e (w .0) (w .1) in
-    let r = body-read b a (done-passed d b clock verdict window e .reads) in
-    let u : Under (afterOf d b clock verdict window) (q .id) (held (r .0)) = record {
-      bodies = k .0;
-      image = k .1;
-      found = ap (λ (id : List ℕ). bodyWith id (k .0)) i ∙ body-after d b clock verdict window e (w .0) (w .1) (k .0) (k .1) ∙ ap some (r .2);
-      allowed = r .1;
-      bytes = subst AreBytes (r .2) a;
-    } in
-    (r .0, r .2, u, decided-exactly (afterOf d b clock verdict window) q (held (r .0)) u)
+    let r = body-read b a (done-passed d b clock verdict window e .reads) in (
+      r .0,
+      r .1,
+      r .2,
+      λ q i.
+          let u = stored-under d b clock verdict window e (w .0) (w .1) (r .0) (r .1) a (r .2) (r .3) (q .id) i in
+          (u, decided-exactly (afterOf d b clock verdict window) q (held (r .0)) u),
+    )
 
 -- Two images in which the id finds the same body decide a request for it alike.
 found-alike : (s t : List ℕ) (q : Asked) (bs cs : List (List ℕ)) → Holds s bs → Holds t cs → bodyWith (q .id) cs ≡ bodyWith (q .id) bs → decisionOf t q ≡ decisionOf s q
@@ -98,11 +108,13 @@ other-test x y n = go (same x y) refl
 -- `OthersDecided`.
 pub others-decided : OthersDecided
 unfolding afterOf
-others-decided d b clock verdict window q bytes other =
+others-decided d b clock verdict window q bytes a other =
     ap numbersOf (⊎-elim (λ e. ap (λ (x : List ℕ). decisionOf x q) e) done (kept-or-done d b (isHeld (surveyOf d (idOf b))) (submitted d b clock verdict window)))
   where
     done : submitted d b clock verdict window ≡ submission.Done → decisionOf (afterOf d b clock verdict window) q ≡ decisionOf d q
     done e =
         let w = done-holds d b clock verdict window e bytes in
         let k = holds-after d b clock verdict window e (w .0) (w .1) in
-        found-alike d (afterOf d b clock verdict window) q (w .0) (k .0) (w .1) (k .1) (k .2 (q .id) (other-test (idOf b) (q .id) other))
+        let r = body-read b a (done-passed d b clock verdict window e .reads) in
+        let apart : same (idOf b) (q .id) ≡ false = other-test (idOf b) (q .id) (λ i. other (r .0) (r .1) (r .2) (i ∙ r .3)) in
+        found-alike d (afterOf d b clock verdict window) q (w .0) (k .0) (w .1) (k .1) (k .2 (q .id) apart)

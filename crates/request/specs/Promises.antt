@@ -3,7 +3,6 @@ use mathlib.Core.Path.{_≡_}
 use mathlib.Core.Logic.{_↔_, _⊎_}
 use mathlib.Core.Bool.{Bool, true, false, not, cond, _&&_, _||_}
 use mathlib.Core.List.{List, [], _∷_}
-use mathlib.Core.Option.{some}
 use Prim.Native.Nat.{ℕ, _+_, _*_, _%_, _≤_, _<_, min}
 use lib.ListN.{length, getD}
 use lib.Dec.{leb, ltb, eqb}
@@ -17,7 +16,7 @@ use Rattle.descriptor.specs.Allowed.{isIn, Allowed}
 use Rattle.descriptor.specs.Modes.{unionOf}
 use Rattle.steps.specs.declared.Window.{Window}
 use Rattle.steps.specs.Order.{Step, step, inOrder, AllPass, FirstFails}
-use Rattle.image.specs.Image.{idOf, hasId, Holds, bodyWith}
+use Rattle.image.specs.Image.{Holds}
 use Rattle.submission.specs.Submission.{submitted, afterOf, numberOf}
 use Rattle.request.specs.declared.DecisionNumbers.{DecisionNumbers}
 use Rattle.request.specs.Asked.{Asked, asked, isListed}
@@ -54,27 +53,24 @@ pub data Stored : Type 0 where
   notHeld : Stored
   held : Descriptor → Stored
 
--- s is the image of some bodies, and the one with the id is the encoding of the allowed descriptor d
-pub record HoldsBody (s id : List ℕ) (d : Descriptor) : Type 0 where
-  pub bodies : List (List ℕ)
-  pub image : Holds s bodies
-  pub found : bodyWith id bodies ≡ some (encode d)
+-- one of the bodies is the encoding of the allowed descriptor d, and d has the id
+pub record Among (bs : List (List ℕ)) (id : List ℕ) (d : Descriptor) : Type 0 where
   pub allowed : Allowed d
   pub bytes : AreBytes (encode d)
+  pub named : d .payload .id ≡ id
+  pub place : ℕ
+  pub inside : place < length bs
+  pub there : getD bs place [] ≡ encode d
 
--- what the image s holds under the id: it is the image of no list of bodies; or of bodies of which none has the id; or of bodies of which one has it
+-- what the bytes s hold under the id: they are the image of no list of bodies; or of bodies of which none has the id; or of bodies of which d has it
 abbrev pub Under : List ℕ → List ℕ → Stored → Type 0
 Under s id badImage = AreBytes s × ((bs : List (List ℕ)) → Holds s bs → ⊥)
-Under s id notHeld = (bs : List (List ℕ)) × Holds s bs × (hasId id bs ≡ false)
-Under s id (held d) = HoldsBody s id d
+Under s id notHeld = (bs : List (List ℕ)) × Holds s bs × AreBytes s × ((d : Descriptor) → Among bs id d → ⊥)
+Under s id (held d) = (bs : List (List ℕ)) × Holds s bs × Among bs id d
 
 -- any bytes hold one of the three under any id
 abbrev pub AllStored : Type 0
 AllStored = (s id : List ℕ) → AreBytes s → (x : Stored) × Under s id x
-
--- a descriptor that is held under an id has that descriptor id
-abbrev pub HeldNamed : Type 0
-HeldNamed = (s id : List ℕ) (d : Descriptor) → Under s id (held d) → d .payload .id ≡ id
 
 -- ---- the steps in document 01's order, with their numbers
 
@@ -207,14 +203,15 @@ EndBoundary = (s : List ℕ) (q : Asked) (d : Descriptor) → Under s (q .id) (h
 
 -- ---- with submission
 
--- after a submission answered 0, a request for the id of what was submitted is decided on that very descriptor
+-- what was submitted with the answer 0 is an allowed descriptor's encoding, and after it a request for its id is decided on that very descriptor
 abbrev pub StoredDecided : Type 0
-StoredDecided = (d b : List ℕ) (clock verdict : ℕ) (window : Window) (q : Asked) → AreBytes d → AreBytes b
-    → numberOf (submitted d b clock verdict window) ≡ 0 → q .id ≡ idOf b
-    → (c : Descriptor) × (b ≡ encode c) × Under (afterOf d b clock verdict window) (q .id) (held c)
-    × (numbersOf (decisionOf (afterOf d b clock verdict window) q) ≡ answerFor q (held c))
+StoredDecided = (d b : List ℕ) (clock verdict : ℕ) (window : Window) → AreBytes d → AreBytes b → numberOf (submitted d b clock verdict window) ≡ 0
+    → (c : Descriptor) × Allowed c × (b ≡ encode c)
+    × ((q : Asked) → q .id ≡ c .payload .id
+    → Under (afterOf d b clock verdict window) (q .id) (held c) × (numbersOf (decisionOf (afterOf d b clock verdict window) q) ≡ answerFor q (held c)))
 
--- after a submission, whatever it answered, a request for any other id is answered as before it
+-- after a submission, whatever it answered, a request for an id that what was submitted does not have is answered as before it
 abbrev pub OthersDecided : Type 0
-OthersDecided = (d b : List ℕ) (clock verdict : ℕ) (window : Window) (q : Asked) → AreBytes d → (q .id ≡ idOf b → ⊥)
+OthersDecided = (d b : List ℕ) (clock verdict : ℕ) (window : Window) (q : Asked) → AreBytes d → AreBytes b
+    → ((c : Descriptor) → Allowed c → b ≡ encode c → q .id ≡ c .payload .id → ⊥)
     → numbersOf (decisionOf (afterOf d b clock verdict window) q) ≡ numbersOf (decisionOf d q)

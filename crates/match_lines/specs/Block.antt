@@ -1,5 +1,5 @@
--- The input as it comes, in blocks of any length. Between two blocks the bytes of a line that has begun are kept, or, once it has more than 600, only that it is
--- too long. A reader of the promises does not need this page: they say what is written for the blocks of an input.
+-- The input as it comes, in blocks of any length. A reader of the promises does not need this page: they say what is written for the blocks of an input.
+-- Between two blocks the bytes of a line that has begun are kept, or, once it has more than 600, only that it is too long.
 use mathlib.Core.Bool.{Bool, true, false, cond, _||_}
 use mathlib.Core.List.{List, [], _∷_, _++_}
 use Prim.Native.Nat.{ℕ, suc, _+_, _-_, _/_}

@@ -4,10 +4,11 @@ use Rattle.cbor_item.specs.Encoding.{head}
 use Rattle.descriptor.specs.Keys.{ed25519, ecdsaP256Sha256, algorithms, mRead, mWrite, mExecute, mConfigure, modeNames}
 use Rattle.descriptor.specs.Model.{encMode, encAlgorithm}
 use Rattle.descriptor.specs.View.{maskFrom}
-use Rattle.descriptor_laws.specs.Promises.{LimitsFixed, MapsDeterministic, BytewiseOrder, PairsAscend, PairsDistinct, NamesEncoded, AlgorithmsFixed, ModesFixed, AnsweredExactly, OneReading, HandsBack, RefusalZero, PayloadHanded, GrantFound, GrantAbsent, GrantHanded}
+use Rattle.descriptor_laws.specs.Promises.{LimitsFixed, MapsDeterministic, BytewiseOrder, PairsAscend, PairsDistinct, NamesEncoded, AlgorithmsFixed, ModesFixed, AllowedExactly, AnsweredExactly, OneReading, HandsBack, RefusalZero, PayloadHanded, GrantFound, GrantAbsent, GrantHanded}
 use Rattle.descriptor_laws.proofs.encoding.NameLaws as names
 use Rattle.descriptor_laws.proofs.encoding.MapLaws as maps
 use Rattle.descriptor_laws.proofs.encoding.OrderLaws as order
+use Rattle.descriptor_laws.proofs.whole.LimitLaws as limits
 use Rattle.descriptor_laws.proofs.whole.AnswerLaws as answer
 use Rattle.descriptor_laws.proofs.handed.NumberLaws as number
 use Rattle.descriptor_laws.proofs.handed.BackLaws as back
@@ -42,6 +43,11 @@ algorithms-fixed = (refl, refl)
 pub modes-fixed : ModesFixed
 unfolding head encMode modeNames maskFrom mRead mWrite mExecute mConfigure
 modes-fixed = (refl, refl, refl, refl, refl, refl, refl, refl, λ gs. refl)
+
+-- ---- what is allowed
+
+pub allowed-exactly : AllowedExactly
+allowed-exactly = limits.allowed-exactly
 
 -- ---- reading
 

@@ -1,17 +1,20 @@
 -- What is promised of descriptors, and nothing else, in the order of document 01, "Descriptor bytes", with its names and numbers. Each statement `NameOfIt`
 -- is proved in proofs/Promises.antt as `name-of-it`.
 use mathlib.Core.Path.{_≡_}
-use mathlib.Core.Logic.{_↔_}
+use mathlib.Core.Logic.{_↔_, _⊎_}
 use mathlib.Core.Bool.{Bool, true, _&&_}
 use mathlib.Core.List.{List, [], _∷_, _++_}
 use mathlib.Core.Option.{Option, none, some}
-use Prim.Native.Nat.{ℕ, _+_, _-_, _<_}
+use Prim.Native.Nat.{ℕ, _+_, _-_, _^_, _≤_, _<_}
 use Prim.Native.String.{String}
-use lib.ListN.{length, getD}
+use lib.ListN.{length, take, getD}
 use Rattle.cbor_item.specs.Bytes.{AreBytes, part, Has}
 use Rattle.cbor_item.specs.Encoding.{head}
-use Rattle.cbor_item.specs.Reads.{encAll}
+use Rattle.cbor_item.specs.Reads.{encAll, OptOk}
+use Rattle.cbor_item.specs.Unicode.{Utf8}
 use Rattle.resource.specs.Characters.{codes}
+use Rattle.resource.specs.Identifier.{isFay, isTerminal}
+use Rattle.resource.specs.Text.{isPattern}
 use Rattle.descriptor.specs.declared.DescriptorNumbers.{DescriptorNumbers}
 use Rattle.descriptor.specs.declared.GrantNumbers.{GrantNumbers}
 use Rattle.descriptor.specs.Keys.{kPayload, kVersion, kSignature, kGrants, kMetadata, kIssuedAt, kIssuerId, kNotAfter, kGrantorId, kNotBefore, kTerminalId, kDescriptorId, kSubjectFayId, kKeyId, kAlgorithm, kSignatureValue, kModes, kConstraints, kResourcePattern, ed25519, ecdsaP256Sha256, mRead, mWrite, mExecute, mConfigure}
@@ -140,15 +143,21 @@ abbrev pub BytewiseOrder : Type 0
 BytewiseOrder = (x y : List ℕ)
     → (before x y ≡ true) ↔ ((c : List ℕ) × (a : List ℕ) × (b : List ℕ) × (x ≡ c ++ a) × (y ≡ c ++ b) × Less a b)
 
+-- each element of a list
+abbrev pub Each : {X : Type 0} → (X → Type 0) → List X → Type 0
+Each {X} P xs = (i : ℕ) (x : X) → i < length xs → getD xs i x ≡ x → P x
+
+-- each two elements of a list, the first of them before the second
+abbrev pub EachTwo : {X : Type 0} → (X → X → Type 0) → List X → Type 0
+EachTwo {X} R xs = (i j : ℕ) (x y : X) → i < j → j < length xs → getD xs i x ≡ x → getD xs j y ≡ y → R x y
+
 -- of two allowed pairs of one map the encoded key of the first stands before that of the second
 abbrev pub PairsAscend : Type 0
-PairsAscend = (most : ℕ) (ps : List Pair) → PairsOk most ps → (i j : ℕ) (p q : Pair) → i < j → j < length ps → getD ps i p ≡ p → getD ps j q ≡ q
-    → before (text (p .key)) (text (q .key)) ≡ true
+PairsAscend = (most : ℕ) (ps : List Pair) → PairsOk most ps → EachTwo (λ (p q : Pair). before (text (p .key)) (text (q .key)) ≡ true) ps
 
 -- and the two keys differ: none stands twice
 abbrev pub PairsDistinct : Type 0
-PairsDistinct = (most : ℕ) (ps : List Pair) → PairsOk most ps → (i j : ℕ) (p q : Pair) → i < j → j < length ps → getD ps i p ≡ p → getD ps j q ≡ q
-    → p .key ≡ q .key → ⊥
+PairsDistinct = (most : ℕ) (ps : List Pair) → PairsOk most ps → EachTwo (λ (p q : Pair). p .key ≡ q .key → ⊥) ps
 
 -- ---- the fixed byte strings
 
@@ -174,6 +183,64 @@ ModesFixed =
     (encMode 0 ≡ name "read") × (encMode 1 ≡ name "write") × (encMode 2 ≡ name "execute") × (encMode 3 ≡ name "configure")
     × (maskOf (0 ∷ []) ≡ 1) × (maskOf (1 ∷ []) ≡ 2) × (maskOf (2 ∷ []) ≡ 4) × (maskOf (3 ∷ []) ≡ 8)
     × ((gs : List Grant) → unionOf gs ≡ bit (anyHas 0 gs) 1 + (bit (anyHas 1 gs) 2 + (bit (anyHas 2 gs) 4 + bit (anyHas 3 gs) 8)))
+
+-- ---- what is allowed
+
+-- a text of lo to hi bytes
+pub record TextWithin (lo hi : ℕ) (c : List ℕ) : Type 0 where
+  pub least : lo ≤ length c
+  pub most : length c ≤ hi
+  pub valid : Utf8 c
+
+-- at most so many pairs, from text of 1 to 64 bytes to text of 0 to 256, keys in bytewise order of their encodings
+pub record PairsWithin (most : ℕ) (ps : List Pair) : Type 0 where
+  pub few : length ps ≤ most
+  pub keys : Each (λ (p : Pair). TextWithin 1 64 (p .key)) ps
+  pub values : Each (λ (p : Pair). TextWithin 0 256 (p .value)) ps
+  pub order : EachTwo (λ (p q : Pair). before (text (p .key)) (text (q .key)) ≡ true) ps
+
+-- 1 to 4 modes, any order, none twice
+pub record ModesWithin (ms : List ℕ) : Type 0 where
+  pub least : 1 ≤ length ms
+  pub most : length ms ≤ 4
+  pub known : Each (λ (m : ℕ). m < 4) ms
+  pub once : EachTwo (λ (m n : ℕ). m ≡ n → ⊥) ms
+
+-- a grant of the terminal t: at most 8 constraint pairs, and a pattern of at most 256 bytes whose terminal is t
+pub record GrantWithin (t : List ℕ) (g : Grant) : Type 0 where
+  pub modes : ModesWithin (g .modes)
+  pub constraints : OptOk (PairsWithin 8) (g .constraints)
+  pub pattern : isPattern (g .pattern) ≡ true
+  pub short : length (g .pattern) ≤ 256
+  pub own : take 45 (g .pattern) ≡ t
+
+-- a descriptor but for its longest period: at most 32,768 bytes, 1 to 256 grants, at most 16 pairs of metadata, times of 64 bits, issued_at ≤ not_before
+-- < not_after, and an ed25519 signature of 64 bytes or one of ecdsa-p256-sha256 of 1 to 72
+pub record Within (d : Descriptor) : Type 0 where
+  pub short : length (encode d) ≤ 32768
+  pub least : 1 ≤ length (d .payload .grants)
+  pub most : length (d .payload .grants) ≤ 256
+  pub grants : Each (GrantWithin (d .payload .terminal)) (d .payload .grants)
+  pub metadata : OptOk (PairsWithin 16) (d .payload .metadata)
+  pub issued : d .payload .issuedAt < 2 ^ 64
+  pub issuer : TextWithin 1 128 (d .payload .issuer)
+  pub until : d .payload .notAfter < 2 ^ 64
+  pub grantor : OptOk (TextWithin 1 128) (d .payload .grantor)
+  pub since : d .payload .notBefore < 2 ^ 64
+  pub terminal : isTerminal (d .payload .terminal) ≡ true
+  pub id : length (d .payload .id) ≡ 16
+  pub fay : isFay (d .payload .fay) ≡ true
+  pub begins : d .payload .issuedAt ≤ d .payload .notBefore
+  pub lasts : d .payload .notBefore < d .payload .notAfter
+  pub key : TextWithin 1 64 (d .signature .keyId)
+  pub value : ((d .signature .algorithm ≡ 0) × (length (d .signature .value) ≡ 64))
+      ⊎ ((d .signature .algorithm ≡ 1) × (1 ≤ length (d .signature .value)) × (length (d .signature .value) ≤ 72))
+
+-- a descriptor is allowed exactly within these limits and with a period of at most 7,776,000; it is formed exactly within these limits
+abbrev pub AllowedExactly : Type 0
+AllowedExactly = (d : Descriptor)
+    → (Allowed d ↔ (Within d × (d .payload .notAfter - d .payload .notBefore ≤ 7776000)))
+    × (Formed d ↔ Within d)
 
 -- ---- reading
 

@@ -5,14 +5,14 @@ use mathlib.Core.Bool.{Bool, true, false, _&&_, _||_}
 use mathlib.Core.List.{List, [], _∷_, _++_}
 use Prim.Native.Nat.{ℕ, zero, suc, _<_}
 use native.Mathlib.Omega.{arith}
-use lib.ListN.{length, getD}
+use lib.ListN.{length}
 use lib.Dec.{ltb, eqb}
 use borrow.Author.Tests.{ltb-true, eqb-true, lt-ltb, eq-eqb}
 use Rattle.cbor_item.specs.Reads.{AllFrom}
 use Rattle.resource.proofs.Flags.{and-left, and-right, and-both, or-elim, no-flag}
 use Rattle.descriptor.specs.Model.{Pair}
 use Rattle.descriptor.specs.Allowed.{before, PairOk, keyOf}
-use Rattle.descriptor_laws.specs.Promises.{text, Less, BytewiseOrder, PairsAscend, PairsDistinct}
+use Rattle.descriptor_laws.specs.Promises.{text, Less, BytewiseOrder, Each, EachTwo, PairsAscend, PairsDistinct}
 
 -- ---- the order
 
@@ -45,7 +45,7 @@ none-before [] e = no-flag e
 none-before (a ∷ x) e = no-flag e
 
 -- which stands before all others
-empty-before : (b : ℕ) (y : List ℕ) → before [] (b ∷ y) ≡ true
+pub empty-before : (b : ℕ) (y : List ℕ) → before [] (b ∷ y) ≡ true
 unfolding before
 empty-before b y = refl
 
@@ -98,16 +98,14 @@ bytewise-order x y = (parts x y, λ r. rw (r .3, r .4) (joined (r .0) (r .1) (r 
 -- ---- pairs
 
 -- every key of allowed pairs stands after the last one before them
-all-after : (last : List ℕ) (ps : List Pair) → AllFrom PairOk keyOf last ps → (j : ℕ) (q : Pair) → j < length ps → getD ps j q ≡ q
-    → before last (text (q .key)) ≡ true
+all-after : (last : List ℕ) (ps : List Pair) → AllFrom PairOk keyOf last ps → Each (λ (q : Pair). before last (text (q .key)) ≡ true) ps
 all-after last [] a j q l e = absurd (omega arith)
 all-after last (p ∷ ps) a zero q l e = subst (λ (r : Pair). before last (text (r .key)) ≡ true) e (a .0 .ascends)
 all-after last (p ∷ ps) a (suc j) q l e =
     transitive last (text (p .key)) (text (q .key)) (a .0 .ascends) (all-after (text (p .key)) ps (a .1) j q (omega arith) e)
 
 -- so of two the first stands before the second
-two-ascend : (last : List ℕ) (ps : List Pair) → AllFrom PairOk keyOf last ps → (i j : ℕ) (p q : Pair) → i < j → j < length ps → getD ps i p ≡ p → getD ps j q ≡ q
-    → before (text (p .key)) (text (q .key)) ≡ true
+pub two-ascend : (last : List ℕ) (ps : List Pair) → AllFrom PairOk keyOf last ps → EachTwo (λ (p q : Pair). before (text (p .key)) (text (q .key)) ≡ true) ps
 two-ascend last [] a i j p q l m e f = absurd (omega arith)
 two-ascend last (r ∷ ps) a i zero p q l m e f = absurd (omega arith)
 two-ascend last (r ∷ ps) a zero (suc j) p q l m e f =
@@ -115,7 +113,7 @@ two-ascend last (r ∷ ps) a zero (suc j) p q l m e f =
 two-ascend last (r ∷ ps) a (suc i) (suc j) p q l m e f = two-ascend (text (r .key)) ps (a .1) i j p q (omega arith) (omega arith) e f
 
 pub pairs-ascend : PairsAscend
-pairs-ascend most ps k i j p q l m e f = two-ascend [] ps (k .each) i j p q l m e f
+pairs-ascend most ps k = two-ascend [] ps (k .each)
 
 pub pairs-distinct : PairsDistinct
 pairs-distinct most ps k i j p q l m e f same =

@@ -11,7 +11,7 @@ use Rattle.descriptor.specs.Model.{Grant, Descriptor}
 use Rattle.descriptor.specs.Allowed.{Allowed}
 use Rattle.steps.specs.Order.{Step, orElse, inOrder}
 use Rattle.steps.specs.Key.{isVerdict, isThat, keyOpen}
-use Rattle.steps.proofs.MapLaws.{mapped, in-order-map}
+use Rattle.steps.proofs.OrderLaws.{mapped, order-mapped}
 use Rattle.steps.proofs.Promises as order
 use Rattle.image.specs.declared.Survey.the-variants.{Unsound}
 use Rattle.image.specs.Check.{surveyOf}
@@ -40,7 +40,7 @@ answerOf n = n .answer
 -- The numbers of a decision by the steps are those of the steps with their numbers.
 by-numbers : (q : Asked) (sound there : Bool) (x : Facts) (m : Matched)
     → numbersOf (decidedBy q sound there x m) ≡ inOrder (mapped numbersOf (stepsBy q sound there x m)) (numbersOf (grantedBy q x m))
-by-numbers q sound there x m = in-order-map numbersOf (stepsBy q sound there x m) (grantedBy q x m)
+by-numbers q sound there x m = order-mapped numbersOf (stepsBy q sound there x m) (grantedBy q x m)
 
 -- An image that a survey calls unsound.
 unsound-numbers : (s : List ℕ) (q : Asked) → surveyOf s (q .id) ≡ Unsound → numbersOf (decisionOf s q) ≡ answerFor q badImage

@@ -1,0 +1,103 @@
+-- What a descriptor admits is what steps 9, 10 and 13 let pass (specs/Promises.antt). Assumes nothing.
+use mathlib.Core.Path.{_≡_, refl, sym, ap, ap₂, _∙_, subst}
+use mathlib.Core.Logic.{_↔_, _⊎_, inl, inr, ⊎-elim}
+use mathlib.Core.Bool.{Bool, true, false, _&&_, _||_, and-true}
+use mathlib.Core.List.{List, [], _∷_}
+use Prim.Native.Nat.{ℕ, zero, suc, _≤_, _<_}
+use native.Mathlib.Omega.{arith}
+use lib.ListN.{length}
+use lib.Dec.{leb, ltb, eqb}
+use borrow.Author.Tests.{leb-true, le-leb, ltb-true, lt-ltb, eq-eqb}
+use Rattle.cbor_item.proofs.Tests.{and-left, and-right}
+use Rattle.resource.specs.Identifier.{isFay, isTerminal}
+use Rattle.resource.specs.Pattern.{Path, IsPath, admits, pathText}
+use Rattle.resource.specs.Text.{isResource, pathOf, patternOf}
+use Rattle.resource.proofs.Promises.{resources-exact, resources-once}
+use Rattle.descriptor.specs.Model.{Grant, Descriptor, pairCount, encode}
+use Rattle.descriptor.specs.Allowed.{isIn}
+use Rattle.request.specs.Asked.{Asked}
+use Rattle.request.specs.Promises.{someServes, formed}
+use Rattle.narrowing.specs.Meaning.{grantAdmits, anyAdmits, Admits}
+use Rattle.narrowing.specs.Promises.{NoPairs, Reads, Inside, answerOnly}
+use Rattle.narrowing.specs.Narrow.{narrow, numbersOf as narrowNumbers}
+use Rattle.narrowing.proofs.Promises.{constrained-exactly, accepted-exactly}
+use Rattle.agreement.specs.Promises.{Serves, AcceptedUnder, AsksSame, StepsAdmit}
+
+-- ---- grants
+
+-- of grants without constraint pairs some serves exactly where some admits
+some-admits : (gs : List Grant) (m : ℕ) (x : Path) → NoPairs gs → someServes gs m x ≡ anyAdmits gs m x
+some-admits [] m x n = refl
+some-admits (g ∷ gs) m x n =
+    ap₂ _||_
+    (ap (λ (t : Bool). isIn m (g .modes) && (admits (patternOf (g .pattern)) x && t)) (eq-eqb (pairCount (g .constraints)) 0 (n .0))
+    ∙ ap (λ (t : Bool). isIn m (g .modes) && t) (and-true (admits (patternOf (g .pattern)) x)))
+    (some-admits gs m x (n .1))
+
+-- whether grants have no constraint pair is decided
+pairs-or-none : (gs : List Grant) → NoPairs gs ⊎ (NoPairs gs → ⊥)
+pairs-or-none [] = inl tt
+pairs-or-none (g ∷ gs) = go (pairCount (g .constraints)) refl (pairs-or-none gs)
+  where
+    go : (n : ℕ) → pairCount (g .constraints) ≡ n → NoPairs gs ⊎ (NoPairs gs → ⊥) → NoPairs (g ∷ gs) ⊎ (NoPairs (g ∷ gs) → ⊥)
+    go zero e (inl p) = inl (e, p)
+    go zero e (inr p) = inr (λ q. p (q .1))
+    go (suc n) e r = inr (λ q. omega (arith, q .0))
+
+-- ---- one descriptor
+
+pub steps-admit : StepsAdmit
+steps-admit q d n = (
+  λ p. record {
+    begun = leb-true (d .payload .notBefore) (q .clock) (p .0);
+    lasting = ltb-true (q .clock) (d .payload .notAfter) (p .1 .0);
+    granted = sym (some-admits (d .payload .grants) (q .mode) (pathOf (q .resource)) n) ∙ p .1 .1 .0;
+  },
+  λ a. (
+    le-leb (d .payload .notBefore) (q .clock) (a .begun),
+    (
+      lt-ltb (q .clock) (d .payload .notAfter) (a .lasting),
+      (some-admits (d .payload .grants) (q .mode) (pathOf (q .resource)) n ∙ a .granted, tt),
+    ),
+  ),
+)
+
+-- ---- an accepted child
+
+-- a child and a parent of which the answer is 0 have no constraint pairs
+pub none-accepted : (parent child : Descriptor) → AcceptedUnder parent child → NoPairs (parent .payload .grants) × NoPairs (child .payload .grants)
+none-accepted parent child a = go (pairs-or-none (parent .payload .grants)) (pairs-or-none (child .payload .grants))
+  where
+    refused : ((NoPairs (parent .payload .grants) × NoPairs (child .payload .grants)) → ⊥) → ⊥
+    refused f =
+        let e = constrained-exactly (encode parent) (encode child) parent child (a .parentBytes) (a .childBytes) (a .parentAllowed) (a .childAllowed) refl refl .1 f in
+        omega (arith, ap (λ n. n .answer) (sym (a .accepted) ∙ e))
+
+    go : NoPairs (parent .payload .grants) ⊎ (NoPairs (parent .payload .grants) → ⊥) → NoPairs (child .payload .grants) ⊎ (NoPairs (child .payload .grants) → ⊥)
+        → NoPairs (parent .payload .grants) × NoPairs (child .payload .grants)
+    go (inl p) (inl q) = (p, q)
+    go (inl p) (inr q) = absurd (refused (λ r. q (r .1)))
+    go (inr p) q = absurd (refused (λ r. p (r .0)))
+
+-- so the child is inside the parent
+pub inside-accepted : (parent child : Descriptor) → AcceptedUnder parent child → Inside parent child
+inside-accepted parent child a =
+    let n = none-accepted parent child a in
+    accepted-exactly (encode parent) (encode child) parent child
+    (record { bytes = a .parentBytes; allowed = a .parentAllowed; encoded = refl; plain = n .0 })
+    (record { bytes = a .childBytes; allowed = a .childAllowed; encoded = refl; plain = n .1 }) .0 (a .accepted)
+
+-- ---- the path of a request
+
+-- a resource id spells a path
+path-of : (s : List ℕ) → isResource s ≡ true → IsPath (pathOf s)
+path-of s e =
+    let x = resources-exact s .0 e in
+    subst IsPath (sym (ap pathOf (x .2) ∙ resources-once (x .0) (x .1))) (x .1)
+
+-- so does that of well-formed arguments
+pub path-formed : (q : Asked) → formed q ≡ true → IsPath (pathOf (q .resource))
+path-formed q e =
+    path-of (q .resource)
+    (and-right (leb (length (q .resource)) 256) (isResource (q .resource))
+    (and-left _ _ (and-right (isTerminal (q .terminal)) _ (and-right (isFay (q .fay)) _ (and-right (eqb (length (q .id)) 16) _ (and-right (leb (q .mode) 3) _ (and-right (leb (q .verdict) 2) _ e)))))))

@@ -1,11 +1,8 @@
 -- The promises of specs/Promises.antt, each from its law or by computation. Assumes nothing.
 use mathlib.Core.Path.{refl}
-use Rattle.cbor_item.specs.Encoding.{head}
-use Rattle.descriptor.specs.Keys.{ed25519, ecdsaP256Sha256, algorithms, mRead, mWrite, mExecute, mConfigure, modeNames}
-use Rattle.descriptor.specs.Model.{encMode, encAlgorithm}
-use Rattle.descriptor.specs.View.{maskFrom}
 use Rattle.descriptor_laws.specs.Promises.{LimitsFixed, MapsDeterministic, BytewiseOrder, PairsAscend, PairsDistinct, NamesEncoded, AlgorithmsFixed, ModesFixed, AllowedExactly, AnsweredExactly, OneReading, HandsBack, RefusalZero, PayloadHanded, GrantFound, GrantAbsent, GrantHanded}
 use Rattle.descriptor_laws.proofs.encoding.NameLaws as names
+use Rattle.descriptor_laws.proofs.encoding.BitLaws as modes
 use Rattle.descriptor_laws.proofs.encoding.MapLaws as maps
 use Rattle.descriptor_laws.proofs.encoding.OrderLaws as order
 use Rattle.descriptor_laws.proofs.whole.LimitLaws as limits
@@ -37,12 +34,10 @@ pub names-encoded : NamesEncoded
 names-encoded = names.names-encoded
 
 pub algorithms-fixed : AlgorithmsFixed
-unfolding head encAlgorithm algorithms ed25519 ecdsaP256Sha256
-algorithms-fixed = (refl, refl)
+algorithms-fixed = names.algorithms-fixed
 
 pub modes-fixed : ModesFixed
-unfolding head encMode modeNames maskFrom mRead mWrite mExecute mConfigure
-modes-fixed = (refl, refl, refl, refl, refl, refl, refl, refl, λ gs. refl)
+modes-fixed = modes.modes-fixed
 
 -- ---- what is allowed
 

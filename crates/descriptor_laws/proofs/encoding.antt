@@ -1,4 +1,5 @@
--- The deterministic encoding: names, maps and bytewise order.
+-- The deterministic encoding: names, modes, maps and bytewise order.
 pub mod NameLaws
+pub mod BitLaws
 pub mod MapLaws
 pub mod OrderLaws

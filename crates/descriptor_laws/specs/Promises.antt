@@ -2,12 +2,13 @@
 -- is proved in proofs/Promises.antt as `name-of-it`.
 use mathlib.Core.Path.{_≡_}
 use mathlib.Core.Logic.{_↔_, _⊎_}
-use mathlib.Core.Bool.{Bool, true, _&&_}
+use mathlib.Core.Bool.{Bool, true, false, cond, _&&_, _||_}
 use mathlib.Core.List.{List, [], _∷_, _++_}
 use mathlib.Core.Option.{Option, none, some}
 use Prim.Native.Nat.{ℕ, _+_, _-_, _^_, _≤_, _<_}
 use Prim.Native.String.{String}
 use lib.ListN.{length, take, getD}
+use lib.Dec.{eqb}
 use Rattle.cbor_item.specs.Bytes.{AreBytes, part, Has}
 use Rattle.cbor_item.specs.Encoding.{head}
 use Rattle.cbor_item.specs.Reads.{encAll, OptOk}
@@ -18,9 +19,9 @@ use Rattle.resource.specs.Text.{isPattern}
 use Rattle.descriptor.specs.declared.DescriptorNumbers.{DescriptorNumbers}
 use Rattle.descriptor.specs.declared.GrantNumbers.{GrantNumbers}
 use Rattle.descriptor.specs.Keys.{kPayload, kVersion, kSignature, kGrants, kMetadata, kIssuedAt, kIssuerId, kNotAfter, kGrantorId, kNotBefore, kTerminalId, kDescriptorId, kSubjectFayId, kKeyId, kAlgorithm, kSignatureValue, kModes, kConstraints, kResourcePattern, ed25519, ecdsaP256Sha256, mRead, mWrite, mExecute, mConfigure}
-use Rattle.descriptor.specs.Model.{Pair, Grant, Payload, Signature, Descriptor, pairCount, encPairs, encMode, encGrant, encodePayload, encAlgorithm, encSignature, encode}
-use Rattle.descriptor.specs.Allowed.{before, PairsOk, GrantOk, longest, longestPeriod, Formed, Allowed}
-use Rattle.descriptor.specs.Modes.{anyHas, bit, unionOf}
+use Rattle.descriptor.specs.Model.{Pair, Grant, Payload, Signature, Descriptor, encPairs, encMode, encGrant, encodePayload, encAlgorithm, encSignature, encode}
+use Rattle.descriptor.specs.Allowed.{before, PairsOk, longest, longestPeriod, Formed, Allowed}
+use Rattle.descriptor.specs.Modes.{unionOf}
 use Rattle.descriptor.specs.Reader.{readOf, grantAt}
 use Rattle.descriptor.specs.View.{maskOf, grantPlace}
 use Rattle.descriptor.specs.Answer.{readingOf}
@@ -143,11 +144,11 @@ abbrev pub BytewiseOrder : Type 0
 BytewiseOrder = (x y : List ℕ)
     → (before x y ≡ true) ↔ ((c : List ℕ) × (a : List ℕ) × (b : List ℕ) × (x ≡ c ++ a) × (y ≡ c ++ b) × Less a b)
 
--- each element of a list
+-- each element of a list: x is the i-th
 abbrev pub Each : {X : Type 0} → (X → Type 0) → List X → Type 0
 Each {X} P xs = (i : ℕ) (x : X) → i < length xs → getD xs i x ≡ x → P x
 
--- each two elements of a list, the first of them before the second
+-- each two elements of a list: x is the i-th and y a later one, the j-th
 abbrev pub EachTwo : {X : Type 0} → (X → X → Type 0) → List X → Type 0
 EachTwo {X} R xs = (i j : ℕ) (x y : X) → i < j → j < length xs → getD xs i x ≡ x → getD xs j y ≡ y → R x y
 
@@ -177,12 +178,22 @@ NamesEncoded =
 abbrev pub AlgorithmsFixed : Type 0
 AlgorithmsFixed = (encAlgorithm 0 ≡ name "ed25519") × (encAlgorithm 1 ≡ name "ecdsa-p256-sha256")
 
--- mode numbers: read 0, write 1, execute 2, configure 3; a mask gives them 1, 2, 4, 8, and the mask of grants is the sum over the modes that one of them has
+-- a mode is one of those
+abbrev pub among : ℕ → List ℕ → Bool
+among m [] = false
+among m (n ∷ ns) = eqb m n || among m ns
+
+-- one of the grants has the mode
+abbrev pub oneHas : ℕ → List Grant → Bool
+oneHas m [] = false
+oneHas m (g ∷ gs) = among m (g .modes) || oneHas m gs
+
+-- mode numbers: read 0, write 1, execute 2, configure 3; a mask gives them 1, 2, 4, 8, and the mask of grants has those that one of the grants has
 abbrev pub ModesFixed : Type 0
 ModesFixed =
     (encMode 0 ≡ name "read") × (encMode 1 ≡ name "write") × (encMode 2 ≡ name "execute") × (encMode 3 ≡ name "configure")
     × (maskOf (0 ∷ []) ≡ 1) × (maskOf (1 ∷ []) ≡ 2) × (maskOf (2 ∷ []) ≡ 4) × (maskOf (3 ∷ []) ≡ 8)
-    × ((gs : List Grant) → unionOf gs ≡ bit (anyHas 0 gs) 1 + (bit (anyHas 1 gs) 2 + (bit (anyHas 2 gs) 4 + bit (anyHas 3 gs) 8)))
+    × ((gs : List Grant) → unionOf gs ≡ cond (oneHas 0 gs) 1 0 + (cond (oneHas 1 gs) 2 0 + (cond (oneHas 2 gs) 4 0 + cond (oneHas 3 gs) 8 0)))
 
 -- ---- what is allowed
 
@@ -281,10 +292,15 @@ abbrev pub StandsIf : List ℕ → ℕ → Option (List Pair) → Type 0
 StandsIf s at none = at ≡ 0
 StandsIf s at (some ps) = Has s at (encPairs ps)
 
+-- the number of pairs of an optional map
+abbrev pub pairsIn : Option (List Pair) → ℕ
+pairsIn none = 0
+pairsIn (some ps) = length ps
+
 -- the number of constraint pairs of all grants
 abbrev pub constraintPairs : List Grant → ℕ
 constraintPairs [] = 0
-constraintPairs (g ∷ gs) = pairCount (g .constraints) + constraintPairs gs
+constraintPairs (g ∷ gs) = pairsIn (g .constraints) + constraintPairs gs
 
 -- the numbers that are handed back of the descriptor d in its bytes s, one by one, in the order of include/cap.h
 pub record DescriptorHanded (s : List ℕ) (d : Descriptor) (n : DescriptorNumbers) : Type 0 where
@@ -300,7 +316,7 @@ pub record DescriptorHanded (s : List ℕ) (d : Descriptor) (n : DescriptorNumbe
   pub terminal : part s (n .«terminal_at») 45 ≡ d .payload .terminal
   pub grants : n .grants ≡ length (d .payload .grants)
   pub metadata : StandsIf s (n .«metadata_at») (d .payload .metadata)
-  pub pairs : n .«metadata_pairs» ≡ pairCount (d .payload .metadata)
+  pub pairs : n .«metadata_pairs» ≡ pairsIn (d .payload .metadata)
   pub constraints : n .«constraint_pairs» ≡ constraintPairs (d .payload .grants)
   pub mask : n .mask ≡ unionOf (d .payload .grants)
   pub key : Lies s (n .«key_id_at») (n .«key_id_len») (d .signature .keyId)
@@ -361,19 +377,24 @@ pub record GrantHandedBack (s : List ℕ) (g : Grant) (n : GrantNumbers) : Type 
   pub mask : n .mask ≡ unionOf (g ∷ [])
   pub modes : Has s (n .«modes_at») (array encMode (g .modes))
   pub constraints : StandsIf s (n .«constraints_at») (g .constraints)
-  pub pairs : n .«constraint_pairs» ≡ pairCount (g .constraints)
+  pub pairs : n .«constraint_pairs» ≡ pairsIn (g .constraints)
 
 -- the numbers of no grant
 abbrev pub noGrant : GrantNumbers
 noGrant = record { found = 0; «pattern_at» = 0; «pattern_len» = 0; mask = 0; «modes_at» = 0; «constraints_at» = 0; «constraint_pairs» = 0 }
 
--- reading a grant at a place of any bytes hands back the allowed grant that stands there
+-- a grant of whatever terminal stands at the place
+pub record GrantStands (s : List ℕ) (at : ℕ) (g : Grant) : Type 0 where
+  pub allowed : GrantWithin (take 45 (g .pattern)) g
+  pub there : Has s at (encGrant g)
+
+-- reading a grant at a place of any bytes hands back the grant that stands there
 abbrev pub GrantFound : Type 0
-GrantFound = (s : List ℕ) → AreBytes s → (at : ℕ) (g : Grant) → GrantOk g → Has s at (encGrant g) → GrantHandedBack s g (grantNumbers (grantAt s at))
+GrantFound = (s : List ℕ) → AreBytes s → (at : ℕ) (g : Grant) → GrantStands s at g → GrantHandedBack s g (grantNumbers (grantAt s at))
 
 -- and none exactly where none stands
 abbrev pub GrantAbsent : Type 0
-GrantAbsent = (s : List ℕ) → AreBytes s → (at : ℕ) → (grantNumbers (grantAt s at) ≡ noGrant) ↔ ((g : Grant) → GrantOk g → Has s at (encGrant g) → ⊥)
+GrantAbsent = (s : List ℕ) → AreBytes s → (at : ℕ) → (grantNumbers (grantAt s at) ≡ noGrant) ↔ ((g : Grant) → GrantStands s at g → ⊥)
 
 -- at its place in the bytes of a descriptor it hands back the i-th grant
 abbrev pub GrantHanded : Type 0

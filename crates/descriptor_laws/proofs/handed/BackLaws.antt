@@ -12,27 +12,27 @@ use Rattle.cbor_item.specs.Head.{Span, spanOf}
 use Rattle.cbor_item.proofs.BytesLaws.{has-length}
 use Rattle.cbor_item.proofs.ItemLaws.{inside-fits}
 use Rattle.descriptor.specs.declared.DescriptorNumbers.{DescriptorNumbers}
-use Rattle.descriptor.specs.Model.{Pair, Grant, Descriptor, pairCount, encodePayload, encode}
+use Rattle.descriptor.specs.Model.{Pair, Grant, Descriptor, encodePayload, encode}
 use Rattle.descriptor.specs.Allowed.{Formed, Allowed}
 use Rattle.descriptor.specs.Reader.{Answer, read, structure, validity, readOf, pairsOf, beforePayload, beforeKeyId}
 use Rattle.descriptor.specs.View.{maskOf, countOf, sumFrom, grantsView, descriptorView}
 use Rattle.descriptor.specs.Answer.{readingOf, pairsIf}
 use Rattle.descriptor.specs.Numbers.{numbersOf, payloadSpan}
-use Rattle.descriptor_laws.specs.Promises.{constraintPairs, DescriptorHanded, HandsBack, PayloadHanded, handed}
+use Rattle.descriptor_laws.specs.Promises.{pairsIn, constraintPairs, DescriptorHanded, HandsBack, PayloadHanded, handed}
 use Rattle.descriptor_laws.proofs.grants.MaskLaws.{grants-union}
-use Rattle.descriptor_laws.proofs.grants.WalkLaws.{count-of, pairs-of}
+use Rattle.descriptor_laws.proofs.grants.WalkLaws.{count-of}
 use Rattle.descriptor_laws.proofs.whole.SignatureLaws.{encFromKey}
 use Rattle.descriptor_laws.proofs.whole.DescriptorLaws.{halves-encode}
 use Rattle.descriptor_laws.proofs.whole.AnswerLaws.{reads-exactly}
 use Rattle.descriptor_laws.proofs.places.SeenLaws.{payload-here}
 use Rattle.descriptor_laws.proofs.places.PlaceLaws.{terminal-part, id-part, fay-part}
-use Rattle.descriptor_laws.proofs.handed.PartLaws.{lies, metadata-stands, issuer-lies, grantor-lies, key-lies, value-lies}
+use Rattle.descriptor_laws.proofs.handed.PartLaws.{lies, pairs-count, metadata-stands, issuer-lies, grantor-lies, key-lies, value-lies}
 use Rattle.descriptor_laws.proofs.handed.NumberLaws.{answered-exactly}
 
 -- ---- counts
 
 -- the pairs of metadata
-metadata-count : (m : Option (List Pair)) → pairsIf (countOf m) ≡ pairCount m
+metadata-count : (m : Option (List Pair)) → pairsIf (countOf m) ≡ pairsIn m
 metadata-count none = refl
 metadata-count (some ps) = refl
 
@@ -40,12 +40,12 @@ metadata-count (some ps) = refl
 sum-count : (m k : ℕ) (gs : List Grant) → sumFrom (record { mask = m; pairs = k }) gs .pairs ≡ k + constraintPairs gs
 sum-count m k [] = sym (add-zero k)
 sum-count m k (g ∷ gs) =
-    omega (arith, sum-count (bitOr m (maskOf (g .modes))) (k + pairsOf (countOf (g .constraints))) gs, pairs-of (g .constraints))
+    omega (arith, sum-count (bitOr m (maskOf (g .modes))) (k + pairsOf (countOf (g .constraints))) gs, pairs-count (g .constraints))
 
 -- are those of all grants
 constraints-count : (at : ℕ) (gs : List Grant) → grantsView at gs .sum .pairs ≡ constraintPairs gs
 constraints-count at [] = refl
-constraints-count at (g ∷ gs) = omega (arith, sum-count (maskOf (g .modes)) (pairsOf (countOf (g .constraints))) gs, pairs-of (g .constraints))
+constraints-count at (g ∷ gs) = omega (arith, sum-count (maskOf (g .modes)) (pairsOf (countOf (g .constraints))) gs, pairs-count (g .constraints))
 
 -- ---- an allowed descriptor
 

@@ -4,7 +4,7 @@ use mathlib.Core.List.{List, _++_}
 use Prim.Native.Nat.{ℕ, _+_}
 use native.Mathlib.Omega.{arith}
 use lib.ListN.{length}
-use Rattle.cbor_item.specs.Bytes.{Has}
+use Rattle.cbor_item.specs.Bytes.{AreBytes, Has}
 use Rattle.cbor_item.specs.Reads.{Got, got, refused, Reads, found, lacks, encOpt}
 use Rattle.cbor_item.specs.Encoding.{head}
 use Rattle.cbor_item.proofs.BytesLaws.{has-left, has-right}
@@ -12,16 +12,16 @@ use Rattle.cbor_item.proofs.ReadsLaws.{complete}
 use Rattle.descriptor.specs.Keys.{kModes, kConstraints, kResourcePattern}
 use Rattle.descriptor.specs.Model.{Grant, size, encText, encPairs, encMode, encModes, encGrant}
 use Rattle.descriptor.specs.Allowed.{GrantOk}
-use Rattle.descriptor.specs.Reader.{GrantSeen}
+use Rattle.descriptor.specs.Reader.{GrantSeen, grantAt}
 use Rattle.descriptor.specs.View.{grantView}
 use Rattle.descriptor.specs.Numbers.{grantNumbers}
-use Rattle.descriptor_laws.specs.Promises.{array, StandsIf, GrantHandedBack, noGrant, GrantFound, GrantAbsent, GrantHanded}
+use Rattle.descriptor_laws.specs.Promises.{array, StandsIf, GrantHandedBack, noGrant, GrantStands, GrantFound, GrantAbsent, GrantHanded}
 use Rattle.descriptor_laws.proofs.grants.MaskLaws.{modes-union}
-use Rattle.descriptor_laws.proofs.grants.WalkLaws.{pairs-of}
 use Rattle.descriptor_laws.proofs.grants.GrantLaws.{grant-exact}
 use Rattle.descriptor_laws.proofs.grants.GrantsLaws.{pattern-at}
+use Rattle.descriptor_laws.proofs.whole.LimitLaws.{grant-within, within-grant}
 use Rattle.descriptor_laws.proofs.places.SeenLaws.{all-get, grant-here}
-use Rattle.descriptor_laws.proofs.handed.PartLaws.{lies, pairs-stand}
+use Rattle.descriptor_laws.proofs.handed.PartLaws.{lies, pairs-stand, pairs-count}
 
 module _ (s : List ℕ) (at : ℕ) (g : Grant) where
   -- the keys of a grant stand behind its head
@@ -49,25 +49,29 @@ module _ (s : List ℕ) (at : ℕ) (g : Grant) where
         mask = modes-union g q;
         modes = modes-stand h;
         constraints = constraints-stand h;
-        pairs = pairs-of (g .constraints);
+        pairs = pairs-count (g .constraints);
       }
 
-pub grant-found : GrantFound
-grant-found s bs at g q h =
+-- so are those of what is read of it
+read-found : (s : List ℕ) → AreBytes s → (at : ℕ) (g : Grant) → GrantOk g → Has s at (encGrant g) → GrantHandedBack s g (grantNumbers (grantAt s at))
+read-found s bs at g q h =
     subst (λ (o : Got GrantSeen). GrantHandedBack s g (grantNumbers o)) (sym (complete (grant-exact s bs at) g q h)) (seen-found s at g (at + length (encGrant g)) q h)
 
+pub grant-found : GrantFound
+grant-found s bs at g w = read-found s bs at g (within-grant _ g (w .allowed)) (w .there)
+
 -- where no grant stands there are zeros
-none-found : (s : List ℕ) (at : ℕ) (o : Got GrantSeen) → Reads s at GrantOk encGrant (grantView at) o
-    → ((g : Grant) → GrantOk g → Has s at (encGrant g) → ⊥) → grantNumbers o ≡ noGrant
-none-found s at (got v n) (found a) f = absurd (f (a .val) (a .fine) (a .has))
+none-found : (s : List ℕ) (at : ℕ) (o : Got GrantSeen) → Reads s at GrantOk encGrant (grantView at) o → ((g : Grant) → GrantStands s at g → ⊥)
+    → grantNumbers o ≡ noGrant
+none-found s at (got v n) (found a) f = absurd (f (a .val) (record { allowed = grant-within _ (a .val) (a .fine) refl; there = a .has }))
 none-found s at refused (lacks r) f = refl
 
 pub grant-absent : GrantAbsent
 grant-absent s bs at = (
-  λ e g q h. omega (arith, grant-found s bs at g q h .found, ap (λ n. n .found) e),
+  λ e g w. omega (arith, grant-found s bs at g w .found, ap (λ n. n .found) e),
   λ f. none-found s at _ (grant-exact s bs at) f,
 )
 
 pub grant-handed : GrantHanded
 grant-handed d bs q i g l e =
-    grant-found _ bs _ g (subst GrantOk e (all-get GrantOk (d .payload .grants) i g l (q .payload .grants))) (grant-here d q i g l e)
+    read-found _ bs _ g (subst GrantOk e (all-get GrantOk (d .payload .grants) i g l (q .payload .grants))) (grant-here d q i g l e)

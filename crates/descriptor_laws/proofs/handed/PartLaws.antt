@@ -12,10 +12,10 @@ use Rattle.cbor_item.specs.Head.{Span, encodeString}
 use Rattle.cbor_item.proofs.BytesLaws.{has-left, has-right, has-part, all-has}
 use Rattle.descriptor.specs.Keys.{kGrants, kMetadata, kIssuerId, kNotAfter, kGrantorId, kAlgorithm, kSignatureValue}
 use Rattle.descriptor.specs.Model.{Pair, Payload, Signature, Descriptor, encText, encPairs, encGrants, encodePayload, encAlgorithm, encode}
-use Rattle.descriptor.specs.Reader.{placeOf, beforePayload, beforeKeyId}
-use Rattle.descriptor.specs.View.{contentSpan, keysOf, descriptorView}
+use Rattle.descriptor.specs.Reader.{pairsOf, placeOf, beforePayload, beforeKeyId}
+use Rattle.descriptor.specs.View.{countOf, contentSpan, keysOf, descriptorView}
 use Rattle.descriptor.specs.Answer.{partIf}
-use Rattle.descriptor_laws.specs.Promises.{Lies, LiesIf, StandsIf}
+use Rattle.descriptor_laws.specs.Promises.{Lies, LiesIf, StandsIf, pairsIn}
 use Rattle.descriptor_laws.proofs.payload.PayloadLaws.{pieces-encode}
 use Rattle.descriptor_laws.proofs.whole.SignatureLaws.{encFromKey}
 use Rattle.descriptor_laws.proofs.whole.DescriptorLaws.{halves-encode}
@@ -46,6 +46,13 @@ module _ (s : List ℕ) (at : ℕ) where
       → let p = partIf (viewOpt (contentSpan (at + length key) 3) g) in LiesIf s (p .at) (p .len) g
   text-lies key none rest h = (refl, refl)
   text-lies key (some x) rest h = content-lies s _ 3 x (has-right s at key (encText x) (has-left s at (key ++ encText x) rest h))
+
+-- ---- counts
+
+-- the pairs that are seen of an optional map are those that it has
+pub pairs-count : (m : Option (List Pair)) → pairsOf (countOf m) ≡ pairsIn m
+pairs-count none = refl
+pairs-count (some ps) = refl
 
 -- ---- the payload
 

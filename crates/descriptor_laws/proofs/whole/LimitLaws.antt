@@ -180,7 +180,7 @@ within-pattern : (p : List ℕ) → isPattern p ≡ true → length p ≤ 256 �
 unfolding patternOk
 within-pattern p e l = and-both (leb (length p) longest) (isPattern p) (le-leb (length p) longest l) e
 
-grant-within : (t : List ℕ) (g : Grant) → GrantOk g → take 45 (g .pattern) ≡ t → GrantWithin t g
+pub grant-within : (t : List ℕ) (g : Grant) → GrantOk g → take 45 (g .pattern) ≡ t → GrantWithin t g
 grant-within t g q o =
     let p = pattern-within (g .pattern) (q .pattern) in
     record {
@@ -191,7 +191,7 @@ grant-within t g q o =
       own = o;
     }
 
-within-grant : (t : List ℕ) (g : Grant) → GrantWithin t g → GrantOk g
+pub within-grant : (t : List ℕ) (g : Grant) → GrantWithin t g → GrantOk g
 within-grant t g q =
     record {
       modes = within-modes (g .modes) (q .modes);

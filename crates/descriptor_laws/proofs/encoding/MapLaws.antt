@@ -1,5 +1,5 @@
 -- The encodings of a descriptor and of its parts are maps of their entries, whose keys ascend. Assumes nothing.
-use mathlib.Core.Path.{_≡_, refl, sym, ap, ap₂, _∙_}
+use mathlib.Core.Path.{_≡_, refl, ap, ap₂}
 use mathlib.Core.Bool.{true}
 use mathlib.Core.List.{List, [], _∷_, _++_, append-nil}
 use mathlib.Core.Option.{Option, none, some}
@@ -9,7 +9,7 @@ use Rattle.cbor_item.specs.Reads.{encAll}
 use Rattle.cbor_item.specs.Encoding.{head}
 use Rattle.descriptor.specs.Model.{Pair, Grant, Payload, Signature, Descriptor, encPair, encPairs, encModes, encGrant, encGrants, encodePayload, encSignature, encode}
 use Rattle.descriptor.specs.Allowed.{before}
-use Rattle.descriptor_laws.specs.Promises.{Entry, text, array, map, descriptorEntries, payloadEntries, signatureEntries, grantEntries, pairEntries, ascending, IsMap, MapsDeterministic}
+use Rattle.descriptor_laws.specs.Promises.{Entry, text, map, descriptorEntries, payloadEntries, signatureEntries, grantEntries, pairEntries, ascending, IsMap, MapsDeterministic}
 use Rattle.descriptor_laws.proofs.encoding.NameLaws as named
 
 -- ---- payload

@@ -1,5 +1,5 @@
 -- What reading hands back of an allowed descriptor, number by number, and the part of its payload. Assumes nothing.
-use mathlib.Core.Path.{_≡_, refl, sym, ap, _∙_, subst}
+use mathlib.Core.Path.{_≡_, refl, sym, ap, subst}
 use mathlib.Core.List.{List, [], _∷_, _++_}
 use mathlib.Core.Option.{Option, none, some}
 use Prim.Native.Nat.{ℕ, _+_, _≤_}
@@ -8,7 +8,7 @@ use native.Mathlib.Omega.{arith}
 use lib.ListN.{length, length-append}
 use lib.Bits.{bitOr}
 use Rattle.cbor_item.specs.Bytes.{AreBytes, Has}
-use Rattle.cbor_item.specs.Head.{Span, spanOf}
+use Rattle.cbor_item.specs.Head.{spanOf}
 use Rattle.cbor_item.proofs.BytesLaws.{has-length}
 use Rattle.cbor_item.proofs.ItemLaws.{inside-fits}
 use Rattle.descriptor.specs.declared.DescriptorNumbers.{DescriptorNumbers}

@@ -1,6 +1,5 @@
 -- The numbers of an answer: which answer has which number, and the zeros of a refusal. Assumes nothing.
-use mathlib.Core.Path.{_≡_, refl, sym, ap, _∙_, subst}
-use mathlib.Core.List.{List}
+use mathlib.Core.Path.{_≡_, refl, ap}
 use Prim.Native.Nat.{ℕ}
 use native.Mathlib.Omega.{arith}
 use Rattle.descriptor.specs.Reader.{Seen, Answer, read, structure, validity, readOf}

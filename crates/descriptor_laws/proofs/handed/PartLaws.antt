@@ -8,7 +8,7 @@ use lib.ListN.{length, length-append}
 use Rattle.cbor_item.specs.Bytes.{Has}
 use Rattle.cbor_item.specs.Reads.{encOpt, viewOpt}
 use Rattle.cbor_item.specs.Encoding.{head}
-use Rattle.cbor_item.specs.Head.{Span, encodeString}
+use Rattle.cbor_item.specs.Head.{encodeString}
 use Rattle.cbor_item.proofs.BytesLaws.{has-left, has-right, has-part, all-has}
 use Rattle.descriptor.specs.Keys.{kGrants, kMetadata, kIssuerId, kNotAfter, kGrantorId, kAlgorithm, kSignatureValue}
 use Rattle.descriptor.specs.Model.{Pair, Payload, Signature, Descriptor, encText, encPairs, encGrants, encodePayload, encAlgorithm, encode}

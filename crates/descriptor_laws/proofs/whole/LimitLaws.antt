@@ -1,12 +1,11 @@
 -- What is allowed (specs/Allowed.antt of `descriptor`) is what lies within the limits of specs/Promises.antt, and the other way about. Assumes nothing.
 use mathlib.Core.Path.{_≡_, refl, sym, _∙_, subst}
-use mathlib.Core.Logic.{_↔_}
 use mathlib.Core.Bool.{Bool, true, false, _||_, false≢true}
 use mathlib.Core.List.{List, [], _∷_, _++_}
 use mathlib.Core.Option.{Option, none, some}
-use Prim.Native.Nat.{ℕ, zero, suc, _+_, _-_, _^_, _≤_, _<_}
+use Prim.Native.Nat.{ℕ, zero, suc, _^_, _≤_, _<_}
 use native.Mathlib.Omega.{arith}
-use lib.ListN.{length, take, getD}
+use lib.ListN.{length, take}
 use lib.Dec.{leb, ltb, eqb}
 use borrow.Author.Tests.{leb-true, le-leb, eqb-false, ne-eqb}
 use Rattle.cbor_item.specs.Encoding.{head}
@@ -15,7 +14,7 @@ use Rattle.cbor_item.proofs.Tests.{by-cond}
 use Rattle.resource.specs.Text.{isPattern, longest, patternOk}
 use Rattle.resource.proofs.Flags.{and-left, and-right, and-both}
 use Rattle.descriptor.specs.Model.{Pair, Grant, Descriptor}
-use Rattle.descriptor.specs.Allowed.{before, TextOk, PairOk, keyOf, PairsOk, isIn, ModeOk, seenWith, ModesOk, GrantOk, All, Formed, Allowed}
+use Rattle.descriptor.specs.Allowed.{before, TextOk, PairOk, keyOf, PairsOk, isIn, ModeOk, seenWith, ModesOk, GrantOk, All, Formed}
 use Rattle.descriptor_laws.specs.Promises.{text, Each, EachTwo, TextWithin, PairsWithin, ModesWithin, GrantWithin, Within, AllowedExactly}
 use Rattle.descriptor_laws.proofs.encoding.OrderLaws.{empty-before, two-ascend}
 use Rattle.descriptor_laws.proofs.places.SeenLaws.{all-get}

@@ -1,5 +1,5 @@
 // Descriptors: the data model of source 002 in the deterministic encoding of RFC 8949, as document 01 limits it. What is promised is in
-// specs/Promises.antt.
+// specs/Promises.antt of `descriptor_laws`.
 use cbor_item::Item;
 
 mod bytes;

@@ -18,7 +18,7 @@ use Rattle.resource.specs.Level.{isNameChar, allNameChars, isName, joined}
 use Rattle.resource.specs.Pattern.{Path, pathText, Levels, done, deep, name, star, Pattern, IsPattern, patternText, admits, NamesIn, spelled}
 use Rattle.resource.specs.Text.{isPattern, isResource, patternOk, resourceOk, numbersOf, matching}
 use Rattle.resource.proofs.Flags.{by-cond, and-left, and-right, and-both, no-flag}
-use Rattle.resource.proofs.Promises.{patterns-exact, resources-exact, matching-exact, malformed-15}
+use Rattle.resource.proofs.Promises.{patterns-exact, resources-exact, matching-exact, malformed15}
 use Rattle.match_lines.specs.declared.Verdict.{Verdict}
 use Rattle.match_lines.specs.declared.Verdict.the-variants.{IsYes, IsNo, IsBad}
 use Rattle.match_lines.specs.Lines.{word, verdictOf, beforeSpace, verdictAt, verdict}
@@ -202,14 +202,19 @@ texts-ask line l r e hl hr =
       },
     )
 
+-- a well-formed text of at most 256 bytes may enter
+may-enter : (s : List ℕ) (ok : Bool) → length s ≤ 256 → ok ≡ true → (leb (length s) 256 && ok) ≡ true
+may-enter s ok l e = rw (le-leb (length s) 256 l, e)
+
 -- a line with a space is bad or asks
 parted-or-bad : (line l r : List ℕ) → line ≡ l ++ (32 ∷ r) → (verdictOf (matching l r) ≡ IsBad) ⊎ Question line
+unfolding patternOk resourceOk
 parted-or-bad line l r e = go (patternOk l) (resourceOk r) refl refl
   where
     go : (a b : Bool) → patternOk l ≡ a → resourceOk r ≡ b → (verdictOf (matching l r) ≡ IsBad) ⊎ Question line
     go true true ea eb = inr (texts-ask line l r e ea eb)
-    go true false ea eb = inl (ap verdictOf (bad-matching (matching l r) (malformed-15 l r (λ h. no-flag (sym eb ∙ h .1)))))
-    go false b ea eb = inl (ap verdictOf (bad-matching (matching l r) (malformed-15 l r (λ h. no-flag (sym ea ∙ h .0)))))
+    go true false ea eb = inl (ap verdictOf (bad-matching (matching l r) (malformed15 l r (λ h. no-flag (sym eb ∙ may-enter r (isResource r) (h .2) (h .3))))))
+    go false b ea eb = inl (ap verdictOf (bad-matching (matching l r) (malformed15 l r (λ h. no-flag (sym ea ∙ may-enter l (isPattern l) (h .0) (h .1))))))
 
 -- each line is bad or asks
 bad-or-asks : (line : List ℕ) → (verdict line ≡ IsBad) ⊎ Question line

@@ -1,4 +1,5 @@
 -- The arguments of the byte interface that stand for one thing. Its answers are the lower crates' own numbers.
+-- A reader of the promises does not need this page.
 use mathlib.Core.Bool.{not}
 use Prim.Native.Nat.{ℕ}
 use lib.Dec.{eqb}

@@ -1,4 +1,5 @@
--- What document 01 allows, "Descriptor bytes": every written limit. Nothing of places or of reading.
+-- What document 01 allows, "Descriptor bytes": every written limit. Nothing of places or of reading. A reader of the promises does not need this page: `AllowedExactly`
+-- of `descriptor_laws` has each limit with its number.
 use mathlib.Core.Path.{_≡_}
 use mathlib.Core.Bool.{Bool, true, false, _&&_, _||_}
 use mathlib.Core.List.{List, [], _∷_}

@@ -123,15 +123,12 @@ pub record IsMap (b : List ℕ) (es : List Entry) : Type 0 where
   pub order : ascending es ≡ true
 
 -- each encoding is a map of its entries: as many as the head says, by their names, in bytewise order of the encoded keys
-pub record Deterministic : Type 0 where
+pub record MapsDeterministic : Type 0 where
   pub descriptor : (d : Descriptor) → IsMap (encode d) (descriptorEntries d)
   pub payload : (p : Payload) → IsMap (encodePayload p) (payloadEntries p)
   pub signature : (g : Signature) → IsMap (encSignature g) (signatureEntries g)
   pub grant : (g : Grant) → IsMap (encGrant g) (grantEntries g)
   pub pairs : (ps : List Pair) → encPairs ps ≡ map (pairEntries ps)
-
-abbrev pub MapsDeterministic : Type 0
-MapsDeterministic = Deterministic
 
 -- x is used up before y is, or has the smaller byte
 abbrev pub Less : List ℕ → List ℕ → Type 0

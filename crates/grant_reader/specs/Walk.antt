@@ -1,4 +1,4 @@
--- Walking the grants of a descriptor. These definitions compute.
+-- Walking the grants of a descriptor. These definitions compute. A reader of the promises does not need this page.
 use mathlib.Core.List.{List}
 use Prim.Native.Nat.{ℕ, zero, suc}
 use lib.ListN.{length}

@@ -8,7 +8,7 @@ use native.Mathlib.Omega.{arith}
 use Rattle.resource.specs.Level.{same, isName}
 use Rattle.resource.specs.Pattern.{Path, IsPath, Levels, done, deep, name, star, Pattern, IsPattern, matches, admits, taken}
 use Rattle.resource.specs.Cover.{covers, witness, CanTake, Fresh, zs}
-use Rattle.resource.proofs.Promises.{covers-exact, taken-can, covers-stay, witness-matched, witness-decides, witness-names, zs-fresh}
+use Rattle.resource.proofs.Laws.{covers-exact, taken-can, covers-stay, witness-matched, witness-decides, witness-names, zs-fresh}
 use Rattle.resource.proofs.Flags.{and-left, and-right, and-both, or-elim, no-flag, same-refl, same-eq}
 use Rattle.descriptor.specs.Reader.{hasMode}
 use Rattle.narrowing.specs.Escape.{Rule, patternCovers, covered, canTake, deepest, longestLevel, freshName, witnessPath}

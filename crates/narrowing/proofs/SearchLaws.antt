@@ -13,7 +13,7 @@ use lib.ListN.{length}
 use Rattle.resource.specs.Pattern.{Path, IsPath, Pattern, IsPattern, matches, admits}
 use Rattle.resource.specs.Level.{same}
 use Rattle.resource.specs.Cover.{CanTake}
-use Rattle.resource.proofs.Promises.{taken-can}
+use Rattle.resource.proofs.Laws.{taken-can}
 use Rattle.resource.proofs.Flags.{and-left, and-right, and-both}
 use Rattle.descriptor.specs.Reader.{hasMode}
 use Rattle.narrowing.specs.Escape.{Rule, covered, canTake, escapesWith, deepest, isSome, orZero, fewestNames, lowestMode, ruleAt, firstRule, witnessPath}

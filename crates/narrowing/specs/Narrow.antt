@@ -1,4 +1,5 @@
 -- Narrowing of a child under a parent, in document 01's order, from the bytes of both. These definitions compute.
+-- A reader of the promises does not need this page.
 use mathlib.Core.Bool.{Bool, true, false, cond, _&&_}
 use mathlib.Core.List.{List, [], _∷_}
 use mathlib.Core.Option.{Option, none, some}

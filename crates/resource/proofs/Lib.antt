@@ -9,3 +9,4 @@ pub mod SpellLaws
 pub mod MatchLaws
 pub mod CoverLaws
 pub mod Promises
+pub mod Laws

@@ -6,3 +6,4 @@ pub mod Text
 pub mod Scan
 pub mod Cover
 pub mod Promises
+pub mod Laws

@@ -40,6 +40,7 @@ fn main() {
     narrowing_of("narrowing, 256, two cover each", two_cover_each());
     narrowing_of("narrowing, 256 equal, a mode each", equal_mode_each());
     narrowing_of("narrowing, 256 unlike, a mode each", unlike_mode_each());
+    narrowing_of("narrowing, 256 unlike, two cover", two_of_256_cover());
     for rows in [1, 63] {
         submission(rows);
     }
@@ -238,6 +239,13 @@ fn equal_mode_each() -> (Model, Model) {
 fn unlike_mode_each() -> (Model, Model) {
     let stars = levels("*", 14);
     mode_each((0..255).map(|n| format!("{}{stars}", start(n))))
+}
+
+/// The same, but only the last to read matches a child's grant: the others differ from it in the last level.
+fn two_of_256_cover() -> (Model, Model) {
+    let stars = levels("*", 13);
+    let unlike = (0..254).map(|n| format!("{}{stars}/x", start(n)));
+    mode_each(unlike.chain([levels("*", 22)]))
 }
 
 /// A parent that grants reading by each of the patterns and writing by one, and a child of 240 grants to do both.

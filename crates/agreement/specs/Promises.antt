@@ -5,7 +5,7 @@ use mathlib.Core.Logic.{_↔_}
 use mathlib.Core.Bool.{cond}
 use mathlib.Core.List.{List, [], _∷_}
 use Prim.Native.Nat.{ℕ}
-use Rattle.cbor_item.specs.Bytes.{AreBytes}
+use Rattle.octets.specs.Bytes.{AreBytes}
 use Rattle.resource.specs.Characters.{oneOf}
 use Rattle.resource.specs.Text.{pathOf}
 use Rattle.descriptor.specs.Model.{Descriptor, encode}

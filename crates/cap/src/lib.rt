@@ -10,7 +10,7 @@ use narrowing::NarrowingNumbers;
 use request::DecisionNumbers;
 use resource::MatchingNumbers;
 ghost use mathlib.Core.Path.{_≡_};
-ghost use Rattle.cbor_item.specs.Bytes.{AreBytes};
+ghost use Rattle.octets.specs.Bytes.{AreBytes};
 ghost use Rattle.cbor_item.specs.Item as items;
 ghost use Rattle.resource.specs.Text as texts;
 ghost use Rattle.descriptor.specs.Reader.{readOf};

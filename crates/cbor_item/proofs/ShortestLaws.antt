@@ -4,7 +4,8 @@ use Prim.Native.Nat.{_%_, _^_}
 use native.Mathlib.Omega.{arith}
 use lib.Pow.{shr-shr, shr-mod}
 use borrow.Author.Tests.{lt-ltb, le-ltb}
-use Rattle.cbor_item.specs.Encoding.{bigEndian, head}
+use Rattle.octets.specs.Number.{bigEndian}
+use Rattle.cbor_item.specs.Encoding.{head}
 use Rattle.cbor_item.specs.Promises.{HeadsShortest}
 
 -- heads are shortest

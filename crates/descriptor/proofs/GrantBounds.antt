@@ -10,13 +10,14 @@ use lib.Seq.{take-take}
 use lib.Dec.{T, ltb, leb, eqb, leb→le}
 use mir.Facts.{and-yes}
 use borrow.Author.Tests.{ltb-false}
-use Rattle.cbor_item.specs.Bytes.{part, same, hasAt}
-use Rattle.cbor_item.specs.Reads.{Got, got, refused, bind, guard, optAt, many}
-use Rattle.cbor_item.specs.Head.{Span, spanOf, numberAt, longHead, wideHead, headAt, spanIn, spanAt}
-use Rattle.cbor_item.proofs.Tests.{by-cond}
-use Rattle.cbor_item.proofs.BytesLaws.{has-fits, hasAt-yes, part-has, T-of-not, not-T-of}
-use Rattle.cbor_item.proofs.ReadsLaws.{took, stopped}
-use Rattle.cbor_item.proofs.CountedLaws.{many-zero, many-got, many-refused}
+use Rattle.octets.specs.Bytes.{part, same, hasAt}
+use Rattle.exact.specs.Reads.{Got, got, refused, bind, guard, optAt, many}
+use Rattle.cbor_item.specs.Head.{Span, spanOf, longHead, wideHead, headAt, spanIn, spanAt}
+use Rattle.octets.specs.Number.{numberAt}
+use Rattle.octets.proofs.Tests.{by-cond}
+use Rattle.octets.proofs.BytesLaws.{has-fits, hasAt-yes, part-has, T-of-not, not-T-of}
+use Rattle.exact.proofs.ReadsLaws.{took, stopped}
+use Rattle.exact.proofs.CountedLaws.{many-zero, many-got, many-refused}
 use Rattle.cbor_item.proofs.HeadLaws.{head-in}
 use Rattle.resource.specs.Text.{patternOk}
 use Rattle.descriptor.specs.Keys.{modeNames, kModes, kConstraints, kResourcePattern}

@@ -10,8 +10,8 @@ use lib.ListN.{length, take, drop, getD, drop-of-length-le}
 use lib.Seq.{drop-cons}
 use lib.Dec.{ltb, eqb}
 use borrow.Author.Tests.{lt-ltb, le-ltb, eq-eqb, ne-eqb}
-use Rattle.cbor_item.specs.Bytes.{same, hasAt}
-use Rattle.cbor_item.proofs.BytesLaws.{hasAt-done}
+use Rattle.octets.specs.Bytes.{same, hasAt}
+use Rattle.octets.proofs.BytesLaws.{hasAt-done}
 use Rattle.descriptor.specs.Allowed.{before}
 
 -- no bytes stand at any place

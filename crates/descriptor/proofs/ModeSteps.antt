@@ -8,11 +8,11 @@ use lib.ListN.{length}
 use lib.Dec.{eqb}
 use mir.Facts.{no-eqb}
 use borrow.Author.Tests.{eq-eqb}
-use Rattle.cbor_item.specs.Bytes.{hasAt}
-use Rattle.cbor_item.specs.Reads.{Got, got, refused, bind, guard, many}
-use Rattle.cbor_item.proofs.Tests.{by-cond}
-use Rattle.cbor_item.proofs.ReadsLaws.{took, passed, failed}
-use Rattle.cbor_item.proofs.CountedLaws.{many-zero, many-refused}
+use Rattle.octets.specs.Bytes.{hasAt}
+use Rattle.exact.specs.Reads.{Got, got, refused, bind, guard, many}
+use Rattle.octets.proofs.Tests.{by-cond}
+use Rattle.exact.proofs.ReadsLaws.{took, passed, failed}
+use Rattle.exact.proofs.CountedLaws.{many-zero, many-refused}
 use Rattle.descriptor.specs.Value.{countAt, oneOf}
 use Rattle.descriptor.specs.Keys.{mRead, mWrite, mExecute, mConfigure, modeNames}
 use Rattle.descriptor.specs.Reader.{hasMode, modeAt, modesAt}

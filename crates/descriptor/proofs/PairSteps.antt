@@ -5,12 +5,12 @@ use mathlib.Core.List.{List}
 use Prim.Native.Nat.{ℕ, _+_, _-_, _≤_, _<_}
 use native.Mathlib.Omega.{arith}
 use lib.ListN.{length, take, drop}
-use Rattle.cbor_item.specs.Bytes.{part}
-use Rattle.cbor_item.specs.Reads.{got, refused, many}
+use Rattle.octets.specs.Bytes.{part}
+use Rattle.exact.specs.Reads.{got, refused, many}
 use Rattle.cbor_item.specs.Head.{Span, spanOf}
-use Rattle.cbor_item.proofs.BytesLaws.{T-of-not, not-T-of}
-use Rattle.cbor_item.proofs.ReadsLaws.{took, stopped, passed, failed}
-use Rattle.cbor_item.proofs.CountedLaws.{many-zero, many-refused}
+use Rattle.octets.proofs.BytesLaws.{T-of-not, not-T-of}
+use Rattle.exact.proofs.ReadsLaws.{took, stopped, passed, failed}
+use Rattle.exact.proofs.CountedLaws.{many-zero, many-refused}
 use Rattle.descriptor.specs.Value.{countAt, textAt}
 use Rattle.descriptor.specs.Allowed.{before}
 use Rattle.descriptor.specs.Reader.{pairAt, pairsAt}

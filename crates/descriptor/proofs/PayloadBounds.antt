@@ -8,8 +8,8 @@ use lib.ListN.{length}
 use lib.Dec.{T, ltb, leb, eqb, ltb→lt}
 use mir.Facts.{and-yes}
 use borrow.Author.Tests.{eq-eqb, ne-eqb, le-leb, lt-leb}
-use Rattle.cbor_item.specs.Bytes.{part, same, hasAt}
-use Rattle.cbor_item.specs.Reads.{Got, got, optAt}
+use Rattle.octets.specs.Bytes.{part, same, hasAt}
+use Rattle.exact.specs.Reads.{Got, got, optAt}
 use Rattle.cbor_item.specs.Head.{spanOf}
 use Rattle.resource.specs.Identifier.{isFay, isTerminal}
 use Rattle.descriptor.specs.declared.payload.PayloadFields.{PayloadFields}

@@ -5,8 +5,8 @@ use mathlib.Core.List.{List, [], _∷_}
 use Prim.Native.Nat.{ℕ, suc, _+_, _-_, _≤_, _<_}
 use lib.ListN.{length}
 use borrow.Author.Tests.{eq-eqb, ne-eqb, le-leb, lt-leb}
-use Rattle.cbor_item.specs.Bytes.{hasAt}
-use Rattle.cbor_item.specs.Reads.{Got, got, refused}
+use Rattle.octets.specs.Bytes.{hasAt}
+use Rattle.exact.specs.Reads.{Got, got, refused}
 use Rattle.descriptor.specs.declared.Reading.the-variants.{Read, Structure, Validity}
 use Rattle.descriptor.specs.Allowed.{longest, longestPeriod}
 use Rattle.descriptor.specs.Value.{oneOf}

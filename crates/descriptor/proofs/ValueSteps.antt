@@ -9,12 +9,12 @@ use native.Mathlib.Omega.{arith}
 use lib.ListN.{length, take, drop}
 use lib.Dec.{T, leb, eqb, leb→le, le→leb, eqb→eq}
 use mir.Facts.{and-yes, yes-and, yes-eqb}
-use Rattle.cbor_item.specs.Bytes.{part, hasAt}
-use Rattle.cbor_item.specs.Reads.{Got, got, refused, guard}
+use Rattle.octets.specs.Bytes.{part, hasAt}
+use Rattle.exact.specs.Reads.{Got, got, refused, guard}
 use Rattle.cbor_item.specs.Utf8.{isUtf8}
 use Rattle.cbor_item.specs.Head.{headOf, spanOf, headAt, spanAt}
-use Rattle.cbor_item.proofs.BytesLaws.{has-fits, hasAt-yes}
-use Rattle.cbor_item.proofs.ReadsLaws.{took, passed, failed}
+use Rattle.octets.proofs.BytesLaws.{has-fits, hasAt-yes}
+use Rattle.exact.proofs.ReadsLaws.{took, passed, failed}
 use Rattle.resource.specs.Text.{patternOk}
 use Rattle.descriptor.specs.Value.{within, countAt, textAt, wordAt, bytesAt}
 use Rattle.descriptor.specs.Answer.{wordOk}

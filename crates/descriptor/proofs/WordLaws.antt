@@ -7,7 +7,7 @@ use lib.ListN.{length, take}
 use lib.Seq.{take-at, take-length}
 use lib.Dec.{leb, eqb}
 use borrow.Author.Tests.{eqb-true, leb-true}
-use Rattle.cbor_item.proofs.Tests.{and-left, and-right}
+use Rattle.octets.proofs.Tests.{and-left, and-right}
 use Rattle.resource.specs.Identifier.{Slot, hasForm, uuidForm, fayForm, terminalForm, isFay, isTerminal}
 use Rattle.resource.specs.Level.{joined}
 use Rattle.resource.specs.Pattern.{spelled}

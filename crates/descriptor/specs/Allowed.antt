@@ -9,7 +9,7 @@ use Prim.Native.Nat.{ℕ, _+_, _-_, _^_, _≤_, _<_}
 use lib.ListN.{length, take}
 use lib.Dec.{ltb, eqb}
 use Rattle.cbor_item.specs.Unicode.{Utf8}
-use Rattle.cbor_item.specs.Reads.{OptOk, AllFrom}
+use Rattle.exact.specs.Reads.{OptOk, AllFrom}
 use Rattle.resource.specs.Identifier.{isFay, isTerminal}
 use Rattle.resource.specs.Text.{patternOk}
 use Rattle.descriptor.specs.Model.{Pair, Grant, Payload, Signature, Descriptor, encText, encode}

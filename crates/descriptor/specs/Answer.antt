@@ -6,8 +6,8 @@ use mathlib.Core.Option.{Option, none, some}
 use Prim.Native.Nat.{ℕ, zero, suc, _+_, _/_, _%_}
 use lib.ListN.{length}
 use lib.Dec.{eqb}
-use Rattle.cbor_item.specs.Bytes.{hasAt}
-use Rattle.cbor_item.specs.Reads.{Got, got, refused, bind, guard}
+use Rattle.octets.specs.Bytes.{hasAt}
+use Rattle.exact.specs.Reads.{Got, got, refused, bind, guard}
 use Rattle.cbor_item.specs.Head.{Span, spanOf}
 use Rattle.resource.specs.Identifier.{isFay, isTerminal}
 use Rattle.resource.specs.Text.{patternOk}

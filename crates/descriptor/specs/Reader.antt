@@ -7,8 +7,8 @@ use Prim.Native.Nat.{ℕ, _+_, _-_, _^_, _/_, _%_}
 use lib.ListN.{length}
 use lib.Dec.{leb, ltb, eqb}
 use lib.Bits.{bitOr}
-use Rattle.cbor_item.specs.Bytes.{part, same, hasAt}
-use Rattle.cbor_item.specs.Reads.{Got, got, refused, bind, guard, optAt, many}
+use Rattle.octets.specs.Bytes.{part, same, hasAt}
+use Rattle.exact.specs.Reads.{Got, got, refused, bind, guard, optAt, many}
 use Rattle.cbor_item.specs.Head.{Span, spanOf}
 use Rattle.resource.specs.Identifier.{isFay, isTerminal}
 use Rattle.resource.specs.Text.{patternOk}

@@ -5,8 +5,8 @@ use mathlib.Core.List.{List, [], _∷_}
 use Prim.Native.Nat.{ℕ, suc, _+_}
 use lib.ListN.{length}
 use lib.Dec.{leb, eqb}
-use Rattle.cbor_item.specs.Bytes.{part, hasAt}
-use Rattle.cbor_item.specs.Reads.{Got, got, refused, bind, guard}
+use Rattle.octets.specs.Bytes.{part, hasAt}
+use Rattle.exact.specs.Reads.{Got, got, refused, bind, guard}
 use Rattle.cbor_item.specs.Utf8.{isUtf8}
 use Rattle.cbor_item.specs.Head.{Span, headAt, spanAt}
 

@@ -2,7 +2,7 @@
 ghost use mathlib.Core.Path.{_≡_};
 ghost use Prim.Native.Nat.{_≤_};
 ghost use lib.ListN.{length, take};
-ghost use Rattle.cbor_item.specs.Bytes.{hasAt, same};
+ghost use Rattle.octets.specs.Bytes.{hasAt, same};
 ghost use Rattle.descriptor.specs.Allowed.{before as beforeOf};
 
 // Whether the bytes of s at `at` begin with k.

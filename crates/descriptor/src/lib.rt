@@ -12,7 +12,7 @@ mod signature;
 mod value;
 
 ghost use mathlib.Core.Path.{_≡_};
-ghost use Rattle.cbor_item.specs.Bytes.{PartOf};
+ghost use Rattle.octets.specs.Bytes.{PartOf};
 ghost use Rattle.descriptor.specs.Reader.{readOf, grantAt};
 ghost use Rattle.descriptor.specs.Answer.{readingOf, grantRead};
 ghost use Rattle.descriptor.specs.Numbers.{payloadSpan};

@@ -5,8 +5,8 @@ use mathlib.Core.Logic.{_↔_}
 use mathlib.Core.List.{List}
 use Prim.Native.Nat.{ℕ, _+_, _<_}
 use lib.ListN.{length, getD}
-use Rattle.cbor_item.specs.Bytes.{AreBytes, part}
-use Rattle.cbor_item.specs.Reads.{got}
+use Rattle.octets.specs.Bytes.{AreBytes, part}
+use Rattle.exact.specs.Reads.{got}
 use Rattle.descriptor.specs.Model.{Grant, Descriptor, encode}
 use Rattle.descriptor.specs.Allowed.{longestPeriod, period, Formed, Allowed}
 use Rattle.descriptor.specs.Reader.{Seen, read, structure, validity, readOf, grantAt}

@@ -9,9 +9,9 @@ use Prim.Native.Nat.{ℕ, _+_, _-_, _^_, _≤_, _<_}
 use Prim.Native.String.{String}
 use lib.ListN.{length, take, getD}
 use lib.Dec.{eqb}
-use Rattle.cbor_item.specs.Bytes.{AreBytes, part, Has}
+use Rattle.octets.specs.Bytes.{AreBytes, part, Has}
 use Rattle.cbor_item.specs.Encoding.{head}
-use Rattle.cbor_item.specs.Reads.{encAll, OptOk}
+use Rattle.exact.specs.Reads.{encAll, OptOk}
 use Rattle.cbor_item.specs.Unicode.{Utf8}
 use Rattle.resource.specs.Characters.{codes}
 use Rattle.resource.specs.Identifier.{isFay, isTerminal}

@@ -1,8 +1,8 @@
 // One call on the image, of which `len` bytes are lent; the answer is how many are lent from then on.
 use crate::show;
-use buffer::number_at;
 use image::Finding;
 use image::Made;
+use octets::number_at;
 use steps::Window;
 
 // The number at a place of the numbers.
@@ -38,7 +38,7 @@ fn made(answer: Made) -> u64 {
 
 // The bytes that are lent are these.
 fn load(name: &[u8], a: &[u8], image: &mut [u8]) -> usize {
-    buffer::put(image, 0, a);
+    octets::put(image, 0, a);
     let n = a.len();
     if image.len() < n {
         return 0;

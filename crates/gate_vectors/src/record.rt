@@ -4,7 +4,7 @@ use crate::calls::call;
 
 // The number in the first four bytes; 0 where they are not there.
 fn size(s: &[u8]) -> usize {
-    buffer::number_at(s, 0, 4) as usize
+    octets::number_at(s, 0, 4) as usize
 }
 
 // The part that s begins with; nothing where it is not whole.

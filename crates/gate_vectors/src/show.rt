@@ -22,7 +22,7 @@ fn sum(s: &[u8]) -> u64 {
     let mut n: u64 = 7;
     let mut i: usize = 0;
     while i < s.len() {
-        n = n % 4294967291 * 257 + buffer::number_at(s, i, 1) % 256;
+        n = n % 4294967291 * 257 + octets::number_at(s, i, 1) % 256;
         i += 1;
     }
     n % 4294967291
@@ -32,7 +32,7 @@ fn sum(s: &[u8]) -> u64 {
 pub(crate) fn image(name: &[u8], s: &[u8]) {
     io::write_all(1, name);
     more(b"; ", s.len() as u64);
-    more(b" bytes, rows ", buffer::number_at(s, 4, 2));
+    more(b" bytes, rows ", octets::number_at(s, 4, 2));
     more(b", sum ", sum(s));
     end();
 }

@@ -9,20 +9,19 @@ use lib.ListN.{length, take, length-append}
 use lib.Seq.{take-length}
 use lib.Dec.{eqb, lit<}
 use borrow.Author.Tests.{le-leb}
-use Rattle.cbor_item.specs.Bytes.{AreBytes, Has}
-use Rattle.cbor_item.specs.Reads.{got, refused, encOpt, encAll}
+use Rattle.octets.specs.Bytes.{AreBytes, Has}
+use Rattle.exact.specs.Reads.{got, refused, encOpt, encAll}
 use Rattle.cbor_item.specs.Encoding.{head}
 use Rattle.cbor_item.specs.Head.{headOf, headAt}
-use Rattle.cbor_item.proofs.BytesLaws.{has-left, has-right}
-use Rattle.cbor_item.proofs.ReadsLaws.{complete, stopped, took, failed}
+use Rattle.octets.proofs.BytesLaws.{has-left, has-right}
+use Rattle.exact.proofs.ReadsLaws.{complete, stopped, took, failed}
 use Rattle.cbor_item.proofs.HeadLaws.{heads-exact}
 use Rattle.descriptor.specs.Keys.{kGrants, kMetadata, kIssuedAt}
 use Rattle.descriptor.specs.Model.{Pair, Grant, Payload, Descriptor, encPairs, encGrant, encGrants, encode}
 use Rattle.descriptor.specs.Allowed.{Formed}
 use Rattle.descriptor.specs.Value.{within, countAt}
 use Rattle.descriptor.specs.Reader.{grantAt, beforePayload}
-use Rattle.descriptor.specs.View.{keysOf, grantsView}
-use Rattle.descriptor.specs.View.{grantPlace}
+use Rattle.descriptor.specs.View.{keysOf, grantsView, grantPlace}
 use Rattle.descriptor_laws.proofs.payload.PieceLaws.{encFront}
 use Rattle.descriptor_laws.proofs.payload.PayloadLaws.{frontOf, pieces-encode}
 use Rattle.descriptor_laws.proofs.places.SeenLaws.{payload-here}

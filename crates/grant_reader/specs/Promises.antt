@@ -3,7 +3,7 @@ use mathlib.Core.Path.{_≡_}
 use mathlib.Core.List.{List}
 use Prim.Native.Nat.{ℕ, _≤_, _<_}
 use lib.ListN.{length, getD}
-use Rattle.cbor_item.specs.Bytes.{AreBytes}
+use Rattle.octets.specs.Bytes.{AreBytes}
 use Rattle.descriptor.specs.declared.GrantNumbers.{GrantNumbers}
 use Rattle.descriptor.specs.Model.{Grant, Descriptor, encode}
 use Rattle.descriptor.specs.Allowed.{Allowed}

@@ -8,8 +8,8 @@ use lib.ListN.{length}
 use lib.Bits.{or-lt}
 use lib.Dec.{T, leb, eqb, lit<}
 use borrow.Author.Tests.{leb-true}
-use Rattle.cbor_item.specs.Reads.{Got, got, refused}
-use Rattle.cbor_item.proofs.Tests.{by-cond, and-left}
+use Rattle.exact.specs.Reads.{Got, got, refused}
+use Rattle.octets.proofs.Tests.{by-cond, and-left}
 use Rattle.resource.specs.Identifier.{isFay, isTerminal}
 use Rattle.descriptor.specs.declared.Fields.{Fields}
 use Rattle.descriptor.specs.declared.Reading.the-variants.{Read}

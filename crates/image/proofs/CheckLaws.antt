@@ -8,11 +8,11 @@ use native.Mathlib.Numerals.{add-one}
 use lib.ListN.{length, length-append}
 use lib.Dec.{eqb}
 use borrow.Author.Tests.{eqb-true, eq-eqb, le-leb}
-use Rattle.cbor_item.specs.Bytes.{AreBytes, part, Has, same}
-use Rattle.cbor_item.specs.Head.{numberAt}
-use Rattle.cbor_item.specs.Reads.{got, guard}
-use Rattle.cbor_item.proofs.Tests.{and-left, and-right}
-use Rattle.cbor_item.proofs.BytesLaws.{has-part, part-has, has-fits}
+use Rattle.octets.specs.Bytes.{AreBytes, part, Has, same}
+use Rattle.octets.specs.Number.{numberAt}
+use Rattle.exact.specs.Reads.{got, guard}
+use Rattle.octets.proofs.Tests.{and-left, and-right}
+use Rattle.octets.proofs.BytesLaws.{has-part, part-has, has-fits}
 use Rattle.descriptor.specs.declared.Fields.{Fields}
 use Rattle.descriptor.specs.declared.Reading.the-variants.{Read}
 use Rattle.image.specs.Layout.{idSize, rowPlace}

@@ -9,16 +9,15 @@ use native.Mathlib.Omega.{arith}
 use lib.ListN.{length, take, drop}
 use lib.Dec.{leb, eqb}
 use borrow.Author.Tests.{lt-ltb, le-ltb, not-true, not-false, leb-true, eq-eqb, ne-eqb}
-use Rattle.cbor_item.specs.Bytes.{part, same}
-use Rattle.cbor_item.specs.Head.{numberAt}
-use Rattle.cbor_item.specs.Reads.{Got, got, refused, guard}
-use Rattle.cbor_item.proofs.Tests.{and-left, and-right}
-use Rattle.cbor_item.proofs.BytesLaws.{T-of-not, not-T-of, part-has}
-use Rattle.cbor_item.proofs.ReadsLaws.{guard-yes, guard-no, guard-leb, passed, failed, passed-leb, failed-leb}
-use Rattle.buffer.specs.Number.{numberIn}
-use Rattle.buffer.specs.Write.{over, putAt}
-use Rattle.buffer.proofs.NumberLaws.{number-in}
-use Rattle.buffer.proofs.OverLaws.{put-fits}
+use Rattle.octets.specs.Bytes.{part, same}
+use Rattle.octets.specs.Number.{numberAt, numberIn}
+use Rattle.exact.specs.Reads.{Got, got, refused, guard}
+use Rattle.octets.proofs.Tests.{and-left, and-right}
+use Rattle.octets.proofs.BytesLaws.{T-of-not, not-T-of, part-has}
+use Rattle.exact.proofs.ReadsLaws.{guard-yes, guard-no, guard-leb, passed, failed, passed-leb, failed-leb}
+use Rattle.octets.specs.Write.{over, putAt}
+use Rattle.octets.proofs.NumberLaws.{number-in}
+use Rattle.octets.proofs.OverLaws.{put-fits}
 use Rattle.descriptor.specs.declared.Fields.{Fields}
 use Rattle.descriptor.specs.declared.Reading.{Reading}
 use Rattle.descriptor.specs.declared.Reading.the-variants.{Read, Structure, Validity}

@@ -1,7 +1,7 @@
 -- A new image is the image of no bodies (specs/Fresh.antt). Assumes nothing.
 use lib.ListN.{length}
 use borrow.Author.Tests.{le-ltb, lt-ltb}
-use Rattle.cbor_item.specs.Encoding.{bigEndian}
+use Rattle.octets.specs.Number.{bigEndian}
 use Rattle.image.specs.Image.{header, rowsOf, joined, imageOf}
 use Rattle.image.specs.Fresh.{madeOf, afterNew}
 use Rattle.image.specs.Promises.{NewImage}

@@ -5,9 +5,9 @@ use mathlib.Core.List.{List, [], _∷_, _++_}
 use mathlib.Core.Option.{none, some}
 use Prim.Native.Nat.{ℕ, _+_, _≤_}
 use lib.ListN.{length}
-use Rattle.cbor_item.specs.Bytes.{part, Has, same}
-use Rattle.cbor_item.specs.Reads.{AllFrom}
-use Rattle.cbor_item.proofs.BytesLaws.{has-left, has-right, has-part, has-fits}
+use Rattle.octets.specs.Bytes.{part, Has, same}
+use Rattle.exact.specs.Reads.{AllFrom}
+use Rattle.octets.proofs.BytesLaws.{has-left, has-right, has-part, has-fits}
 use Rattle.descriptor.specs.declared.Fields.{Fields}
 use Rattle.descriptor.specs.declared.Reading.{Reading}
 use Rattle.descriptor.specs.declared.Reading.the-variants.{Read, Structure, Validity}

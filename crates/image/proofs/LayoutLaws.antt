@@ -5,9 +5,9 @@ use mathlib.Core.List.{List, [], _∷_, _++_}
 use Prim.Native.Nat.{ℕ, _<_}
 use native.Mathlib.Omega.{arith}
 use lib.ListN.{length}
-use Rattle.cbor_item.specs.Bytes.{same}
-use Rattle.cbor_item.specs.Encoding.{bigEndian}
-use Rattle.cbor_item.specs.Reads.{AllFrom}
+use Rattle.octets.specs.Bytes.{same}
+use Rattle.octets.specs.Number.{bigEndian}
+use Rattle.exact.specs.Reads.{AllFrom}
 use Rattle.image.specs.Image.{idOf, modesOf, header, row, rowsOf, joined, imageOf, hasId, BodyOk, seenWith, bodyWith}
 use Rattle.image.specs.Promises.{four, LayoutFixed, answerOf, Every, IdsDiffer, HoldsExactly, BodyOfId}
 use Rattle.image.proofs.RowLaws.{id-length, modes-small}

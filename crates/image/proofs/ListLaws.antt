@@ -6,9 +6,9 @@ use mathlib.Core.Option.{Option, some}
 use Prim.Native.Nat.{ℕ, _*_, _≤_}
 use native.Mathlib.Omega.{arith}
 use lib.ListN.{length, length-append}
-use Rattle.cbor_item.specs.Bytes.{same}
-use Rattle.cbor_item.specs.Reads.{AllFrom}
-use Rattle.cbor_item.proofs.BytesLaws.{same-eq, same-refl, T-of}
+use Rattle.octets.specs.Bytes.{same}
+use Rattle.exact.specs.Reads.{AllFrom}
+use Rattle.octets.proofs.BytesLaws.{same-eq, same-refl, T-of}
 use Rattle.descriptor.specs.declared.Fields.{Fields}
 use Rattle.descriptor.specs.declared.Reading.{Reading}
 use Rattle.descriptor.specs.declared.Reading.the-variants.{Read, Structure, Validity}

@@ -8,10 +8,10 @@ use native.Mathlib.Omega.{arith}
 use lib.ListN.{length}
 use lib.Dec.{eqb}
 use borrow.Author.Tests.{eq-eqb, ne-eqb}
-use Rattle.cbor_item.specs.Bytes.{AreBytes, part}
+use Rattle.octets.specs.Bytes.{AreBytes, part}
 use Rattle.cbor_item.specs.Head.{spanOf}
 use Rattle.cbor_item.proofs.ItemLaws.{inside-fits}
-use Rattle.cbor_item.proofs.BytesLaws.{part-has}
+use Rattle.octets.proofs.BytesLaws.{part-has}
 use Rattle.image.specs.declared.Held.{Held}
 use Rattle.image.specs.declared.Held.the-variants.{Missing, Body}
 use Rattle.image.specs.declared.Survey.{Survey}

@@ -4,7 +4,7 @@ use mathlib.Core.Bool.{true, false≢true}
 use mathlib.Core.List.{List}
 use Prim.Native.Nat.{ℕ}
 use native.Mathlib.Omega.{arith}
-use Rattle.cbor_item.specs.Bytes.{part}
+use Rattle.octets.specs.Bytes.{part}
 use Rattle.descriptor.specs.declared.Reading.{Reading}
 use Rattle.descriptor.specs.declared.Reading.the-variants.{Read, Structure, Validity}
 use Rattle.descriptor.specs.Model.{Descriptor, encode}

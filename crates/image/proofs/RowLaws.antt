@@ -6,12 +6,10 @@ use native.Mathlib.Omega.{arith}
 use native.Mathlib.Nat.{add-zero}
 use lib.ListN.{length, take, drop, length-append}
 use lib.Seq.{take-take, drop-drop}
-use Rattle.cbor_item.specs.Bytes.{AreBytes, part, Has}
-use Rattle.cbor_item.specs.Encoding.{bigEndian}
-use Rattle.cbor_item.specs.Head.{numberAt}
-use Rattle.cbor_item.proofs.BytesLaws.{part-has, has-left, has-right, has-join, has-part, has-fits}
-use Rattle.cbor_item.proofs.HeadLaws.{length-bigEndian}
-use Rattle.buffer.proofs.NumberLaws.{number-of-has, has-of-number}
+use Rattle.octets.specs.Bytes.{AreBytes, part, Has}
+use Rattle.octets.specs.Number.{bigEndian, numberAt}
+use Rattle.octets.proofs.BytesLaws.{part-has, has-left, has-right, has-join, has-part, has-fits}
+use Rattle.octets.proofs.NumberLaws.{length-bigEndian, number-of-has, has-of-number}
 use Rattle.descriptor.specs.declared.Fields.{Fields}
 use Rattle.descriptor.specs.declared.Reading.{Reading}
 use Rattle.descriptor.specs.declared.Reading.the-variants.{Read, Structure, Validity}

@@ -5,10 +5,10 @@ use Prim.Native.Nat.{ℕ, zero, suc, _+_, _*_, _≤_, _<_}
 use native.Mathlib.Omega.{arith}
 use native.Mathlib.Nat.{add-zero}
 use lib.ListN.{length, length-append}
-use Rattle.cbor_item.specs.Bytes.{AreBytes, part, Has, same}
-use Rattle.cbor_item.specs.Reads.{Got, got, refused, bind, AllFrom}
-use Rattle.cbor_item.proofs.BytesLaws.{has-left, has-right, has-join, has-nil, has-part}
-use Rattle.cbor_item.proofs.ReadsLaws.{bind-got}
+use Rattle.octets.specs.Bytes.{AreBytes, part, Has, same}
+use Rattle.exact.specs.Reads.{Got, got, refused, bind, AllFrom}
+use Rattle.octets.proofs.BytesLaws.{has-left, has-right, has-join, has-nil, has-part}
+use Rattle.exact.proofs.ReadsLaws.{bind-got}
 use Rattle.descriptor.specs.declared.Fields.{Fields}
 use Rattle.image.specs.declared.Held.{Held}
 use Rattle.image.specs.Layout.{rowPlace}

@@ -8,15 +8,13 @@ use lib.ListN.{length, take, drop}
 use lib.Seq.{take-at}
 use lib.Dec.{leb, eqb}
 use borrow.Author.Tests.{leb-true, eqb-true, eq-eqb, le-leb}
-use Rattle.cbor_item.specs.Bytes.{AreBytes, part, Has}
-use Rattle.cbor_item.specs.Encoding.{bigEndian}
-use Rattle.cbor_item.specs.Head.{numberAt}
-use Rattle.cbor_item.specs.Reads.{got, guard}
-use Rattle.cbor_item.proofs.Tests.{and-left, and-right}
-use Rattle.cbor_item.proofs.BytesLaws.{has-left, has-fits}
-use Rattle.cbor_item.proofs.HeadLaws.{length-bigEndian}
-use Rattle.buffer.proofs.NumberLaws.{number-of-has, has-of-number}
-use Rattle.buffer.proofs.OverLaws.{has-front}
+use Rattle.octets.specs.Bytes.{AreBytes, part, Has}
+use Rattle.octets.specs.Number.{bigEndian, numberAt}
+use Rattle.exact.specs.Reads.{got, guard}
+use Rattle.octets.proofs.Tests.{and-left, and-right}
+use Rattle.octets.proofs.BytesLaws.{has-left, has-fits}
+use Rattle.octets.proofs.NumberLaws.{length-bigEndian, number-of-has, has-of-number}
+use Rattle.octets.proofs.OverLaws.{has-front}
 use Rattle.image.specs.declared.Held.{Held}
 use Rattle.image.specs.declared.Held.the-variants.{Missing}
 use Rattle.image.specs.Layout.{imageEdition, modeEdition, headerSize, mostRows, rowPlace}

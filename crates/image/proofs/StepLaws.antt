@@ -6,9 +6,9 @@ use Prim.Native.Nat.{ℕ, suc, _+_, _-_, _≤_, _<_}
 use native.Mathlib.Omega.{arith}
 use lib.ListN.{length}
 use lib.Dec.{T, leb, leb→le}
-use Rattle.cbor_item.specs.Bytes.{part, same}
-use Rattle.cbor_item.specs.Reads.{Got, got, refused, guard}
-use Rattle.cbor_item.proofs.ReadsLaws.{bind-got, bind-refused}
+use Rattle.octets.specs.Bytes.{part, same}
+use Rattle.exact.specs.Reads.{Got, got, refused, guard}
+use Rattle.exact.proofs.ReadsLaws.{bind-got, bind-refused}
 use Rattle.descriptor.specs.declared.Fields.{Fields}
 use Rattle.descriptor.specs.declared.Reading.{Reading}
 use Rattle.descriptor.specs.declared.Reading.the-variants.{Read, Structure, Validity}

@@ -7,8 +7,8 @@ use Prim.Native.Nat.{ℕ}
 use native.Mathlib.Omega.{arith}
 use lib.ListN.{length}
 use borrow.Author.Tests.{eq-eqb}
-use Rattle.cbor_item.specs.Bytes.{AreBytes}
-use Rattle.cbor_item.specs.Reads.{Got, got, refused}
+use Rattle.octets.specs.Bytes.{AreBytes}
+use Rattle.exact.specs.Reads.{Got, got, refused}
 use Rattle.image.specs.declared.Held.{Held}
 use Rattle.image.specs.declared.Held.the-variants.{Missing, Body}
 use Rattle.image.specs.declared.Survey.the-variants.{Sound, Unsound}

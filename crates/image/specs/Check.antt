@@ -5,10 +5,11 @@ use mathlib.Core.Option.{Option, none, some}
 use Prim.Native.Nat.{ℕ, zero, suc, _+_}
 use lib.ListN.{length}
 use lib.Dec.{leb, eqb}
-use Rattle.cbor_item.specs.Bytes.{part, same}
-use Rattle.cbor_item.specs.Head.{Span, spanOf, numberAt}
+use Rattle.octets.specs.Bytes.{part, same}
+use Rattle.cbor_item.specs.Head.{Span, spanOf}
+use Rattle.octets.specs.Number.{numberAt}
 use Rattle.cbor_item.specs.Item.{inside}
-use Rattle.cbor_item.specs.Reads.{Got, got, refused, bind, guard}
+use Rattle.exact.specs.Reads.{Got, got, refused, bind, guard}
 use Rattle.descriptor.specs.declared.Fields.{Fields}
 use Rattle.descriptor.specs.declared.Reading.{Reading}
 use Rattle.descriptor.specs.declared.Reading.the-variants.{Read, Structure, Validity}

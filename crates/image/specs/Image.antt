@@ -6,9 +6,9 @@ use mathlib.Core.List.{List, [], _∷_, _++_}
 use mathlib.Core.Option.{Option, none, some}
 use Prim.Native.Nat.{ℕ, _+_, _≤_}
 use lib.ListN.{length, replicate}
-use Rattle.cbor_item.specs.Bytes.{part, same}
-use Rattle.cbor_item.specs.Encoding.{bigEndian}
-use Rattle.cbor_item.specs.Reads.{AllFrom}
+use Rattle.octets.specs.Bytes.{part, same}
+use Rattle.octets.specs.Number.{bigEndian}
+use Rattle.exact.specs.Reads.{AllFrom}
 use Rattle.descriptor.specs.declared.Reading.{Reading}
 use Rattle.descriptor.specs.declared.Reading.the-variants.{Read, Structure, Validity}
 use Rattle.descriptor.specs.Reader.{readOf}

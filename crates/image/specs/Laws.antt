@@ -5,8 +5,8 @@ use mathlib.Core.Bool.{true}
 use mathlib.Core.List.{List}
 use Prim.Native.Nat.{ℕ}
 use lib.ListN.{length}
-use Rattle.cbor_item.specs.Bytes.{AreBytes}
-use Rattle.cbor_item.specs.Head.{numberAt}
+use Rattle.octets.specs.Bytes.{AreBytes}
+use Rattle.octets.specs.Number.{numberAt}
 use Rattle.descriptor.specs.declared.Fields.{Fields}
 use Rattle.descriptor.specs.declared.Reading.the-variants.{Read}
 use Rattle.descriptor.specs.Model.{Descriptor, encode}

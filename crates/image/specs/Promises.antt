@@ -6,8 +6,9 @@ use mathlib.Core.List.{List, [], _∷_, _++_}
 use mathlib.Core.Option.{none, some}
 use Prim.Native.Nat.{ℕ, _+_, _*_, _/_, _%_, _≤_, _<_}
 use lib.ListN.{length, drop}
-use Rattle.cbor_item.specs.Bytes.{AreBytes, part}
-use Rattle.cbor_item.specs.Head.{spanOf, numberAt}
+use Rattle.octets.specs.Bytes.{AreBytes, part}
+use Rattle.cbor_item.specs.Head.{spanOf}
+use Rattle.octets.specs.Number.{numberAt}
 use Rattle.descriptor.specs.Model.{Descriptor, encode}
 use Rattle.descriptor.specs.Allowed.{Allowed}
 use Rattle.descriptor.specs.Modes.{unionOf}

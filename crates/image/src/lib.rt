@@ -4,7 +4,7 @@ mod rows;
 
 use descriptor::Fields;
 ghost use mathlib.Core.Path.{_≡_};
-ghost use Rattle.cbor_item.specs.Bytes.{PartOf};
+ghost use Rattle.octets.specs.Bytes.{PartOf};
 ghost use Rattle.image.specs.Check.{surveyOf, heldAt, findOf, bodySpan};
 ghost use Rattle.image.specs.Fresh.{madeOf, afterNew};
 
@@ -106,6 +106,6 @@ pub fn new_image(image: &mut [u8]) -> Made
     if image.len() < layout::HEADER_SIZE {
         return Made::TooShort;
     }
-    buffer::put(image, 0, b"\x00\x01\x00\x01\x00\x00\x00\x00");
+    octets::put(image, 0, b"\x00\x01\x00\x01\x00\x00\x00\x00");
     Made::Done
 }

@@ -8,9 +8,9 @@ use native.Mathlib.Numerals.{add-one}
 use native.Mathlib.Nat.{add-zero, zero-add}
 use native.Mathlib.Omega.{arith}
 use lib.ListN.{getD}
-use Rattle.cbor_item.specs.Bytes as cbor
-use Rattle.cbor_item.specs.Bytes.{AreBytes, part}
-use Rattle.cbor_item.specs.Reads.{got}
+use Rattle.octets.specs.Bytes as cbor
+use Rattle.octets.specs.Bytes.{AreBytes, part}
+use Rattle.exact.specs.Reads.{got}
 use Rattle.resource.specs.Level.{same, levels}
 use Rattle.resource.specs.Pattern.{Pattern, endsDeep}
 use Rattle.resource.specs.Text.{levelsOf}

@@ -1,19 +1,19 @@
 -- Document 01's marked cases, by computation. Assumes nothing.
 use mathlib.Core.Path.{refl}
-use Rattle.cbor_item.specs.Bytes.{part, same, hasAt}
-use Rattle.cbor_item.specs.Reads.{bind, guard, optAt, many}
+use Rattle.octets.specs.Bytes.{part, same, hasAt}
+use Rattle.exact.specs.Reads.{bind, guard, optAt, many}
 use Rattle.cbor_item.specs.Utf8.{charsFrom, charAt, charLength, second3, second4}
-use Rattle.cbor_item.specs.Encoding.{bigEndian, head}
-use Rattle.cbor_item.specs.Head.{headAt, wideHead, longHead, numberAt, spanAt, spanIn}
+use Rattle.octets.specs.Number.{bigEndian, numberAt}
+use Rattle.cbor_item.specs.Encoding.{head}
+use Rattle.cbor_item.specs.Head.{headAt, wideHead, longHead, spanAt, spanIn}
 use Rattle.resource.specs.Identifier.{isFay, isTerminal, hasForm, fayForm, terminalForm, uuidForm, isHex}
 use Rattle.resource.specs.Level.{same as sameName, isNameChar, allNameChars, levels, levelsOk}
-use Rattle.resource.specs.Text.{patternOk, isPattern}
+use Rattle.resource.specs.Text.{patternOk, isPattern, levelsOf, patternOf}
 use Rattle.descriptor.specs.Keys.{kPayload, kVersion, kSignature, kGrants, kMetadata, kIssuedAt, kIssuerId, kNotAfter, kGrantorId, kNotBefore, kTerminalId, kDescriptorId, kSubjectFayId, kKeyId, kAlgorithm, kSignatureValue, kModes, kConstraints, kResourcePattern, algorithms, modeNames, ed25519, ecdsaP256Sha256, mRead, mWrite, mExecute, mConfigure}
 use Rattle.descriptor.specs.Model.{encMode, encModes, encGrant, encGrants, encodePayload, encAlgorithm, encSignature, encode}
 use Rattle.descriptor.specs.Allowed.{before}
 use Rattle.descriptor.specs.Value.{within, countAt, textAt, wordAt, bytesAt, oneOf}
 use Rattle.descriptor.specs.Reader.{pairAt, pairsAt, hasMode, modeAt, modesAt, grantAt, moreAt, grantsAt, openingAt, middleAt, closingAt, payloadFits, payloadAt, valueFits, signatureAt, beforePayload, beforeKeyId, descriptorAt, readOf}
-use Rattle.resource.specs.Text.{levelsOf, patternOf}
 use Rattle.cbor_item.proofs.Promises.{marked-items}
 use Rattle.resource.proofs.Promises.{marked-matching}
 use Rattle.narrowing.specs.Escape.{fewestNames, lowestMode, firstRule}

@@ -8,7 +8,7 @@ use native.Mathlib.Omega.{arith}
 use borrow.Author.Tests.{leb-true, le-leb, eq-eqb}
 use lib.ListN.{length}
 use lib.Dec.{eqb, leb}
-use Rattle.cbor_item.specs.Bytes.{AreBytes}
+use Rattle.octets.specs.Bytes.{AreBytes}
 use Rattle.resource.specs.Pattern.{Path, IsPath, Levels, done, deep, name, star, Pattern, admits}
 use Rattle.resource.specs.Text.{patternOf}
 use Rattle.resource.specs.Cover.{CanTake}

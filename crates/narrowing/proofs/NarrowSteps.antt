@@ -8,9 +8,9 @@ use native.Mathlib.Omega.{arith}
 use lib.ListN.{length, take, drop, length-take, length-drop}
 use lib.Dec.{eqb, ltb, leb}
 use borrow.Author.Tests.{leb-true, leb-false, lt-ltb, le-ltb, eq-eqb, ne-eqb}
-use Rattle.cbor_item.specs.Bytes as cbor
-use Rattle.cbor_item.specs.Bytes.{AreBytes, part}
-use Rattle.cbor_item.specs.Reads.{got, refused}
+use Rattle.octets.specs.Bytes as cbor
+use Rattle.octets.specs.Bytes.{AreBytes, part}
+use Rattle.exact.specs.Reads.{got, refused}
 use Rattle.descriptor.specs.declared.Fields.{Fields}
 use Rattle.descriptor.specs.declared.Reading.{Reading}
 use Rattle.descriptor.specs.declared.Reading.the-variants as reading

@@ -8,7 +8,7 @@ use native.Mathlib.Omega.{arith}
 use lib.ListN.{length, getD, take, drop, replicate, length-append, length-replicate}
 use lib.Dec.{leb}
 use lib.Bits.{bitOr}
-use Rattle.cbor_item.specs.Reads.{got}
+use Rattle.exact.specs.Reads.{got}
 use Rattle.resource.specs.Level.{same, isName, levels, joined}
 use Rattle.resource.specs.Pattern.{Levels, done, deep, name, star, Pattern, IsPattern, NamesIn, spelled, patternText, before}
 use Rattle.resource.specs.Text.{isPattern, longest, patternOk, levelsOf, patternIn, patternOf}

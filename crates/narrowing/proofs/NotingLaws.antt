@@ -7,7 +7,7 @@ use native.Mathlib.Numerals.{add-one}
 use native.Mathlib.Omega.{arith}
 use lib.ListN.{length, getD, take, drop}
 use lib.Bits.{bitAnd, bitOr}
-use Rattle.cbor_item.specs.Bytes.{part}
+use Rattle.octets.specs.Bytes.{part}
 use Rattle.resource.proofs.Flags.{no-flag}
 use Rattle.descriptor.specs.Reader.{hasMode}
 use Rattle.narrowing.specs.declared.range.Range.{Range}

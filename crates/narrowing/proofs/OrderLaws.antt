@@ -7,7 +7,7 @@ use mathlib.Core.Option.{Option, none, some}
 use Prim.Native.Nat.{ℕ}
 use native.Mathlib.Omega.{arith}
 use lib.Dec.{T}
-use Rattle.cbor_item.specs.Bytes.{AreBytes}
+use Rattle.octets.specs.Bytes.{AreBytes}
 use Rattle.resource.proofs.Flags.{and-left, and-right, and-both}
 use Rattle.descriptor.specs.Model.{Descriptor, encode}
 use Rattle.descriptor.specs.Allowed.{Allowed}

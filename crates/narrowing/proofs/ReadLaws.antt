@@ -9,15 +9,14 @@ use native.Mathlib.Nat.{add-zero}
 use native.Mathlib.Omega.{arith}
 use borrow.Author.Tests.{eqb-true, eq-eqb}
 use lib.ListN.{length, drop}
-use Rattle.cbor_item.specs.Bytes.{AreBytes}
+use Rattle.octets.specs.Bytes.{AreBytes}
 use lib.Bits.{bitOr}
-use Rattle.cbor_item.specs.Reads.{got}
+use Rattle.exact.specs.Reads.{got}
 use Rattle.resource.specs.Text.{patternOf}
 use Rattle.descriptor.specs.Model.{Grant, Descriptor, encode}
 use Rattle.descriptor.specs.Allowed.{Formed}
 use Rattle.descriptor.specs.Reader.{GrantSeen, Sum, pairsOf, grantAt}
-use Rattle.descriptor.specs.View.{maskOf, countOf, sumFrom, grantView, grantsView, descriptorView}
-use Rattle.descriptor.specs.View.{grantPlace}
+use Rattle.descriptor.specs.View.{maskOf, countOf, sumFrom, grantView, grantsView, descriptorView, grantPlace}
 use Rattle.descriptor_laws.proofs.Laws.{grants-walk}
 use Rattle.descriptor_laws.proofs.grants.WalkLaws.{dropped, count-of, pairs-of}
 use Rattle.narrowing.specs.Escape.{Rule}

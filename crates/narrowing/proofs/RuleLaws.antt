@@ -7,7 +7,7 @@ use native.Mathlib.Omega.{arith}
 use borrow.Author.Tests.{eqb-true}
 use lib.ListN.{length, getD}
 use lib.Dec.{eqb, leb}
-use Rattle.cbor_item.specs.Reads.{AllFrom}
+use Rattle.exact.specs.Reads.{AllFrom}
 use Rattle.resource.specs.Pattern.{Path, Pattern, IsPattern, patternText, admits}
 use Rattle.resource.specs.Text.{isPattern, longest, patternOk, patternOf}
 use Rattle.resource.proofs.Promises.{patterns-exact, patterns-once}

@@ -10,8 +10,8 @@ use lib.ListN.{length, getD, take, drop, length-drop}
 use lib.Seq.{getD-drop}
 use lib.Dec.{eqb}
 use borrow.Author.Tests.{not-true, not-false}
-use Rattle.cbor_item.specs.Bytes.{part, same}
-use Rattle.cbor_item.specs.Reads.{got, refused}
+use Rattle.octets.specs.Bytes.{part, same}
+use Rattle.exact.specs.Reads.{got, refused}
 use Rattle.descriptor.specs.Reader.{hasMode, GrantSeen, grantAt}
 use Rattle.descriptor.proofs.LoopLaws.{same-more}
 use Rattle.narrowing.specs.declared.search.Found.the-variants.{At, Nothing}

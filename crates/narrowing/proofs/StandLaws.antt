@@ -6,14 +6,13 @@ use Prim.Native.Nat.{ℕ, _+_, _≤_}
 use native.Mathlib.Numerals.{add-one}
 use native.Mathlib.Nat.{add-zero}
 use lib.ListN.{length, take, drop}
-use Rattle.cbor_item.specs.Bytes.{AreBytes, part}
+use Rattle.octets.specs.Bytes.{AreBytes, part}
 use Rattle.resource.specs.Pattern.{before}
 use Rattle.resource.specs.Text.{patternOk, patternOf}
 use Rattle.descriptor.specs.Model.{Grant, Descriptor, encode}
 use Rattle.descriptor.specs.Allowed.{GrantOk, All, Formed}
 use Rattle.descriptor.specs.Reader.{GrantSeen, Seen, read, readOf}
-use Rattle.descriptor.specs.View.{grantView, descriptorView}
-use Rattle.descriptor.specs.View.{grantPlace}
+use Rattle.descriptor.specs.View.{grantView, descriptorView, grantPlace}
 use Rattle.descriptor_laws.proofs.Laws.{reads-exactly, grants-walk}
 use Rattle.descriptor_laws.proofs.grants.GrantsLaws.{OwnedBy}
 use Rattle.descriptor_laws.proofs.grants.WalkLaws.{dropped, count-of}

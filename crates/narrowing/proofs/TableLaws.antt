@@ -8,8 +8,8 @@ use native.Mathlib.Decide.{decLt}
 use native.Mathlib.Omega.{arith}
 use lib.ListN.{length, getD, set, length-set}
 use lib.Seq.{getD-set-same, getD-set-other}
-use Rattle.cbor_item.specs.Bytes.{AreBytes, part}
-use Rattle.cbor_item.specs.Reads.{got, refused}
+use Rattle.octets.specs.Bytes.{AreBytes, part}
+use Rattle.exact.specs.Reads.{got, refused}
 use Rattle.resource.specs.Level.{levels}
 use Rattle.resource.specs.Pattern.{endsDeep}
 use Rattle.resource.specs.Text.{levelsOf}

@@ -5,8 +5,8 @@ use mathlib.Core.List.{List, [], _∷_}
 use mathlib.Core.Option.{Option, none, some}
 use Prim.Native.Nat.{ℕ, zero, suc, _+_}
 use lib.Dec.{eqb, leb}
-use Rattle.cbor_item.specs.Bytes.{part}
-use Rattle.cbor_item.specs.Reads.{Got, got, refused}
+use Rattle.octets.specs.Bytes.{part}
+use Rattle.exact.specs.Reads.{Got, got, refused}
 use Rattle.resource.specs.Text.{patternOf}
 use Rattle.descriptor.specs.Reader.{GrantSeen, grantAt, Seen, Answer, read, structure, validity, readOf}
 use Rattle.narrowing.specs.declared.Narrowing.{Narrowing}

@@ -6,7 +6,7 @@ use mathlib.Core.List.{List, [], _∷_}
 use mathlib.Core.Option.{none}
 use Prim.Native.Nat.{ℕ, _≤_, _<_}
 use lib.ListN.{length, getD}
-use Rattle.cbor_item.specs.Bytes.{AreBytes}
+use Rattle.octets.specs.Bytes.{AreBytes}
 use Rattle.resource.specs.Pattern.{Path, IsPath}
 use Rattle.descriptor.specs.Model.{Grant, Descriptor, pairCount, encode}
 use Rattle.descriptor.specs.Allowed.{Allowed}

@@ -6,10 +6,10 @@ use mathlib.Core.List.{List}
 use mathlib.Core.Option.{Option, none, some}
 use Prim.Native.Nat.{ℕ, zero, suc, _+_, _*_, _-_, _≤_, _<_}
 use lib.ListN.{length, getD, replicate}
-use Rattle.cbor_item.specs.Bytes.{part, same}
+use Rattle.octets.specs.Bytes.{part, same}
 use lib.Dec.{eqb, leb, ltb}
 use lib.Bits.{bitOr}
-use Rattle.cbor_item.specs.Reads.{got, refused}
+use Rattle.exact.specs.Reads.{got, refused}
 use Rattle.cbor_item.specs.Head.{Span}
 use Rattle.resource.specs.Level.{levels}
 use Rattle.resource.specs.Pattern.{endsDeep}

@@ -8,7 +8,7 @@ use descriptor::Reading;
 ghost use mathlib.Core.Path.{_≡_};
 ghost use Prim.Native.Nat.{_+_, _≤_};
 ghost use lib.ListN.{length};
-ghost use Rattle.cbor_item.specs.Bytes.{part, same};
+ghost use Rattle.octets.specs.Bytes.{part, same};
 ghost use Rattle.narrowing.specs.Narrow.{narrow as narrowed};
 ghost use Rattle.narrowing.specs.Scan.{comparedIn};
 

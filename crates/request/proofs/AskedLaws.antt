@@ -7,8 +7,8 @@ use native.Mathlib.Omega.{arith}
 use lib.ListN.{length, take, drop}
 use lib.Dec.{leb, eqb}
 use borrow.Author.Tests.{le-leb, lt-leb, leb-true, eq-eqb, ne-eqb}
-use Rattle.cbor_item.specs.Bytes.{part, same}
-use Rattle.cbor_item.proofs.Tests.{and-left, and-right}
+use Rattle.octets.specs.Bytes.{part, same}
+use Rattle.octets.proofs.Tests.{and-left, and-right}
 use Rattle.resource.specs.Identifier.{isFay, isTerminal}
 use Rattle.resource.specs.Text.{resourceOk}
 use Rattle.steps.specs.Key.{isVerdict}

@@ -5,7 +5,7 @@ use mathlib.Core.List.{List, [], _∷_}
 use Prim.Native.Nat.{ℕ, _+_, _-_, min}
 use lib.ListN.{length, take, drop}
 use borrow.Author.Tests.{eq-eqb, ne-eqb}
-use Rattle.cbor_item.specs.Bytes.{part, same}
+use Rattle.octets.specs.Bytes.{part, same}
 use Rattle.resource.proofs.ScanLaws.{part-to-end}
 use Rattle.descriptor.specs.declared.Fields.{Fields}
 use Rattle.steps.specs.declared.Window.{Window}

@@ -4,8 +4,8 @@ use mathlib.Core.Bool.{Bool, true, false}
 use mathlib.Core.List.{List}
 use Prim.Native.Nat.{ℕ, zero, suc, _+_, _-_, _≤_}
 use lib.ListN.{length, take, drop}
-use Rattle.cbor_item.specs.Bytes.{part, same}
-use Rattle.cbor_item.specs.Reads.{Got, got, refused}
+use Rattle.octets.specs.Bytes.{part, same}
+use Rattle.exact.specs.Reads.{Got, got, refused}
 use Rattle.descriptor.specs.declared.Fields.{Fields}
 use Rattle.descriptor.specs.declared.Reading.the-variants.{Read}
 use Rattle.descriptor.proofs.GrantBounds.{Holds, holds-of, holds-bind, holds-guard}

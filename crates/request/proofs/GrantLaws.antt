@@ -7,16 +7,15 @@ use native.Mathlib.Numerals.{add-one}
 use native.Mathlib.Nat.{add-zero}
 use lib.ListN.{length, take, drop}
 use lib.Dec.{eqb}
-use Rattle.cbor_item.specs.Bytes.{AreBytes, part, same as sameBytes}
-use Rattle.cbor_item.specs.Reads.{got}
+use Rattle.octets.specs.Bytes.{AreBytes, part, same as sameBytes}
+use Rattle.exact.specs.Reads.{got}
 use Rattle.resource.specs.Pattern.{admits}
 use Rattle.resource.specs.Text.{resourceOk, pathOf, patternOf, levelsMatch}
 use Rattle.descriptor.specs.Model.{Grant, Descriptor, pairCount, encode}
 use Rattle.descriptor.specs.Allowed.{isIn, GrantOk, All, Formed}
 use Rattle.descriptor.specs.Reader.{GrantSeen, grantAt}
-use Rattle.descriptor.specs.View.{maskOf, grantView, descriptorView}
+use Rattle.descriptor.specs.View.{maskOf, grantView, descriptorView, grantPlace}
 use Rattle.descriptor.specs.Answer.{fieldsOf}
-use Rattle.descriptor.specs.View.{grantPlace}
 use Rattle.descriptor_laws.proofs.values.ModeLaws.{mask-exact}
 use Rattle.descriptor_laws.proofs.grants.GrantsLaws.{OwnedBy}
 use Rattle.descriptor_laws.proofs.grants.WalkLaws.{dropped, count-of, pairs-of}

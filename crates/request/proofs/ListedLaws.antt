@@ -6,7 +6,7 @@ use Prim.Native.Nat.{ℕ, zero, suc, _*_, _/_, _<_}
 use native.Mathlib.Omega.{arith}
 use native.Mathlib.Decide.{decLe}
 use lib.ListN.{length}
-use Rattle.cbor_item.specs.Bytes.{part, same}
+use Rattle.octets.specs.Bytes.{part, same}
 use Rattle.image.specs.Layout.{idSize}
 use Rattle.image.proofs.ListLaws.{same-true, true-same}
 use Rattle.request.specs.Asked.{listedAmong, isListed}

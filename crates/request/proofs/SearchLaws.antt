@@ -7,8 +7,8 @@ use native.Mathlib.Omega.{arith}
 use lib.ListN.{take, drop}
 use lib.Dec.{eqb}
 use borrow.Author.Tests.{eq-eqb, ne-eqb}
-use Rattle.cbor_item.specs.Bytes.{part}
-use Rattle.cbor_item.specs.Reads.{got, refused}
+use Rattle.octets.specs.Bytes.{part}
+use Rattle.exact.specs.Reads.{got, refused}
 use Rattle.resource.specs.declared.Step.{Step}
 use Rattle.resource.specs.declared.Step.the-variants.{Differ}
 use Rattle.resource.specs.Level.{isDeep}

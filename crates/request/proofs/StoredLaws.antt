@@ -6,7 +6,7 @@ use mathlib.Core.List.{List, [], _∷_, _++_}
 use mathlib.Core.Option.{some}
 use Prim.Native.Nat.{ℕ}
 use native.Mathlib.Omega.{arith}
-use Rattle.cbor_item.specs.Bytes.{AreBytes, part, same}
+use Rattle.octets.specs.Bytes.{AreBytes, part, same}
 use Rattle.descriptor.specs.Model.{Descriptor, encode}
 use Rattle.descriptor.specs.Allowed.{Allowed}
 use Rattle.steps.specs.declared.Window.{Window}

@@ -7,8 +7,8 @@ use Prim.Native.Nat.{ℕ, zero, suc, _+_, _<_}
 use native.Mathlib.Omega.{arith}
 use lib.ListN.{length, take, drop, getD}
 use lib.Seq.{getD-drop}
-use Rattle.cbor_item.specs.Bytes.{AreBytes, part, same}
-use Rattle.cbor_item.specs.Reads.{AllFrom}
+use Rattle.octets.specs.Bytes.{AreBytes, part, same}
+use Rattle.exact.specs.Reads.{AllFrom}
 use Rattle.descriptor.specs.declared.Fields.{Fields}
 use Rattle.descriptor.specs.Model.{Descriptor, encode}
 use Rattle.descriptor.specs.Allowed.{Allowed}

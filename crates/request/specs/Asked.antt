@@ -4,7 +4,7 @@ use mathlib.Core.List.{List}
 use Prim.Native.Nat.{ℕ, zero, suc, _*_, _/_, _%_}
 use lib.ListN.{length}
 use lib.Dec.{leb, eqb}
-use Rattle.cbor_item.specs.Bytes.{part, same}
+use Rattle.octets.specs.Bytes.{part, same}
 use Rattle.resource.specs.Identifier.{isFay, isTerminal}
 use Rattle.resource.specs.Text.{resourceOk}
 use Rattle.steps.specs.declared.Window.{Window}

@@ -4,8 +4,8 @@ use mathlib.Core.List.{List, [], _∷_}
 use Prim.Native.Nat.{ℕ, zero, suc, _+_, _-_, min}
 use lib.ListN.{take, drop}
 use lib.Dec.{leb, ltb, eqb}
-use Rattle.cbor_item.specs.Bytes.{part, same}
-use Rattle.cbor_item.specs.Reads.{got, refused}
+use Rattle.octets.specs.Bytes.{part, same}
+use Rattle.exact.specs.Reads.{got, refused}
 use Rattle.resource.specs.Text.{levelsMatch}
 use Rattle.descriptor.specs.declared.Fields.{Fields}
 use Rattle.descriptor.specs.Reader.{hasMode, GrantSeen, grantAt}

@@ -6,8 +6,8 @@ use mathlib.Core.List.{List, [], _∷_}
 use Prim.Native.Nat.{ℕ, _+_, _*_, _%_, _≤_, _<_, min}
 use lib.ListN.{length, getD}
 use lib.Dec.{leb, ltb, eqb}
-use Rattle.cbor_item.specs.Bytes.{AreBytes, part, same}
-use Rattle.cbor_item.specs.Head.{numberAt}
+use Rattle.octets.specs.Bytes.{AreBytes, part, same}
+use Rattle.octets.specs.Number.{numberAt}
 use Rattle.resource.specs.Identifier.{isFay, isTerminal}
 use Rattle.resource.specs.Pattern.{Path, admits}
 use Rattle.resource.specs.Text.{isResource, pathOf, patternOf}

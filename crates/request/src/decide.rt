@@ -1,8 +1,8 @@
 // The steps of a request, one after the other.
 use crate::Decision;
 use crate::search::Matched;
-use buffer::same_bytes;
 use descriptor::Fields;
+use octets::same_bytes;
 use steps::Window;
 ghost use mathlib.Core.Path.{_≡_};
 ghost use mathlib.Core.Bool.{true};

@@ -8,8 +8,8 @@ use native.Mathlib.Omega.{arith}
 use lib.ListN.{length}
 use lib.Dec.{leb, ltb}
 use borrow.Author.Tests.{ltb-true, leb-true}
-use Rattle.cbor_item.specs.Bytes.{part, same}
-use Rattle.cbor_item.proofs.Tests.{by-cond, and-left, and-right}
+use Rattle.octets.specs.Bytes.{part, same}
+use Rattle.octets.proofs.Tests.{by-cond, and-left, and-right}
 use Rattle.descriptor.specs.declared.Fields.{Fields}
 use Rattle.descriptor.specs.declared.Reading.{Reading}
 use Rattle.descriptor.specs.declared.Reading.the-variants.{Read, Structure, Validity}

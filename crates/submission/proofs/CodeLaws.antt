@@ -6,10 +6,9 @@ use Prim.Native.Nat.{ℕ, suc, _+_, _-_, _*_, _≤_, _<_}
 use native.Mathlib.Omega.{arith}
 use lib.ListN.{length, take, drop, replicate}
 use borrow.Author.Tests.{lt-ltb, le-ltb, le-leb, lt-leb, eq-eqb, ne-eqb, not-true, not-false}
-use Rattle.cbor_item.specs.Bytes.{part, same}
-use Rattle.cbor_item.specs.Encoding.{bigEndian}
-use Rattle.buffer.specs.Write.{putAt, movedUp}
-use Rattle.buffer.specs.Number.{numberIn}
+use Rattle.octets.specs.Bytes.{part, same}
+use Rattle.octets.specs.Number.{bigEndian, numberIn}
+use Rattle.octets.specs.Write.{putAt, movedUp}
 use Rattle.descriptor.specs.declared.Fields.{Fields}
 use Rattle.descriptor.specs.declared.Reading.{Reading}
 use Rattle.descriptor.specs.declared.Reading.the-variants.{Read, Structure, Validity}

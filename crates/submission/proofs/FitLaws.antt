@@ -6,8 +6,8 @@ use Prim.Native.Nat.{ℕ, zero, suc, _+_, _≤_}
 use native.Mathlib.Omega.{arith}
 use lib.ListN.{length}
 use lib.Dec.{leb, leb→le}
-use Rattle.cbor_item.specs.Bytes.{same}
-use Rattle.cbor_item.specs.Reads.{Got, got, refused}
+use Rattle.octets.specs.Bytes.{same}
+use Rattle.exact.specs.Reads.{Got, got, refused}
 use Rattle.descriptor.specs.declared.Fields.{Fields}
 use Rattle.descriptor.proofs.GrantBounds.{Holds, holds-of, holds-bind, holds-guard}
 use Rattle.image.specs.declared.Held.{Held}

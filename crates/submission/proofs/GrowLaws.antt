@@ -5,12 +5,12 @@ use mathlib.Core.List.{List, [], _∷_, _++_}
 use Prim.Native.Nat.{ℕ, _+_, _-_, _*_, _≤_, _<_}
 use native.Mathlib.Omega.{arith}
 use lib.ListN.{length, drop, length-append}
-use Rattle.cbor_item.specs.Bytes.{part, Has}
-use Rattle.cbor_item.specs.Encoding.{bigEndian}
-use Rattle.cbor_item.proofs.BytesLaws.{has-part}
-use Rattle.cbor_item.proofs.HeadLaws.{length-bigEndian}
-use Rattle.buffer.specs.Write.{over, putAt, moved, movedUp}
-use Rattle.buffer.proofs.OverLaws.{over-has, has-front, Kept, kept-over, kept-has, put-fits, moved-fits}
+use Rattle.octets.specs.Bytes.{part, Has}
+use Rattle.octets.specs.Number.{bigEndian}
+use Rattle.octets.proofs.BytesLaws.{has-part}
+use Rattle.octets.proofs.NumberLaws.{length-bigEndian}
+use Rattle.octets.specs.Write.{over, putAt, moved, movedUp}
+use Rattle.octets.proofs.OverLaws.{over-has, has-front, Kept, kept-over, kept-has, put-fits, moved-fits}
 use Rattle.descriptor.specs.declared.Fields.{Fields}
 use Rattle.descriptor.specs.declared.Reading.the-variants.{Read}
 use Rattle.image.specs.Layout.{rowPlace, rowSize}

@@ -4,14 +4,12 @@ use mathlib.Core.List.{List, [], _∷_, _++_, append-assoc}
 use Prim.Native.Nat.{ℕ, suc, _+_, _*_, _≤_, _<_}
 use native.Mathlib.Omega.{arith}
 use lib.ListN.{length, length-append}
-use Rattle.cbor_item.specs.Bytes.{part, Has}
-use Rattle.cbor_item.specs.Encoding.{bigEndian}
-use Rattle.cbor_item.proofs.BytesLaws.{has-left, has-fits}
-use Rattle.cbor_item.proofs.HeadLaws.{length-bigEndian}
-use Rattle.buffer.specs.Write.{over, putAt}
-use Rattle.buffer.specs.Number.{numberIn}
-use Rattle.buffer.proofs.OverLaws.{over-has, over-append, Kept, kept-over, kept-has, kept-join, kept-self, put-fits}
-use Rattle.buffer.proofs.NumberLaws.{number-in, number-of-has}
+use Rattle.octets.specs.Bytes.{part, Has}
+use Rattle.octets.specs.Number.{bigEndian, numberIn}
+use Rattle.octets.proofs.BytesLaws.{has-left, has-fits}
+use Rattle.octets.proofs.NumberLaws.{length-bigEndian, number-in, number-of-has}
+use Rattle.octets.specs.Write.{over, putAt}
+use Rattle.octets.proofs.OverLaws.{over-has, over-append, Kept, kept-over, kept-has, kept-join, kept-self, put-fits}
 use Rattle.descriptor.specs.declared.Fields.{Fields}
 use Rattle.descriptor.specs.declared.Reading.the-variants.{Read}
 use Rattle.image.specs.Layout.{imageEdition, modeEdition, rowSize, rowPlace}

@@ -8,8 +8,8 @@ use native.Mathlib.Omega.{arith}
 use lib.ListN.{length, drop}
 use lib.Dec.{leb, ltb}
 use borrow.Author.Tests.{ltb-true, leb-true}
-use Rattle.cbor_item.specs.Bytes.{part, same}
-use Rattle.cbor_item.proofs.Tests.{and-left, and-right}
+use Rattle.octets.specs.Bytes.{part, same}
+use Rattle.octets.proofs.Tests.{and-left, and-right}
 use Rattle.descriptor.specs.declared.Fields.{Fields}
 use Rattle.steps.specs.declared.Window.{Window}
 use Rattle.image.specs.declared.Held.{Held}

@@ -6,7 +6,7 @@ use mathlib.Core.List.{List, [], _∷_, _++_}
 use Prim.Native.Nat.{ℕ, _+_, _*_, _≤_, _<_}
 use native.Mathlib.Omega.{arith}
 use lib.ListN.{length, drop}
-use Rattle.cbor_item.specs.Bytes.{AreBytes}
+use Rattle.octets.specs.Bytes.{AreBytes}
 use Rattle.descriptor.specs.declared.Fields.{Fields}
 use Rattle.steps.specs.declared.Window.{Window}
 use Rattle.image.specs.declared.Held.the-variants.{Missing}

@@ -8,8 +8,8 @@ use mathlib.Core.Option.{Option, none, some}
 use Prim.Native.Nat.{ℕ, _+_, _≤_, _<_}
 use lib.ListN.{length, drop}
 use lib.Dec.{leb, ltb, eqb}
-use Rattle.cbor_item.specs.Bytes.{AreBytes, part, same}
-use Rattle.cbor_item.specs.Head.{numberAt}
+use Rattle.octets.specs.Bytes.{AreBytes, part, same}
+use Rattle.octets.specs.Number.{numberAt}
 use Rattle.descriptor.specs.Model.{Descriptor, encode}
 use Rattle.descriptor.specs.Allowed.{Allowed}
 use Rattle.steps.specs.declared.Window.{Window}

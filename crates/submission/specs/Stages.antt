@@ -5,10 +5,9 @@ use mathlib.Core.List.{List, []}
 use Prim.Native.Nat.{ℕ, zero, suc, _+_}
 use lib.ListN.{length}
 use lib.Dec.{leb, ltb}
-use Rattle.cbor_item.specs.Bytes.{part, same}
-use Rattle.cbor_item.specs.Encoding.{bigEndian}
-use Rattle.buffer.specs.Write.{putAt, movedUp}
-use Rattle.buffer.specs.Number.{numberIn}
+use Rattle.octets.specs.Bytes.{part, same}
+use Rattle.octets.specs.Number.{bigEndian, numberIn}
+use Rattle.octets.specs.Write.{putAt, movedUp}
 use Rattle.descriptor.specs.declared.Fields.{Fields}
 use Rattle.descriptor.specs.declared.Reading.{Reading}
 use Rattle.descriptor.specs.declared.Reading.the-variants.{Read, Structure, Validity}

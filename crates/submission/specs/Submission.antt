@@ -4,7 +4,7 @@ use mathlib.Core.List.{List, [], _∷_, _++_}
 use Prim.Native.Nat.{ℕ, _+_}
 use lib.ListN.{length, drop}
 use lib.Dec.{leb, ltb}
-use Rattle.cbor_item.specs.Bytes.{part, same}
+use Rattle.octets.specs.Bytes.{part, same}
 use Rattle.descriptor.specs.declared.Reading.{Reading}
 use Rattle.descriptor.specs.declared.Reading.the-variants.{Read, Structure, Validity}
 use Rattle.steps.specs.declared.Window.{Window}

@@ -9,7 +9,7 @@ ghost use mathlib.Core.Path.{_≡_};
 ghost use Prim.Native.Nat.{_+_, _≤_};
 ghost use lib.ListN.{length, replicate};
 ghost use Rattle.image.specs.Check.{surveyOf};
-ghost use Rattle.cbor_item.specs.Bytes.{AreBytes};
+ghost use Rattle.octets.specs.Bytes.{AreBytes};
 ghost use Rattle.submission.specs.Stages.{admitted, placed, chosenRead, chosenUnread, choiceOf};
 ghost use Rattle.submission.specs.Places.{HeldFits, SurveyFits};
 
@@ -61,7 +61,7 @@ fn place(image: &[u8], body: &[u8], rows: u64, end: usize, held: Held, fields: F
 {
     match held {
         Held::Body { at, len, fields: _ } => {
-            if buffer::same_bytes(&image[at..at + len], body) {
+            if octets::same_bytes(&image[at..at + len], body) {
                 return Choice::Answer(Submission::Done);
             }
             Choice::Answer(Submission::Duplicate)

@@ -1,8 +1,8 @@
 // One more row and body in an image, in place.
-use buffer::move_up;
-use buffer::number_at;
-use buffer::put;
-use buffer::put_number;
+use octets::move_up;
+use octets::number_at;
+use octets::put;
+use octets::put_number;
 ghost use mathlib.Core.Path.{_≡_};
 ghost use Prim.Native.Nat.{_+_, _*_, _≤_, _<_};
 ghost use lib.ListN.{length};

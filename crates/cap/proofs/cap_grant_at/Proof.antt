@@ -1,7 +1,7 @@
 -- `cap_grant_at` meets its contract. Assumes nothing.
 use mathlib.Core.Path.{_≡_, sym, ap, _∙_}
 use Rattle.descriptor.specs.Numbers.{grantNumbers}
-use Rattle.cbor_item.proofs.BytesLaws.{are-bytes}
+use Rattle.octets.proofs.BytesLaws.{are-bytes}
 use borrow.Author.Needs.{needs}
 use Rattle.cap.proofs.cap_grant_at.Statement.{statement}
 use Rattle.cap.proofs.cap_grant_at.Tie as tie

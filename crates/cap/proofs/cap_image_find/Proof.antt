@@ -1,7 +1,7 @@
 -- `cap_image_find` meets its contract. Assumes nothing.
 use mathlib.Core.Path.{_≡_, sym, ap, _∙_}
 use Rattle.image.specs.Check.{numbersOf}
-use Rattle.cbor_item.proofs.BytesLaws.{are-bytes}
+use Rattle.octets.proofs.BytesLaws.{are-bytes}
 use borrow.Author.Needs.{needs}
 use Rattle.cap.proofs.cap_image_find.Statement.{statement}
 use Rattle.cap.proofs.cap_image_find.Tie as tie

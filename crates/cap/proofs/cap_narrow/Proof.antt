@@ -1,7 +1,7 @@
 -- `cap_narrow` meets its contract. Assumes nothing.
 use mathlib.Core.Path.{_≡_, sym, ap, _∙_}
 use Rattle.narrowing.specs.Narrow.{numbersOf}
-use Rattle.cbor_item.proofs.BytesLaws.{are-bytes}
+use Rattle.octets.proofs.BytesLaws.{are-bytes}
 use borrow.Author.Needs.{needs}
 use Rattle.cap.proofs.cap_narrow.Statement.{statement}
 use Rattle.cap.proofs.cap_narrow.Tie as tie

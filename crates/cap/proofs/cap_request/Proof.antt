@@ -6,7 +6,7 @@ use Rattle.steps.specs.declared.Window.{Window}
 use Rattle.request.specs.declared.Decision.{Decision}
 use Rattle.request.specs.Asked.{asked}
 use Rattle.request.specs.Decision.{decisionOf, numbersOf}
-use Rattle.cbor_item.proofs.BytesLaws.{are-bytes}
+use Rattle.octets.proofs.BytesLaws.{are-bytes}
 use borrow.Author.Needs.{needs}
 use Rattle.cap.proofs.cap_request.Statement.{statement}
 use Rattle.cap.proofs.cap_request.Tie as tie

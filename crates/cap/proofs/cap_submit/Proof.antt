@@ -5,7 +5,7 @@ use Prim.Native.Nat.{ℕ}
 use Rattle.steps.specs.declared.Window.{Window}
 use Rattle.submission.specs.declared.Submission.{Submission}
 use Rattle.submission.specs.Submission.{submitted, afterOf, numberOf}
-use Rattle.cbor_item.proofs.BytesLaws.{are-bytes}
+use Rattle.octets.proofs.BytesLaws.{are-bytes}
 use borrow.Author.Needs.{needs}
 use Rattle.cap.proofs.cap_submit.Statement.{statement}
 use Rattle.cap.proofs.cap_submit.Tie as tie

@@ -5,7 +5,7 @@ use mathlib.Core.List.{List, [], _∷_, _++_, append-nil}
 use mathlib.Core.Option.{Option, none, some}
 use Prim.Native.Nat.{ℕ, suc}
 use lib.ListN.{length}
-use Rattle.cbor_item.specs.Reads.{encAll}
+use Rattle.exact.specs.Reads.{encAll}
 use Rattle.cbor_item.specs.Encoding.{head}
 use Rattle.descriptor.specs.Model.{Pair, Grant, Payload, Signature, Descriptor, encPair, encPairs, encModes, encGrant, encGrants, encodePayload, encSignature, encode}
 use Rattle.descriptor.specs.Allowed.{before}

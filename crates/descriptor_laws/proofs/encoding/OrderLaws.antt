@@ -7,7 +7,7 @@ use Prim.Native.Nat.{ℕ, zero, suc, _<_}
 use native.Mathlib.Omega.{arith}
 use lib.Dec.{ltb, eqb}
 use borrow.Author.Tests.{ltb-true, eqb-true, lt-ltb, eq-eqb}
-use Rattle.cbor_item.specs.Reads.{AllFrom}
+use Rattle.exact.specs.Reads.{AllFrom}
 use Rattle.resource.proofs.Flags.{and-left, and-right, and-both, or-elim, no-flag}
 use Rattle.descriptor.specs.Model.{Pair}
 use Rattle.descriptor.specs.Allowed.{before, PairOk, keyOf}

@@ -8,12 +8,12 @@ use Prim.Native.Nat.{ℕ, _+_, _^_, _<_}
 use native.Mathlib.Omega.{arith}
 use lib.ListN.{length}
 use lib.Dec.{T, eqb, lit<}
-use Rattle.cbor_item.specs.Bytes.{AreBytes, clash}
-use Rattle.cbor_item.specs.Reads.{Reads, viewOpt}
+use Rattle.octets.specs.Bytes.{AreBytes, clash}
+use Rattle.exact.specs.Reads.{Reads, viewOpt}
 use Rattle.cbor_item.specs.Encoding.{head}
-use Rattle.cbor_item.proofs.BytesLaws.{has-left, has-clash}
-use Rattle.cbor_item.proofs.ReadsLaws.{recast, seq, keyed, refine}
-use Rattle.cbor_item.proofs.OptionalLaws.{optional}
+use Rattle.octets.proofs.BytesLaws.{has-left, has-clash}
+use Rattle.exact.proofs.ReadsLaws.{recast, seq, keyed, refine}
+use Rattle.exact.proofs.OptionalLaws.{optional}
 use Rattle.resource.specs.Text.{patternOk}
 use Rattle.descriptor.specs.Keys.{kModes, kConstraints, kResourcePattern}
 use Rattle.descriptor.specs.Model.{Pair, size, encText, encGrant}

@@ -5,12 +5,12 @@ use Prim.Native.Nat.{ℕ, suc, _+_, _-_, _≤_}
 use native.Mathlib.Omega.{arith}
 use lib.ListN.{length, take}
 use lib.Dec.{lit<}
-use Rattle.cbor_item.specs.Bytes.{AreBytes, part, Has, same}
-use Rattle.cbor_item.specs.Reads.{Reads, encOpt, encAll, AllFrom, viewAll}
+use Rattle.octets.specs.Bytes.{AreBytes, part, Has, same}
+use Rattle.exact.specs.Reads.{Reads, encOpt, encAll, AllFrom, viewAll}
 use Rattle.cbor_item.specs.Encoding.{head}
-use Rattle.cbor_item.proofs.BytesLaws.{has-left, has-right, part-take}
-use Rattle.cbor_item.proofs.ReadsLaws.{recast, seq, refine, mapped}
-use Rattle.cbor_item.proofs.CountedLaws.{counted}
+use Rattle.octets.proofs.BytesLaws.{has-left, has-right, part-take}
+use Rattle.exact.proofs.ReadsLaws.{recast, seq, refine, mapped}
+use Rattle.exact.proofs.CountedLaws.{counted}
 use Rattle.descriptor.specs.Keys.{kModes, kConstraints, kResourcePattern}
 use Rattle.descriptor.specs.Model.{Grant, size, encPairs, encModes, encGrant, encGrants}
 use Rattle.descriptor.specs.Allowed.{GrantOk, All}

@@ -8,7 +8,7 @@ use native.Mathlib.Omega.{arith}
 use lib.ListN.{length, take, drop}
 use lib.Seq.{take-nil, drop-drop, take-at}
 use lib.Dec.{leb, eqb}
-use Rattle.cbor_item.specs.Bytes.{part, same as sameBytes}
+use Rattle.octets.specs.Bytes.{part, same as sameBytes}
 use Rattle.resource.specs.Identifier.{isTerminal}
 use Rattle.resource.specs.Level.{same, levels, levelsOk}
 use Rattle.resource.specs.Text.{wellFormed, isPattern, longest, patternOk}

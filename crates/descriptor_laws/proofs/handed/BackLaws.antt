@@ -7,9 +7,9 @@ use native.Mathlib.Nat.{add-zero}
 use native.Mathlib.Omega.{arith}
 use lib.ListN.{length, length-append}
 use lib.Bits.{bitOr}
-use Rattle.cbor_item.specs.Bytes.{AreBytes, Has}
+use Rattle.octets.specs.Bytes.{AreBytes, Has}
 use Rattle.cbor_item.specs.Head.{spanOf}
-use Rattle.cbor_item.proofs.BytesLaws.{has-length}
+use Rattle.octets.proofs.BytesLaws.{has-length}
 use Rattle.cbor_item.proofs.ItemLaws.{inside-fits}
 use Rattle.descriptor.specs.declared.DescriptorNumbers.{DescriptorNumbers}
 use Rattle.descriptor.specs.Model.{Pair, Grant, Descriptor, encodePayload, encode}

@@ -4,11 +4,11 @@ use mathlib.Core.List.{List, _++_}
 use Prim.Native.Nat.{ℕ, _+_}
 use native.Mathlib.Omega.{arith}
 use lib.ListN.{length}
-use Rattle.cbor_item.specs.Bytes.{AreBytes, Has}
-use Rattle.cbor_item.specs.Reads.{Got, got, refused, Reads, found, lacks, encOpt}
+use Rattle.octets.specs.Bytes.{AreBytes, Has}
+use Rattle.exact.specs.Reads.{Got, got, refused, Reads, found, lacks, encOpt}
 use Rattle.cbor_item.specs.Encoding.{head}
-use Rattle.cbor_item.proofs.BytesLaws.{has-left, has-right}
-use Rattle.cbor_item.proofs.ReadsLaws.{complete}
+use Rattle.octets.proofs.BytesLaws.{has-left, has-right}
+use Rattle.exact.proofs.ReadsLaws.{complete}
 use Rattle.descriptor.specs.Keys.{kModes, kConstraints, kResourcePattern}
 use Rattle.descriptor.specs.Model.{Grant, size, encText, encPairs, encMode, encModes, encGrant}
 use Rattle.descriptor.specs.Allowed.{GrantOk}

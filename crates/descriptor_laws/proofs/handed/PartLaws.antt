@@ -5,11 +5,11 @@ use mathlib.Core.Option.{Option, none, some}
 use Prim.Native.Nat.{ℕ, _+_}
 use native.Mathlib.Omega.{arith}
 use lib.ListN.{length, length-append}
-use Rattle.cbor_item.specs.Bytes.{Has}
-use Rattle.cbor_item.specs.Reads.{encOpt, viewOpt}
+use Rattle.octets.specs.Bytes.{Has}
+use Rattle.exact.specs.Reads.{encOpt, viewOpt}
 use Rattle.cbor_item.specs.Encoding.{head}
 use Rattle.cbor_item.specs.Head.{encodeString}
-use Rattle.cbor_item.proofs.BytesLaws.{has-left, has-right, has-part, all-has}
+use Rattle.octets.proofs.BytesLaws.{has-left, has-right, has-part, all-has}
 use Rattle.descriptor.specs.Keys.{kGrants, kMetadata, kIssuerId, kNotAfter, kGrantorId, kAlgorithm, kSignatureValue}
 use Rattle.descriptor.specs.Model.{Pair, Payload, Signature, Descriptor, encText, encPairs, encGrants, encodePayload, encAlgorithm, encode}
 use Rattle.descriptor.specs.Reader.{pairsOf, placeOf, beforePayload, beforeKeyId}

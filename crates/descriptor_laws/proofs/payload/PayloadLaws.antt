@@ -6,11 +6,11 @@ use Prim.Native.Nat.{ℕ, _+_, _≤_, _<_}
 use native.Mathlib.Omega.{arith}
 use lib.ListN.{length}
 use lib.Dec.{T, leb, ltb, eqb}
-use Rattle.cbor_item.specs.Bytes.{AreBytes, part, Has, same}
-use Rattle.cbor_item.specs.Reads.{Reads}
+use Rattle.octets.specs.Bytes.{AreBytes, part, Has, same}
+use Rattle.exact.specs.Reads.{Reads}
 use Rattle.cbor_item.specs.Encoding.{head}
-use Rattle.cbor_item.proofs.BytesLaws.{has-left, has-right, has-part}
-use Rattle.cbor_item.proofs.ReadsLaws.{recast, seq, refine}
+use Rattle.octets.proofs.BytesLaws.{has-left, has-right, has-part}
+use Rattle.exact.proofs.ReadsLaws.{recast, seq, refine}
 use Rattle.descriptor.specs.Keys.{kGrants, kTerminalId}
 use Rattle.descriptor.specs.Model.{Payload, size, encText, encGrants, encodePayload}
 use Rattle.descriptor.specs.Allowed.{PayloadOk}

@@ -7,12 +7,12 @@ use Prim.Native.Nat.{ℕ, _^_, _≤_, _<_}
 use native.Mathlib.Omega.{arith}
 use lib.ListN.{length}
 use lib.Dec.{T, lit<}
-use Rattle.cbor_item.specs.Bytes.{AreBytes, clash}
-use Rattle.cbor_item.specs.Reads.{Reads, OptOk}
+use Rattle.octets.specs.Bytes.{AreBytes, clash}
+use Rattle.exact.specs.Reads.{Reads, OptOk}
 use Rattle.cbor_item.specs.Encoding.{head}
-use Rattle.cbor_item.proofs.BytesLaws.{has-left, has-clash}
-use Rattle.cbor_item.proofs.ReadsLaws.{recast, seq, keyed, mapped}
-use Rattle.cbor_item.proofs.OptionalLaws.{optional}
+use Rattle.octets.proofs.BytesLaws.{has-left, has-clash}
+use Rattle.exact.proofs.ReadsLaws.{recast, seq, keyed, mapped}
+use Rattle.exact.proofs.OptionalLaws.{optional}
 use Rattle.resource.specs.Identifier.{isFay, isTerminal}
 use Rattle.descriptor.specs.Keys.{kGrants, kMetadata, kIssuedAt, kIssuerId, kNotAfter, kGrantorId, kNotBefore, kTerminalId, kDescriptorId, kSubjectFayId}
 use Rattle.descriptor.specs.Model.{Pair, Grant, encText, encBytes}

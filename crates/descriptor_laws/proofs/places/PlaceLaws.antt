@@ -3,9 +3,9 @@ use mathlib.Core.Path.{_≡_, sym, ap, _∙_, subst}
 use mathlib.Core.List.{List, _++_}
 use Prim.Native.Nat.{ℕ, _+_}
 use lib.ListN.{length}
-use Rattle.cbor_item.specs.Bytes.{Has, part}
+use Rattle.octets.specs.Bytes.{Has, part}
 use Rattle.cbor_item.specs.Encoding.{head}
-use Rattle.cbor_item.proofs.BytesLaws.{has-left, has-right, has-part}
+use Rattle.octets.proofs.BytesLaws.{has-left, has-right, has-part}
 use Rattle.descriptor.specs.Keys.{kTerminalId, kDescriptorId, kSubjectFayId}
 use Rattle.descriptor.specs.Model.{Payload, Descriptor, encBytes, encText, encode}
 use Rattle.descriptor.specs.Allowed.{Formed}

@@ -5,12 +5,12 @@ use Prim.Native.Nat.{ℕ, zero, suc, _+_, _≤_, _<_}
 use native.Mathlib.Numerals.{add-one}
 use native.Mathlib.Omega.{arith}
 use lib.ListN.{length, take, getD, length-append}
-use Rattle.cbor_item.specs.Bytes.{Has}
-use Rattle.cbor_item.specs.Reads.{got, encAll}
+use Rattle.octets.specs.Bytes.{Has}
+use Rattle.exact.specs.Reads.{got, encAll}
 use Rattle.cbor_item.specs.Encoding.{head}
-use Rattle.cbor_item.proofs.BytesLaws.{has-left, has-right, has-part, all-has}
-use Rattle.cbor_item.proofs.ReadsLaws.{complete}
-use Rattle.cbor_item.proofs.CountedLaws.{all-at}
+use Rattle.octets.proofs.BytesLaws.{has-left, has-right, has-part, all-has}
+use Rattle.exact.proofs.ReadsLaws.{complete}
+use Rattle.exact.proofs.CountedLaws.{all-at}
 use Rattle.descriptor.specs.Model.{Grant, Payload, Descriptor, encGrant, encGrants, encodePayload, encode}
 use Rattle.descriptor.specs.Allowed.{GrantOk, All, Formed}
 use Rattle.descriptor.specs.Reader.{beforePayload}

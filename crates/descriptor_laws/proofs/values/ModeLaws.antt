@@ -8,11 +8,11 @@ use native.Mathlib.Decide.{decLe}
 use lib.ListN.{length}
 use lib.Dec.{T, eqb, ltb, lit<, ltb→lt}
 use mir.Facts.{and-yes}
-use Rattle.cbor_item.specs.Bytes.{AreBytes, clash}
-use Rattle.cbor_item.specs.Reads.{Reads, encAll, AllFrom, viewAll}
+use Rattle.octets.specs.Bytes.{AreBytes, clash}
+use Rattle.exact.specs.Reads.{Reads, encAll, AllFrom, viewAll}
 use Rattle.cbor_item.specs.Encoding.{head}
-use Rattle.cbor_item.proofs.ReadsLaws.{recast, seq, refine}
-use Rattle.cbor_item.proofs.CountedLaws.{counted}
+use Rattle.exact.proofs.ReadsLaws.{recast, seq, refine}
+use Rattle.exact.proofs.CountedLaws.{counted}
 use Rattle.descriptor.specs.Keys.{mRead, mWrite, mExecute, mConfigure, modeNames}
 use Rattle.descriptor.specs.Model.{encMode, encModes}
 use Rattle.descriptor.specs.Allowed.{isIn, ModeOk, seenWith, ModesOk}

@@ -3,7 +3,7 @@ use mathlib.Core.Path.{_≡_, refl}
 use mathlib.Core.Option.{Option, none, some}
 use Prim.Native.Nat.{ℕ, _≤_}
 use native.Mathlib.Omega.{arith}
-use Rattle.cbor_item.specs.Reads.{viewOpt}
+use Rattle.exact.specs.Reads.{viewOpt}
 use Rattle.descriptor.specs.Model.{size}
 use Rattle.descriptor.specs.Reader.{placeOf}
 

@@ -6,13 +6,13 @@ use Prim.Native.Nat.{ℕ, _+_, _-_, _^_, _<_}
 use native.Mathlib.Omega.{arith}
 use lib.ListN.{length}
 use lib.Dec.{lit<}
-use Rattle.cbor_item.specs.Bytes.{AreBytes, part, Has}
-use Rattle.cbor_item.specs.Reads.{Reads, encAll}
+use Rattle.octets.specs.Bytes.{AreBytes, part, Has}
+use Rattle.exact.specs.Reads.{Reads, encAll}
 use Rattle.cbor_item.specs.Encoding.{head}
 use Rattle.cbor_item.specs.Head.{Span, spanOf}
-use Rattle.cbor_item.proofs.BytesLaws.{has-left, has-part, part-back}
-use Rattle.cbor_item.proofs.ReadsLaws.{recast, seq, mapped, checked}
-use Rattle.cbor_item.proofs.CountedLaws.{counted}
+use Rattle.octets.proofs.BytesLaws.{has-left, has-part, part-back}
+use Rattle.exact.proofs.ReadsLaws.{recast, seq, mapped, checked}
+use Rattle.exact.proofs.CountedLaws.{counted}
 use Rattle.descriptor.specs.Model.{Pair, encText, encPair, encPairs}
 use Rattle.descriptor.specs.Allowed.{before, PairOk, keyOf, PairsOk}
 use Rattle.descriptor.specs.Reader.{pairAt, pairsAt}

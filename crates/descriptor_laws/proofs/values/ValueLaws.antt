@@ -9,13 +9,13 @@ use native.Mathlib.Omega.{arith}
 use lib.ListN.{length, getD}
 use lib.Dec.{T, eqb, lit<}
 use mir.Facts.{and-yes, yes-and}
-use Rattle.cbor_item.specs.Bytes.{AreBytes, part, Has, hasAt, clash}
-use Rattle.cbor_item.specs.Reads.{got, Reads, found, lacks, bind, guard}
+use Rattle.octets.specs.Bytes.{AreBytes, part, Has, hasAt, clash}
+use Rattle.exact.specs.Reads.{got, Reads, found, lacks, bind, guard}
 use Rattle.cbor_item.specs.Encoding.{head}
 use Rattle.cbor_item.specs.Utf8.{isUtf8}
 use Rattle.cbor_item.specs.Head.{Span, headOf, spanAt, encodeString}
-use Rattle.cbor_item.proofs.BytesLaws.{has-right, has-part, has-clash, hasAt-yes, yes-hasAt}
-use Rattle.cbor_item.proofs.ReadsLaws.{recast, refine}
+use Rattle.octets.proofs.BytesLaws.{has-right, has-part, has-clash, hasAt-yes, yes-hasAt}
+use Rattle.exact.proofs.ReadsLaws.{recast, refine}
 use Rattle.cbor_item.proofs.HeadLaws.{heads-exact, spans-exact}
 use Rattle.cbor_item.proofs.Promises.{utf8-exact}
 use Rattle.descriptor.specs.Keys.{ed25519, ecdsaP256Sha256, algorithms}

@@ -8,11 +8,11 @@ use native.Mathlib.Omega.{arith}
 use lib.ListN.{length}
 use lib.Dec.{leb, eqb}
 use borrow.Author.Tests.{leb-true, leb-false, eqb-true, le-leb, lt-leb, eq-eqb}
-use Rattle.cbor_item.specs.Bytes.{AreBytes, Has}
-use Rattle.cbor_item.specs.Reads.{Got, got, refused, Reads, found}
-use Rattle.cbor_item.proofs.Tests.{by-cond}
-use Rattle.cbor_item.proofs.BytesLaws.{has-all, all-has}
-use Rattle.cbor_item.proofs.ReadsLaws.{complete, unique}
+use Rattle.octets.specs.Bytes.{AreBytes, Has}
+use Rattle.exact.specs.Reads.{Got, got, refused, Reads, found}
+use Rattle.octets.proofs.Tests.{by-cond}
+use Rattle.octets.proofs.BytesLaws.{has-all, all-has}
+use Rattle.exact.proofs.ReadsLaws.{complete, unique}
 use Rattle.descriptor.specs.Model.{Descriptor, encode}
 use Rattle.descriptor.specs.Allowed.{longest, Formed, longestPeriod, period}
 use Rattle.descriptor.specs.Reader.{Seen, Answer, read, structure, validity, whole, readOf, descriptorAt}

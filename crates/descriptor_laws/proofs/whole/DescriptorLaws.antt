@@ -4,10 +4,10 @@ use mathlib.Core.List.{List, _++_}
 use Prim.Native.Nat.{ℕ, _+_, _-_}
 use native.Mathlib.Omega.{arith}
 use lib.ListN.{length, length-append}
-use Rattle.cbor_item.specs.Bytes.{AreBytes}
-use Rattle.cbor_item.specs.Reads.{Reads}
+use Rattle.octets.specs.Bytes.{AreBytes}
+use Rattle.exact.specs.Reads.{Reads}
 use Rattle.cbor_item.specs.Encoding.{head}
-use Rattle.cbor_item.proofs.ReadsLaws.{recast, seq, keyed, mapped}
+use Rattle.exact.proofs.ReadsLaws.{recast, seq, keyed, mapped}
 use Rattle.descriptor.specs.Keys.{kPayload, kVersion, kSignature, kKeyId}
 use Rattle.descriptor.specs.Model.{Descriptor, encodePayload, encSignature, encode}
 use Rattle.descriptor.specs.Allowed.{PayloadOk, SignatureOk}

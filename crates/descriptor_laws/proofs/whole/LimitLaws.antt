@@ -9,8 +9,8 @@ use lib.ListN.{length, take}
 use lib.Dec.{leb, ltb, eqb}
 use borrow.Author.Tests.{leb-true, le-leb, eqb-false, ne-eqb}
 use Rattle.cbor_item.specs.Encoding.{head}
-use Rattle.cbor_item.specs.Reads.{OptOk, AllFrom}
-use Rattle.cbor_item.proofs.Tests.{by-cond}
+use Rattle.exact.specs.Reads.{OptOk, AllFrom}
+use Rattle.octets.proofs.Tests.{by-cond}
 use Rattle.resource.specs.Text.{isPattern, longest, patternOk}
 use Rattle.resource.proofs.Flags.{and-left, and-right, and-both}
 use Rattle.descriptor.specs.Model.{Pair, Grant, Descriptor}

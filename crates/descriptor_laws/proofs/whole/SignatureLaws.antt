@@ -6,9 +6,9 @@ use Prim.Native.Nat.{ℕ, zero, suc, _≤_, _<_}
 use native.Mathlib.Omega.{arith}
 use lib.ListN.{length}
 use lib.Dec.{T, eqb→eq, lit<}
-use Rattle.cbor_item.specs.Bytes.{AreBytes}
-use Rattle.cbor_item.specs.Reads.{Reads}
-use Rattle.cbor_item.proofs.ReadsLaws.{recast, seq, keyed, refine}
+use Rattle.octets.specs.Bytes.{AreBytes}
+use Rattle.exact.specs.Reads.{Reads}
+use Rattle.exact.proofs.ReadsLaws.{recast, seq, keyed, refine}
 use Rattle.descriptor.specs.Keys.{kAlgorithm, kSignatureValue, algorithms}
 use Rattle.descriptor.specs.Model.{Signature, encText, encBytes, encAlgorithm}
 use Rattle.descriptor.specs.Allowed.{ValueOk, SignatureOk}

@@ -1,7 +1,7 @@
 -- `body_part` meets its contract. Assumes nothing.
 use mathlib.Core.Path.{refl}
 use native.Mathlib.Omega.{arith}
-use Rattle.cbor_item.specs.Bytes.{part}
+use Rattle.octets.specs.Bytes.{part}
 use borrow.Author.Needs.{needs}
 use Rattle.image.proofs.body_part.Statement.{statement}
 use Rattle.image.proofs.body_part.Tie as tie

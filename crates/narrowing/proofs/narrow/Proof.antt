@@ -1,7 +1,7 @@
 -- `narrow` meets its contract. Assumes nothing.
 use mathlib.Core.Path.{sym, _∙_}
 use native.Mathlib.Omega.{arith}
-use Rattle.cbor_item.proofs.BytesLaws.{are-bytes}
+use Rattle.octets.proofs.BytesLaws.{are-bytes}
 use Rattle.narrowing.proofs.NarrowSteps.{terminal-room, narrow-both, narrow-structure, narrow-validity, narrow-no-parent}
 use Rattle.narrowing.proofs.TableLaws.{grants-few}
 use borrow.Author.Needs.{needs}

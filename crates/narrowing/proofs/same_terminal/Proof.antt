@@ -3,7 +3,7 @@ use mathlib.Core.Path.{_≡_, refl, sym, _∙_}
 use Prim.Native.Nat.{_-_, _≤_}
 use native.Mathlib.Omega.{arith}
 use borrow.Author.Needs.{needs}
-use Rattle.cbor_item.specs.Bytes.{part, same}
+use Rattle.octets.specs.Bytes.{part, same}
 use Rattle.narrowing.proofs.SearchSteps.{same-parts}
 use Rattle.narrowing.proofs.same_terminal.Statement.{statement}
 use Rattle.narrowing.proofs.same_terminal.Tie as tie

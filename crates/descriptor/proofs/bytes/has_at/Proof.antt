@@ -4,8 +4,8 @@ use Prim.Native.Nat.{_+_, _-_, _≤_}
 use native.Mathlib.Omega.{arith}
 use lib.ListN.{length, drop}
 use borrow.Author.Needs.{needs}
-use Rattle.cbor_item.specs.Bytes.{hasAt}
-use Rattle.cbor_item.proofs.BytesLaws.{hasAt-begin, hasAt-alike, hasAt-differs, hasAt-done, hasAt-short}
+use Rattle.octets.specs.Bytes.{hasAt}
+use Rattle.octets.proofs.BytesLaws.{hasAt-begin, hasAt-alike, hasAt-differs, hasAt-done, hasAt-short}
 use Rattle.descriptor.proofs.LoopLaws.{hasAt-none}
 use Rattle.descriptor.proofs.bytes.has_at.Statement.{statement}
 use Rattle.descriptor.proofs.bytes.has_at.Tie as tie

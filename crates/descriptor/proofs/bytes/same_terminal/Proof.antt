@@ -4,7 +4,7 @@ use Prim.Native.Nat.{_-_, _≤_}
 use native.Mathlib.Omega.{arith}
 use lib.ListN.{take}
 use borrow.Author.Needs.{needs}
-use Rattle.cbor_item.specs.Bytes.{same}
+use Rattle.octets.specs.Bytes.{same}
 use Rattle.descriptor.proofs.LoopLaws.{same-more}
 use Rattle.descriptor.proofs.bytes.same_terminal.Statement.{statement}
 use Rattle.descriptor.proofs.bytes.same_terminal.Tie as tie

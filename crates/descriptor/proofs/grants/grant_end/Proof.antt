@@ -2,8 +2,8 @@
 use mathlib.Core.Path.{refl, sym, ap, _∙_}
 use native.Mathlib.Omega.{arith}
 use Rattle.cbor_item.specs.Head.{spanRead}
-use Rattle.cbor_item.proofs.BytesLaws.{T-of}
-use Rattle.cbor_item.proofs.ReadsLaws.{took, stopped, passed, failed}
+use Rattle.octets.proofs.BytesLaws.{T-of}
+use Rattle.exact.proofs.ReadsLaws.{took, stopped, passed, failed}
 use Rattle.descriptor.specs.Keys.{kResourcePattern}
 use Rattle.descriptor.specs.Answer.{grantEnd}
 use Rattle.descriptor.proofs.Truth.{T-false}

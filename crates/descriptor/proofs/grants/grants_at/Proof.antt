@@ -3,8 +3,8 @@ use mathlib.Core.Path.{_≡_, sym, ap, _∙_}
 use Prim.Native.Nat.{_+_, _*_, _≤_}
 use native.Mathlib.Omega.{arith}
 use lib.ListN.{length}
-use Rattle.cbor_item.specs.Reads.{got}
-use Rattle.cbor_item.proofs.ReadsLaws.{took, stopped}
+use Rattle.exact.specs.Reads.{got}
+use Rattle.exact.proofs.ReadsLaws.{took, stopped}
 use Rattle.descriptor.specs.Answer.{countRead, grantRead, sumOf, sumRead}
 use Rattle.descriptor.specs.Value.{countAt}
 use Rattle.descriptor.specs.Reader.{grantsAt}

@@ -3,8 +3,8 @@ use mathlib.Core.Path.{refl, sym, ap, _∙_}
 use Prim.Native.Nat.{_+_, _≤_}
 use native.Mathlib.Omega.{arith}
 use lib.ListN.{length}
-use Rattle.cbor_item.proofs.BytesLaws.{T-of}
-use Rattle.cbor_item.proofs.ReadsLaws.{took, stopped, passed, failed}
+use Rattle.octets.proofs.BytesLaws.{T-of}
+use Rattle.exact.proofs.ReadsLaws.{took, stopped, passed, failed}
 use Rattle.descriptor.specs.Answer.{grantRead}
 use Rattle.descriptor.specs.Reader.{moreAt}
 use Rattle.descriptor.proofs.Truth.{T-false}

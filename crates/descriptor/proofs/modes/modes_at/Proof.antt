@@ -3,9 +3,9 @@ use mathlib.Core.Path.{_≡_, refl, sym, ap, _∙_}
 use Prim.Native.Nat.{_<_}
 use native.Mathlib.Omega.{arith}
 use borrow.Author.Needs.{needs}
-use Rattle.cbor_item.specs.Reads.{got, many}
-use Rattle.cbor_item.proofs.ReadsLaws.{stopped}
-use Rattle.cbor_item.proofs.CountedLaws.{many-got}
+use Rattle.exact.specs.Reads.{got, many}
+use Rattle.exact.proofs.ReadsLaws.{stopped}
+use Rattle.exact.proofs.CountedLaws.{many-got}
 use Rattle.descriptor.specs.Value.{countAt}
 use Rattle.descriptor.specs.Reader.{modeAt, modesAt}
 use Rattle.descriptor.specs.Answer.{countRead}

@@ -2,8 +2,8 @@
 use mathlib.Core.Path.{sym, ap, _∙_}
 use Prim.Native.Nat.{_^_}
 use native.Mathlib.Omega.{arith}
-use Rattle.cbor_item.proofs.BytesLaws.{T-of-not, not-T-of}
-use Rattle.cbor_item.proofs.OptionalLaws.{opt-absent, opt-present, opt-broken}
+use Rattle.octets.proofs.BytesLaws.{T-of-not, not-T-of}
+use Rattle.exact.proofs.OptionalLaws.{opt-absent, opt-present, opt-broken}
 use Rattle.descriptor.specs.Answer.{countRead}
 use Rattle.descriptor.proofs.ValueSteps.{key-end}
 use borrow.Author.Needs.{needs}

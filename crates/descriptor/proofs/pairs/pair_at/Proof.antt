@@ -3,7 +3,7 @@ use mathlib.Core.Path.{_≡_, sym, ap, _∙_}
 use Prim.Native.Nat.{_+_, _≤_}
 use native.Mathlib.Omega.{arith}
 use lib.ListN.{length}
-use Rattle.cbor_item.specs.Reads.{got}
+use Rattle.exact.specs.Reads.{got}
 use Rattle.cbor_item.specs.Head.{spanOf, spanRead}
 use Rattle.descriptor.specs.Value.{textAt}
 use Rattle.descriptor.proofs.ValueSteps.{text-bound}

@@ -4,10 +4,10 @@ use Prim.Native.Nat.{_+_, _≤_}
 use native.Mathlib.Omega.{arith}
 use lib.ListN.{length}
 use borrow.Author.Needs.{needs}
-use Rattle.cbor_item.specs.Reads.{got, many}
+use Rattle.exact.specs.Reads.{got, many}
 use Rattle.cbor_item.specs.Head.{spanOf}
-use Rattle.cbor_item.proofs.ReadsLaws.{stopped}
-use Rattle.cbor_item.proofs.CountedLaws.{many-got}
+use Rattle.exact.proofs.ReadsLaws.{stopped}
+use Rattle.exact.proofs.CountedLaws.{many-got}
 use Rattle.descriptor.specs.Value.{countAt}
 use Rattle.descriptor.specs.Reader.{pairAt, pairsAt}
 use Rattle.descriptor.specs.Answer.{countRead, pairRead}

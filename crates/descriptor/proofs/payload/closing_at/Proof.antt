@@ -2,7 +2,7 @@
 use mathlib.Core.Path.{refl, sym, ap, _∙_}
 use native.Mathlib.Omega.{arith}
 use Rattle.cbor_item.specs.Head.{spanRead}
-use Rattle.cbor_item.proofs.ReadsLaws.{took, stopped}
+use Rattle.exact.proofs.ReadsLaws.{took, stopped}
 use Rattle.descriptor.specs.Keys.{kTerminalId, kDescriptorId, kSubjectFayId}
 use Rattle.descriptor.specs.Reader.{closingAt}
 use Rattle.descriptor.proofs.GrantBounds.{word-ends, bytes-ends}

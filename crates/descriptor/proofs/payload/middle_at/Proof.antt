@@ -2,7 +2,7 @@
 use mathlib.Core.Path.{sym, ap, _∙_}
 use native.Mathlib.Omega.{arith}
 use Rattle.cbor_item.specs.Head.{spanRead}
-use Rattle.cbor_item.proofs.ReadsLaws.{took, stopped}
+use Rattle.exact.proofs.ReadsLaws.{took, stopped}
 use Rattle.descriptor.specs.Keys.{kIssuerId, kNotAfter, kGrantorId, kNotBefore}
 use Rattle.descriptor.specs.Answer.{countRead, optTextRead, middleEnd}
 use Rattle.descriptor.specs.Reader.{middleAt}

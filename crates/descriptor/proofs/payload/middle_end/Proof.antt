@@ -1,6 +1,6 @@
 -- `middle_end` meets its contract. Assumes nothing.
 use mathlib.Core.Path.{refl, sym, ap, _∙_}
-use Rattle.cbor_item.proofs.ReadsLaws.{took, stopped}
+use Rattle.exact.proofs.ReadsLaws.{took, stopped}
 use Rattle.descriptor.specs.Keys.{kNotBefore}
 use Rattle.descriptor.specs.Answer.{countRead, middleEnd}
 use borrow.Author.Needs.{needs}

@@ -2,8 +2,8 @@
 use mathlib.Core.Path.{sym, ap, _∙_}
 use native.Mathlib.Omega.{arith}
 use lib.Dec.{lit<}
-use Rattle.cbor_item.proofs.BytesLaws.{T-of-not, not-T-of}
-use Rattle.cbor_item.proofs.ReadsLaws.{took, stopped, passed, failed}
+use Rattle.octets.proofs.BytesLaws.{T-of-not, not-T-of}
+use Rattle.exact.proofs.ReadsLaws.{took, stopped, passed, failed}
 use Rattle.descriptor.specs.Keys.{kGrants, kMetadata, kIssuedAt}
 use Rattle.descriptor.specs.Answer.{countRead, optRead, grantsRead, openingEnd}
 use Rattle.descriptor.specs.Reader.{openingAt}

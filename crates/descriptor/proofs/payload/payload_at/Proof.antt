@@ -1,7 +1,7 @@
 -- `payload_at` meets its contract. Assumes nothing.
 use mathlib.Core.Path.{refl, sym, ap, _∙_}
-use Rattle.cbor_item.proofs.BytesLaws.{T-of}
-use Rattle.cbor_item.proofs.ReadsLaws.{took, stopped, passed, failed}
+use Rattle.octets.proofs.BytesLaws.{T-of}
+use Rattle.exact.proofs.ReadsLaws.{took, stopped, passed, failed}
 use Rattle.descriptor.specs.Answer.{openingRead, middleRead, closingRead}
 use Rattle.descriptor.specs.Reader.{payloadAt}
 use Rattle.descriptor.proofs.Truth.{T-false}

@@ -2,8 +2,8 @@
 use mathlib.Core.Path.{_∙_}
 use native.Mathlib.Omega.{arith}
 use lib.Dec.{lit<}
-use Rattle.cbor_item.proofs.BytesLaws.{T-of, T-of-not, not-T-of}
-use Rattle.cbor_item.proofs.ReadsLaws.{passed, failed}
+use Rattle.octets.proofs.BytesLaws.{T-of, T-of-not, not-T-of}
+use Rattle.exact.proofs.ReadsLaws.{passed, failed}
 use Rattle.descriptor.specs.Keys.{kAlgorithm, ed25519, ecdsaP256Sha256, algorithms}
 use Rattle.descriptor.proofs.GrantBounds.{key-room, key-fits}
 use Rattle.descriptor.proofs.ReadSteps.{one-first, one-next, one-none}

@@ -4,10 +4,10 @@ use Prim.Native.Nat.{_+_, _-_, _≤_, _<_}
 use native.Mathlib.Omega.{arith}
 use lib.ListN.{length}
 use lib.Dec.{lit<}
-use Rattle.cbor_item.specs.Bytes.{hasAt}
-use Rattle.cbor_item.specs.Reads.{got, guard}
-use Rattle.cbor_item.proofs.BytesLaws.{T-of-not, not-T-of}
-use Rattle.cbor_item.proofs.ReadsLaws.{took, stopped, passed, failed}
+use Rattle.octets.specs.Bytes.{hasAt}
+use Rattle.exact.specs.Reads.{got, guard}
+use Rattle.octets.proofs.BytesLaws.{T-of-not, not-T-of}
+use Rattle.exact.proofs.ReadsLaws.{took, stopped, passed, failed}
 use Rattle.descriptor.specs.declared.Reading.the-variants.{Read}
 use Rattle.descriptor.specs.Keys.{kPayload, kVersion, kSignature, kKeyId}
 use Rattle.descriptor.specs.Reader.{payloadAt, beforePayload, beforeKeyId, descriptorAt}

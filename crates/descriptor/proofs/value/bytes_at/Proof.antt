@@ -2,9 +2,9 @@
 use mathlib.Core.Path.{_≡_, sym, ap, _∙_}
 use Prim.Native.Nat.{_+_}
 use native.Mathlib.Omega.{arith}
-use Rattle.cbor_item.specs.Reads.{got}
+use Rattle.exact.specs.Reads.{got}
 use Rattle.cbor_item.specs.Head.{spanOf, spanRead, spanAt}
-use Rattle.cbor_item.proofs.ReadsLaws.{stopped}
+use Rattle.exact.proofs.ReadsLaws.{stopped}
 use Rattle.descriptor.specs.Value.{bytesAt}
 use Rattle.descriptor.proofs.ValueSteps.{bytes-yes, bytes-no}
 use borrow.Author.Needs.{needs}

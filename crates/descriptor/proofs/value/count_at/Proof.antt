@@ -1,9 +1,9 @@
 -- `count_at` meets its contract. Assumes nothing.
 use mathlib.Core.Path.{_≡_, sym, ap, _∙_}
 use native.Mathlib.Omega.{arith}
-use Rattle.cbor_item.specs.Reads.{got}
+use Rattle.exact.specs.Reads.{got}
 use Rattle.cbor_item.specs.Head.{headOf, headRead, headAt}
-use Rattle.cbor_item.proofs.ReadsLaws.{stopped}
+use Rattle.exact.proofs.ReadsLaws.{stopped}
 use Rattle.descriptor.specs.Value.{countAt}
 use Rattle.descriptor.proofs.ValueSteps.{count-yes, count-no}
 use borrow.Author.Needs.{needs}

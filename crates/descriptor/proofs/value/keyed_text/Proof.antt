@@ -1,7 +1,7 @@
 -- `keyed_text` meets its contract. Assumes nothing.
 use Prim.Native.Nat.{_^_}
 use native.Mathlib.Omega.{arith}
-use Rattle.cbor_item.proofs.BytesLaws.{T-of}
+use Rattle.octets.proofs.BytesLaws.{T-of}
 use Rattle.descriptor.proofs.ValueSteps.{flag-yes, flag-no, key-end}
 use borrow.Author.Needs.{needs}
 use Rattle.descriptor.proofs.value.keyed_text.Statement.{statement}

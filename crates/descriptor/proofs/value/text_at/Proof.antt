@@ -3,9 +3,9 @@ use mathlib.Core.Path.{_≡_, sym, ap, _∙_}
 use Prim.Native.Nat.{_+_, _≤_}
 use native.Mathlib.Omega.{arith}
 use lib.ListN.{length}
-use Rattle.cbor_item.specs.Reads.{got}
+use Rattle.exact.specs.Reads.{got}
 use Rattle.cbor_item.specs.Head.{spanOf, spanRead, spanAt}
-use Rattle.cbor_item.proofs.ReadsLaws.{stopped}
+use Rattle.exact.proofs.ReadsLaws.{stopped}
 use Rattle.descriptor.specs.Value.{textAt}
 use Rattle.descriptor.proofs.ValueSteps.{text-yes, text-long, text-no, span-bound}
 use borrow.Author.Needs.{needs}

@@ -3,9 +3,9 @@ use mathlib.Core.Path.{_≡_, sym, ap, _∙_}
 use Prim.Native.Nat.{_+_, _≤_}
 use native.Mathlib.Omega.{arith}
 use lib.ListN.{length}
-use Rattle.cbor_item.specs.Reads.{got}
+use Rattle.exact.specs.Reads.{got}
 use Rattle.cbor_item.specs.Head.{spanOf, spanRead, spanAt}
-use Rattle.cbor_item.proofs.ReadsLaws.{stopped}
+use Rattle.exact.proofs.ReadsLaws.{stopped}
 use Rattle.descriptor.specs.Value.{wordAt}
 use Rattle.descriptor.specs.Answer.{wordOk}
 use Rattle.descriptor.proofs.ValueSteps.{word-yes, word-no, span-bound}

@@ -7,7 +7,7 @@ use Rattle.gate_vectors.proofs.calls.load.Statement.{statement}
 use Rattle.gate_vectors.proofs.calls.load.Tie as tie
 use Rattle.gate_vectors.proofs.calls.load.Reads as reads
 use Rattle.gate_vectors.proofs.calls.load.Lts as lts
-use Rattle.buffer.proofs.put.Reads as put-reads
+use Rattle.octets.proofs.put.Reads as put-reads
 use Rattle.gate_vectors.proofs.show.image.Reads as image-reads
 
 put-requires : tie.Need-put-requires

@@ -6,7 +6,7 @@ use Rattle.gate_vectors.proofs.show.sum.Statement.{statement}
 use Rattle.gate_vectors.proofs.show.sum.Tie as tie
 use Rattle.gate_vectors.proofs.show.sum.Reads as reads
 use Rattle.gate_vectors.proofs.show.sum.Lts as lts
-use Rattle.buffer.proofs.number_at.Reads as number-at-reads
+use Rattle.octets.proofs.number_at.Reads as number-at-reads
 
 abbrev Inv-loop : tie.InvT-loop
 Inv-loop s n₀ i₀ n i = Unit {0}

@@ -1,10 +1,10 @@
 -- `choose` meets its contract. Assumes nothing.
 use mathlib.Core.Path.{sym, subst}
 use native.Mathlib.Omega.{arith}
-use Rattle.cbor_item.specs.Bytes.{AreBytes}
+use Rattle.octets.specs.Bytes.{AreBytes}
 use Rattle.submission.specs.Places.{SurveyFits}
 use Rattle.submission.proofs.FitLaws.{survey-fits}
-use Rattle.cbor_item.proofs.BytesLaws.{are-bytes}
+use Rattle.octets.proofs.BytesLaws.{are-bytes}
 use Rattle.submission.proofs.CodeLaws.{id-room, choice-malformed, choice-read, choice-structure, choice-validity}
 use borrow.Author.Needs.{needs}
 use Rattle.submission.proofs.choose.choose.Statement.{statement}

@@ -3,7 +3,7 @@ use mathlib.Core.Path.{_≡_, refl, sym, ap, _∙_}
 use Prim.Native.Nat.{_-_, _≤_}
 use native.Mathlib.Omega.{arith}
 use lib.ListN.{length}
-use Rattle.buffer.proofs.OverLaws.{put-length}
+use Rattle.octets.proofs.OverLaws.{put-length}
 use Rattle.submission.specs.Stages.{raised}
 use Rattle.submission.proofs.CodeLaws.{raise-begin, raise-next, raise-end}
 use borrow.Author.Needs.{needs}

@@ -1,0 +1,5 @@
+pub mod Tests
+pub mod BytesLaws
+pub mod SameLaws
+pub mod OverLaws
+pub mod NumberLaws

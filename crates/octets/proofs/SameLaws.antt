@@ -1,0 +1,83 @@
+-- Laws of a loop that compares two lists of bytes, the last byte first. Assumes nothing.
+use mathlib.Core.Path.{_≡_, refl, sym, ap, ap₂, _∙_}
+use mathlib.Core.Bool.{Bool, true, false, _&&_}
+use mathlib.Core.List.{List, [], _∷_}
+use Prim.Native.Nat.{ℕ, zero, suc, _+_, _-_, _≤_, _<_}
+use native.Mathlib.Omega.{arith}
+use native.Mathlib.Numerals.{add-one}
+use lib.Dec.{eqb}
+use lib.ListN.{length, getD, take}
+use lib.Seq.{take-length, take-all}
+use borrow.Author.Tests.{eq-eqb, ne-eqb}
+use Rattle.octets.specs.Bytes.{same}
+
+-- A test that does not hold, as the second of two.
+and-false : (t : Bool) → (t && false) ≡ false
+and-false true = refl
+and-false false = refl
+
+-- A test that holds, as the second of two.
+and-true : (t : Bool) → (t && true) ≡ t
+and-true true = refl
+and-true false = refl
+
+-- Three tests are taken together in either way.
+and-assoc : (a b c : Bool) → (a && (b && c)) ≡ ((a && b) && c)
+and-assoc true b c = refl
+and-assoc false b c = refl
+
+-- Two lists of different lengths are not the same.
+pub same-long : (a b : List ℕ) → (length a ≡ length b → ⊥) → same a b ≡ false
+unfolding same
+same-long [] [] h = absurd (h refl)
+same-long [] (y ∷ b) h = refl
+same-long (x ∷ a) [] h = refl
+same-long (x ∷ a) (y ∷ b) h = rw (same-long a b (λ e. h (ap suc e))) (and-false (eqb x y))
+
+-- The same as `same-last`, with the count as a successor.
+same-snoc : (i : ℕ) (a b : List ℕ) → i < length a → i < length b
+    → same (take (suc i) a) (take (suc i) b) ≡ (same (take i a) (take i b) && eqb (getD a i 0) (getD b i 0))
+unfolding same
+same-snoc zero [] b ha hb = absurd (omega arith)
+same-snoc zero (x ∷ a) [] ha hb = absurd (omega arith)
+same-snoc zero (x ∷ a) (y ∷ b) ha hb = and-true (eqb x y)
+same-snoc (suc i) [] b ha hb = absurd (omega arith)
+same-snoc (suc i) (x ∷ a) [] ha hb = absurd (omega arith)
+same-snoc (suc i) (x ∷ a) (y ∷ b) ha hb =
+    ap (λ (t : Bool). eqb x y && t) (same-snoc i a b (omega arith) (omega arith))
+    ∙ and-assoc (eqb x y) (same (take i a) (take i b)) (eqb (getD a i 0) (getD b i 0))
+
+-- The first i + 1 bytes are the same where the first i are and the last is.
+pub same-last : (a b : List ℕ) (i : ℕ) → i < length a → i < length b
+    → same (take (i + 1) a) (take (i + 1) b) ≡ (same (take i a) (take i b) && eqb (getD a i 0) (getD b i 0))
+same-last a b i ha hb = rw (add-one i) (same-snoc i a b ha hb)
+
+-- Before the first turn of the loop all is to be compared.
+pub same-begin : (a b : List ℕ) → length a ≡ length b → same a b ≡ same (take (length a) a) (take (length a) b)
+same-begin a b e = sym (ap₂ same (take-length a) (take-all (length a) b (omega arith)))
+
+module _ (a b : List ℕ) (i : ℕ) (pos : 0 < i) (ha : i ≤ length a) (hb : i ≤ length b) where
+  -- The first i bytes are the same where those before the last are and the last is.
+  same-turn : same (take i a) (take i b) ≡ (same (take (i - 1) a) (take (i - 1) b) && eqb (getD a (i - 1) 0) (getD b (i - 1) 0))
+  same-turn =
+      let e : i ≡ (i - 1) + 1 = omega arith in
+      ap (λ (k : ℕ). same (take k a) (take k b)) e ∙ same-last a b (i - 1) (omega arith) (omega arith)
+
+  -- Where the last of the first i bytes is the same, those before it decide.
+  pub same-next : getD a (i - 1) 0 ≡ getD b (i - 1) 0 → same (take i a) (take i b) ≡ same (take (i - 1) a) (take (i - 1) b)
+  same-next e =
+      same-turn
+      ∙ ap (λ (t : Bool). same (take (i - 1) a) (take (i - 1) b) && t) (eq-eqb (getD a (i - 1) 0) (getD b (i - 1) 0) e)
+      ∙ and-true (same (take (i - 1) a) (take (i - 1) b))
+
+  -- Where the last of the first i bytes differs, they are not the same.
+  pub same-differ : (getD a (i - 1) 0 ≡ getD b (i - 1) 0 → ⊥) → same (take i a) (take i b) ≡ false
+  same-differ e =
+      same-turn
+      ∙ ap (λ (t : Bool). same (take (i - 1) a) (take (i - 1) b) && t) (ne-eqb (getD a (i - 1) 0) (getD b (i - 1) 0) e)
+      ∙ and-false (same (take (i - 1) a) (take (i - 1) b))
+
+-- Where no byte is left to compare, the two are the same.
+pub same-end : (a b : List ℕ) (i : ℕ) → i ≡ 0 → same (take i a) (take i b) ≡ true
+unfolding same
+same-end a b i e = ap (λ (k : ℕ). same (take k a) (take k b)) e

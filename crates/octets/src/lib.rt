@@ -1,0 +1,46 @@
+// Reading and writing pieces of lent bytes. A piece that does not fit is not written, and no function has a requirement.
+mod compare;
+mod numbers;
+mod write;
+
+ghost use mathlib.Core.Path.{_≡_};
+ghost use Prim.Native.Nat.{_^_, _<_};
+ghost use Rattle.octets.specs.Bytes.{same};
+ghost use Rattle.octets.specs.Number.{bigEndian, numberIn};
+ghost use Rattle.octets.specs.Write.{putAt, movedUp};
+
+// Whether the two are the same bytes.
+pub fn same_bytes(a: &[u8], b: &[u8]) -> bool
+    ensures { λ r. ⌜ r ≡ same (now (a .entry)) (now (b .entry)) ⌝ }
+{
+    compare::same_bytes(a, b)
+}
+
+// The number in the w bytes from the place on, the highest byte first; 0 where they are not there, or more than 8.
+pub fn number_at(s: &[u8], at: usize, w: usize) -> u64
+    ensures { λ r. ⌜ r ≡ numberIn (now (s .entry)) at w ⌝ }
+    ensures { λ r. ⌜ r < 256 ^ w ⌝ }
+{
+    numbers::number_at(s, at, w)
+}
+
+// Writes s from the place on, where it fits.
+pub fn put(d: &mut [u8], at: usize, s: &[u8])
+    ensures { λ _. ⌜ now (d .exit) ≡ putAt (now (d .entry)) at (now (s .entry)) ⌝ }
+{
+    write::put(d, at, s)
+}
+
+// Writes n in w bytes from the place on, the highest byte first, where they fit.
+pub fn put_number(d: &mut [u8], at: usize, w: usize, n: u64)
+    ensures { λ _. ⌜ now (d .exit) ≡ putAt (now (d .entry)) at (bigEndian w n) ⌝ }
+{
+    numbers::put_number(d, at, w, n)
+}
+
+// Moves the bytes from `from` up to `to` up by `by`, where that fits.
+pub fn move_up(d: &mut [u8], from: usize, to: usize, by: usize)
+    ensures { λ _. ⌜ now (d .exit) ≡ movedUp (now (d .entry)) from to by ⌝ }
+{
+    write::move_up(d, from, to, by)
+}

@@ -48,7 +48,7 @@ calls: lib
 
 # the library compared with the ordinary Rust implementation, and that with the stored vectors
 differential: lib tools
-	cd bindings/reference && $(CARGO) test --release
+	cd reference && $(CARGO) test --release
 	cd bindings/rust && $(CARGO) test --release
 
 # the library timed beside the ordinary Rust implementation

@@ -10,7 +10,7 @@ use reference::{
 
 /// A file of the stored vectors of a crate.
 fn stored(name: &str, file: &str) -> Vec<u8> {
-    let path = Path::new("../../crates").join(name).join(file);
+    let path = Path::new("../crates").join(name).join(file);
     std::fs::read(&path).unwrap_or_else(|error| panic!("{}: {error}", path.display()))
 }
 

@@ -6,7 +6,7 @@ CARGO := cargo --offline
 # cargo's own folder, where it is not on the path
 export PATH := $(PATH):$(shell getent passwd "$$(id -u)" | cut -d: -f6)/.cargo/bin
 
-.PHONY: test lib example match bench promises header calls differential tools
+.PHONY: test lib install example match bench promises header calls differential tools
 
 # proves every crate of crates.txt from nothing, tries the must-fail edits, runs the programs, and compares the library with ordinary Rust
 test:
@@ -16,9 +16,18 @@ test:
 lib:
 	rt staticlib cap
 
+# the library, its header and a pkg-config file under PREFIX (and DESTDIR); folders of our own, since another library is named libcap too
+VERSION := 0.1.0
+PREFIX ?= /usr/local
+install: lib
+	install -d $(DESTDIR)$(PREFIX)/lib/plentosk $(DESTDIR)$(PREFIX)/include/plentosk $(DESTDIR)$(PREFIX)/share/pkgconfig
+	install -m 644 target/staticlib/libcap.a $(DESTDIR)$(PREFIX)/lib/plentosk/libcap.a
+	install -m 644 include/cap.h $(DESTDIR)$(PREFIX)/include/plentosk/cap.h
+	sed 's,@PREFIX@,$(PREFIX),; s,@VERSION@,$(VERSION),' include/plentosk.pc.in > $(DESTDIR)$(PREFIX)/share/pkgconfig/plentosk.pc
+
 # a host over the library, run end to end
 example: lib
-	dpkg -s libssl-dev > /dev/null 2>&1 || apt-get install -y libssl-dev
+	dpkg -s libssl-dev > /dev/null 2>&1 || { echo 'installing libssl-dev, which is missing'; apt-get install -y libssl-dev; }
 	examples/host/demo.sh
 
 # the matching tool, over the lines of document 01
@@ -34,8 +43,8 @@ header:
 
 # cargo and python3, from Debian where they are missing
 tools:
-	command -v cargo > /dev/null || apt-get install -y cargo
-	command -v python3 > /dev/null || apt-get install -y python3
+	command -v cargo > /dev/null || { echo 'installing cargo, which is missing'; apt-get install -y cargo; }
+	command -v python3 > /dev/null || { echo 'installing python3, which is missing'; apt-get install -y python3; }
 
 # every promise has its proof and its row
 promises: tools

@@ -6,7 +6,7 @@ CARGO := cargo --offline
 # cargo's own folder, where it is not on the path
 export PATH := $(PATH):$(shell getent passwd "$$(id -u)" | cut -d: -f6)/.cargo/bin
 
-.PHONY: test lib install example match bench promises header calls differential tools
+.PHONY: test lib install example match bench promises header calls differential vectors stored encoder tools
 
 # proves every crate of crates.txt from nothing, tries the must-fail edits, runs the programs, and compares the library with ordinary Rust
 test:
@@ -49,6 +49,21 @@ tools:
 # every promise has its proof and its row
 promises: tools
 	tests/promises
+
+# the encoder of the scripts that make the stored vectors, from Debian where it is missing
+encoder:
+	/usr/bin/python3 -c 'import cbor2' 2> /dev/null || { echo 'installing python3-cbor2, which is missing'; \
+	  apt-get install -y python3-cbor2 || { apt-get update && apt-get install -y python3-cbor2; }; }
+
+# the stored vectors, made anew
+VECTORS := descriptors:descriptor_vectors gate:gate_vectors narrowing:narrowing_vectors
+vectors: encoder
+	for v in $(VECTORS); do /usr/bin/python3 tests/make_$${v%:*}.py crates/$${v#*:} || exit 1; done
+
+# the stored vectors are what the scripts make
+stored: encoder
+	for v in $(VECTORS); do d=target/vectors/$${v#*:}; mkdir -p $$d; /usr/bin/python3 tests/make_$${v%:*}.py $$d > /dev/null || exit 1; \
+	  for f in stdin stdout; do cmp $$d/$$f crates/$${v#*:}/$$f || exit 1; done; echo "stored: $${v#*:} is what tests/make_$${v%:*}.py makes"; done
 
 # each call of the header with known input, every field compared
 calls: lib

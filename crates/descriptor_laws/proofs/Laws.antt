@@ -1,7 +1,15 @@
 -- The statements of specs/Laws.antt, each from its law. Assumes nothing.
-use Rattle.descriptor_laws.specs.Laws.{ReadsExactly, ValidityExactly, StructureExactly, GrantsWalk}
+use Rattle.descriptor_laws.specs.Laws.{ReadsExactly, ValidityExactly, StructureExactly, AnswersTold, SeenHanded, GrantsAllowed, MaskExactly, TerminalFirst, GrantsWalk, GrantsEnd, GrantsInTurn}
+use Rattle.descriptor_laws.proofs.grants.LevelLaws as level
+use Rattle.descriptor_laws.proofs.grants.MaskLaws as mask
 use Rattle.descriptor_laws.proofs.whole.AnswerLaws as answer
 use Rattle.descriptor_laws.proofs.places.SeenLaws as seen
+use Rattle.descriptor_laws.proofs.places.TurnLaws as turn
+use Rattle.descriptor_laws.proofs.places.EndLaws as end
+use Rattle.descriptor_laws.proofs.handed.NumberLaws as number
+use Rattle.descriptor_laws.proofs.handed.BackLaws as back
+
+-- ---- reading
 
 pub reads-exactly : ReadsExactly
 reads-exactly = answer.reads-exactly
@@ -12,5 +20,28 @@ validity-exactly = answer.validity-exactly
 pub structure-exactly : StructureExactly
 structure-exactly = answer.structure-exactly
 
+pub answers-told : AnswersTold
+answers-told = number.answers-told
+
+pub seen-handed : SeenHanded
+seen-handed = back.seen-handed
+
+-- ---- grants
+
+pub grants-allowed : GrantsAllowed
+grants-allowed = turn.grants-allowed
+
+pub mask-exactly : MaskExactly
+mask-exactly = mask.mask-exactly
+
+pub terminal-first : TerminalFirst
+terminal-first = level.terminal-first
+
 pub grants-walk : GrantsWalk
 grants-walk = seen.grants-walk
+
+pub grants-end : GrantsEnd
+grants-end = end.grants-end
+
+pub grants-in-turn : GrantsInTurn
+grants-in-turn = turn.grants-in-turn

@@ -1,6 +1,5 @@
--- The readers of one grant and of all grants are exact; grants one after the other, and the levels of their patterns.
+-- The readers of one grant and of all grants are exact; the levels of their patterns, and their masks.
 pub mod GrantLaws
 pub mod GrantsLaws
-pub mod WalkLaws
 pub mod LevelLaws
 pub mod MaskLaws

@@ -2,15 +2,24 @@
 -- proofs/Laws.antt as `name-of-it`.
 use mathlib.Core.Path.{_≡_}
 use mathlib.Core.Logic.{_↔_}
-use mathlib.Core.List.{List}
-use Prim.Native.Nat.{ℕ, _+_, _<_}
-use lib.ListN.{length, getD}
+use mathlib.Core.Bool.{true}
+use mathlib.Core.List.{List, [], _∷_}
+use Prim.Native.Nat.{ℕ, suc, _+_, _-_, _<_}
+use lib.ListN.{length, take, drop, getD}
 use Rattle.octets.specs.Bytes.{AreBytes, part}
 use Rattle.exact.specs.Reads.{got}
-use Rattle.descriptor.specs.Model.{Grant, Descriptor, encode}
-use Rattle.descriptor.specs.Allowed.{longestPeriod, period, Formed, Allowed}
-use Rattle.descriptor.specs.Reader.{Seen, read, structure, validity, readOf, grantAt}
-use Rattle.descriptor.specs.View.{grantView, descriptorView, grantPlace}
+use Rattle.resource.specs.Level.{levels}
+use Rattle.resource.specs.Text.{resourceOk, patternOk}
+use Rattle.descriptor.specs.Model.{Grant, Descriptor, pairCount, encode}
+use Rattle.descriptor.specs.Allowed.{isIn, GrantOk, longestPeriod, period, Formed, Allowed}
+use Rattle.descriptor.specs.Modes.{unionOf}
+use Rattle.descriptor.specs.Reader.{hasMode, GrantSeen, Seen, read, structure, validity, readOf, grantAt}
+use Rattle.descriptor.specs.View.{maskOf, grantView, descriptorView, grantPlace}
+use Rattle.descriptor.specs.Answer.{readingOf}
+use Rattle.descriptor.specs.Numbers.{numbersOf, grantNumbers}
+use Rattle.descriptor_laws.specs.Promises.{handed, DescriptorHanded, noGrant}
+
+-- ---- reading
 
 -- bytes are read with 0 exactly when they are the encoding of an allowed descriptor, and what is seen is that descriptor's
 abbrev pub ReadsExactly : Type 0
@@ -26,8 +35,63 @@ ValidityExactly = (s : List ℕ) → AreBytes s
 abbrev pub StructureExactly : Type 0
 StructureExactly = (s : List ℕ) → AreBytes s → (readOf s ≡ structure) ↔ ((d : Descriptor) → Formed d → s ≡ encode d → ⊥)
 
+-- the number of an answer tells the answer
+pub record ByNumber (s : List ℕ) : Type 0 where
+  pub done : (handed s .answer ≡ 0) ↔ ((v : Seen) × (readOf s ≡ read v))
+  pub structure : (handed s .answer ≡ 1) ↔ (readOf s ≡ structure)
+  pub validity : (handed s .answer ≡ 2) ↔ (readOf s ≡ validity)
+
+abbrev pub AnswersTold : Type 0
+AnswersTold = (s : List ℕ) → ByNumber s
+
+-- the numbers of what is seen of a formed descriptor are the descriptor's
+abbrev pub SeenHanded : Type 0
+SeenHanded = (d : Descriptor) → Formed d → DescriptorHanded (encode d) d (numbersOf (readingOf (read (descriptorView 0 d))))
+
+-- ---- grants
+
+-- each grant of a formed descriptor is allowed
+abbrev pub GrantsAllowed : Type 0
+GrantsAllowed = (d : Descriptor) → Formed d → (i : ℕ) (g : Grant) → i < length (d .payload .grants) → GrantOk (getD (d .payload .grants) i g)
+
+-- the mask of an allowed grant's modes is the union of that grant alone, and has exactly its modes
+abbrev pub MaskExactly : Type 0
+MaskExactly = (g : Grant) → GrantOk g
+    → (maskOf (g .modes) ≡ unionOf (g ∷ [])) × ((m : ℕ) → m < 4 → hasMode (maskOf (g .modes)) m ≡ isIn m (g .modes))
+
+-- the first level of a text that enters is its first 45 bytes, and the others are the levels of what follows the 46th
+abbrev pub TerminalFirst : Type 0
+TerminalFirst =
+    ((p : List ℕ) → patternOk p ≡ true → levels p ≡ take 45 p ∷ levels (drop 46 p))
+    × ((r : List ℕ) → resourceOk r ≡ true → levels r ≡ take 45 r ∷ levels (drop 46 r))
+
 -- reading the grant at that place gives the i-th grant, and the place of the next
 abbrev pub GrantsWalk : Type 0
 GrantsWalk = (d : Descriptor) → AreBytes (encode d) → Formed d → (i : ℕ) (g : Grant) → i < length (d .payload .grants) → getD (d .payload .grants) i g ≡ g
     → (grantAt (encode d) (grantPlace d i) ≡ got (grantView (grantPlace d i) g) (grantPlace d (i + 1)))
     × (part (encode d) (grantView (grantPlace d i) g .pattern .start) (grantView (grantPlace d i) g .pattern .len) ≡ g .pattern)
+
+-- behind the last there is none
+abbrev pub GrantsEnd : Type 0
+GrantsEnd = (d : Descriptor) → AreBytes (encode d) → Formed d 
+    → grantNumbers (grantAt (encode d) (grantPlace d (length (d .payload .grants)))) ≡ noGrant
+
+-- v is what is seen in s of the allowed grant g of the terminal t: its mask, the number of its constraint pairs, its pattern, and the levels of that
+pub record SeenAs (s t : List ℕ) (g : Grant) (v : GrantSeen) : Type 0 where
+  pub allowed : GrantOk g
+  pub own : take 45 (g .pattern) ≡ t
+  pub mask : v .mask ≡ maskOf (g .modes)
+  pub pairs : v .pairs ≡ pairCount (g .constraints)
+  pub pattern : part s (v .pattern .start) (v .pattern .len) ≡ g .pattern
+  pub below : part s (v .pattern .start + 46) (v .pattern .len - 46) ≡ drop 46 (g .pattern)
+
+-- the n grants that are read one after the other from a place of s on are gs, all of the terminal t
+pub data InTurn (s t : List ℕ) : ℕ → ℕ → List Grant → Type 0 where
+  no-more : (at : ℕ) → InTurn s t 0 at []
+  one-more : (n at next : ℕ) (v : GrantSeen) (g : Grant) (gs : List Grant) → grantAt s at ≡ got v next → SeenAs s t g v → InTurn s t n next gs
+      → InTurn s t (suc n) at (g ∷ gs)
+
+-- so are those of a formed descriptor in its encoding
+abbrev pub GrantsInTurn : Type 0
+GrantsInTurn = (d : Descriptor) → AreBytes (encode d) → Formed d
+    → let v = descriptorView 0 d .payload .opening .grants in InTurn (encode d) (d .payload .terminal) (v .count) (v .start) (d .payload .grants)

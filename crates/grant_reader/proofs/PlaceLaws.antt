@@ -14,12 +14,12 @@ use Rattle.descriptor.specs.Answer.{readingOf}
 use Rattle.descriptor.specs.View.{descriptorView, grantPlace}
 use Rattle.descriptor.specs.Numbers.{numbersOf, grantNumbers}
 use Rattle.descriptor_laws.specs.Promises.{GrantHandedBack}
-use Rattle.descriptor_laws.proofs.Laws.{reads-exactly, grants-walk}
+use Rattle.descriptor_laws.proofs.Laws.{reads-exactly, grants-walk, grants-end}
 use Rattle.descriptor_laws.proofs.Promises.{grant-handed}
 use Rattle.grant_reader.specs.Walk.{startOf, placeAfter, placeFrom}
 use Rattle.grant_reader.specs.Promises.{ReaderPlaces, EachInTurn, NonePast, NoneUnread}
-use Rattle.grant_reader.proofs.WalkLaws.{start-read, start-unread, after-got, from-both, refused-stays, nth-at}
-use Rattle.grant_reader.proofs.EndLaws.{end-none, last-none}
+use Rattle.grant_reader.proofs.WalkLaws.{start-read, start-unread, after-got, from-both, refused-stays, none-stays, nth-at}
+use Rattle.grant_reader.proofs.EndLaws.{end-none}
 
 -- there is an i-th
 nth-there : {X : Type 0} (xs : List X) (i : ℕ) → i < length xs → (x : X) × (getD xs i x ≡ x)
@@ -68,7 +68,7 @@ none-past d bs a i l =
     let both : i ≡ n + (i - n) = omega arith in
     let end : placeFrom s (startOf s) i ≡ placeFrom s (grantPlace d n) (i - n)
     = ap (placeFrom s (startOf s)) both ∙ from-both s (startOf s) n (i - n) ∙ ap (λ (p : ℕ). placeFrom s p (i - n)) (reader-places d bs a n (omega arith)) in
-    ap grantNumbers (nth-at s i ∙ ap (grantAt s) end ∙ refused-stays s (grantPlace d n) (last-none d bs (a .formed)) (i - n))
+    ap grantNumbers (nth-at s i ∙ ap (grantAt s) end) ∙ none-stays s (grantPlace d n) (grants-end d bs (a .formed)) (i - n) .1
 
 -- of bytes that are not read it gives none
 pub none-unread : NoneUnread

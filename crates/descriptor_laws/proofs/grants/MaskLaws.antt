@@ -11,6 +11,7 @@ use Rattle.descriptor.specs.Allowed.{isIn, GrantOk, All}
 use Rattle.descriptor.specs.Modes.{anyHas, bit, unionOf}
 use Rattle.descriptor.specs.Reader.{hasMode, Sum}
 use Rattle.descriptor.specs.View.{maskOf, sumFrom, grantsView}
+use Rattle.descriptor_laws.specs.Laws.{MaskExactly}
 use Rattle.descriptor_laws.proofs.values.ModeLaws.{allBelow, all-below, beq-eq, no-marks, mask-exact}
 
 -- One test before two others.
@@ -84,8 +85,7 @@ union-is a gs s h =
 pub grants-union : (at : ℕ) (gs : List Grant) → All GrantOk gs → grantsView at gs .sum .mask ≡ unionOf gs
 grants-union at gs a = let q = grants-has at gs a in union-is (grantsView at gs .sum .mask) gs (q .0) (q .1)
 
--- So is the mask of an allowed grant's modes.
-pub modes-union : (g : Grant) → GrantOk g → maskOf (g .modes) ≡ unionOf (g ∷ [])
-modes-union g a =
+pub mask-exactly : MaskExactly
+mask-exactly g a =
     let q = mask-exact (g .modes) (a .modes) in
-    union-is (maskOf (g .modes)) (g ∷ []) (q .0) (λ m h. q .1 m h ∙ sym (or-false (isIn m (g .modes))))
+    (union-is (maskOf (g .modes)) (g ∷ []) (q .0) (λ m h. q .1 m h ∙ sym (or-false (isIn m (g .modes)))), q .1)

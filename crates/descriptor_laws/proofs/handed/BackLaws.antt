@@ -13,14 +13,14 @@ use Rattle.octets.proofs.BytesLaws.{has-length}
 use Rattle.cbor_item.proofs.ItemLaws.{inside-fits}
 use Rattle.descriptor.specs.declared.DescriptorNumbers.{DescriptorNumbers}
 use Rattle.descriptor.specs.Model.{Pair, Grant, Descriptor, encodePayload, encode}
-use Rattle.descriptor.specs.Allowed.{Formed, Allowed}
+use Rattle.descriptor.specs.Allowed.{Allowed}
 use Rattle.descriptor.specs.Reader.{Answer, read, structure, validity, readOf, pairsOf, beforePayload, beforeKeyId}
 use Rattle.descriptor.specs.View.{maskOf, countOf, sumFrom, grantsView, descriptorView}
 use Rattle.descriptor.specs.Answer.{readingOf, pairsIf}
 use Rattle.descriptor.specs.Numbers.{numbersOf, payloadSpan}
 use Rattle.descriptor_laws.specs.Promises.{pairsIn, constraintPairs, DescriptorHanded, HandsBack, PayloadHanded, handed}
+use Rattle.descriptor_laws.specs.Laws.{SeenHanded}
 use Rattle.descriptor_laws.proofs.grants.MaskLaws.{grants-union}
-use Rattle.descriptor_laws.proofs.grants.WalkLaws.{count-of}
 use Rattle.descriptor_laws.proofs.whole.SignatureLaws.{encFromKey}
 use Rattle.descriptor_laws.proofs.whole.DescriptorLaws.{halves-encode}
 use Rattle.descriptor_laws.proofs.whole.AnswerLaws.{reads-exactly}
@@ -30,6 +30,11 @@ use Rattle.descriptor_laws.proofs.handed.PartLaws.{lies, pairs-count, m
 use Rattle.descriptor_laws.proofs.handed.NumberLaws.{answered-exactly}
 
 -- ---- counts
+
+-- the grants
+count-of : (at : ℕ) (gs : List Grant) → grantsView at gs .count ≡ length gs
+count-of at [] = refl
+count-of at (g ∷ gs) = refl
 
 -- the pairs of metadata
 metadata-count : (m : Option (List Pair)) → pairsIf (countOf m) ≡ pairsIn m
@@ -54,7 +59,7 @@ abbrev seenNumbers : Descriptor → DescriptorNumbers
 seenNumbers d = numbersOf (readingOf (read (descriptorView 0 d)))
 
 -- are the descriptor's
-seen-handed : (d : Descriptor) → Formed d → DescriptorHanded (encode d) d (seenNumbers d)
+pub seen-handed : SeenHanded
 seen-handed d q =
     record {
       answer = refl;

@@ -16,7 +16,7 @@ use Rattle.descriptor.specs.Reader.{GrantSeen, grantAt}
 use Rattle.descriptor.specs.View.{grantView}
 use Rattle.descriptor.specs.Numbers.{grantNumbers}
 use Rattle.descriptor_laws.specs.Promises.{array, StandsIf, GrantHandedBack, noGrant, GrantStands, GrantFound, GrantAbsent, GrantHanded}
-use Rattle.descriptor_laws.proofs.grants.MaskLaws.{modes-union}
+use Rattle.descriptor_laws.proofs.grants.MaskLaws.{mask-exactly}
 use Rattle.descriptor_laws.proofs.grants.GrantLaws.{grant-exact}
 use Rattle.descriptor_laws.proofs.grants.GrantsLaws.{pattern-at}
 use Rattle.descriptor_laws.proofs.whole.LimitLaws.{grant-within, within-grant}
@@ -46,7 +46,7 @@ module _ (s : List ℕ) (at : ℕ) (g : Grant) where
       record {
         found = refl;
         pattern = lies s _ (g .pattern) (pattern-at s at g h);
-        mask = modes-union g q;
+        mask = mask-exactly g q .0;
         modes = modes-stand h;
         constraints = constraints-stand h;
         pairs = pairs-count (g .constraints);

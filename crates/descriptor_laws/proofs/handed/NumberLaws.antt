@@ -7,47 +7,51 @@ use Rattle.descriptor.specs.View.{descriptorView}
 use Rattle.descriptor.specs.Answer.{readingOf}
 use Rattle.descriptor.specs.Numbers.{numbersOf}
 use Rattle.descriptor_laws.specs.Promises.{AnsweredExactly, refusal, RefusalZero}
+use Rattle.descriptor_laws.specs.Laws.{AnswersTold}
 use Rattle.descriptor_laws.proofs.whole.AnswerLaws.{reads-exactly, validity-exactly, structure-exactly}
 
 -- ---- which answer has which number
-
--- 0 is that of what was read
-pub was-read : (a : Answer) → numbersOf (readingOf a) .answer ≡ 0 → (v : Seen) × (a ≡ read v)
-was-read (read v) e = (v, refl)
-was-read structure e = absurd (omega arith)
-was-read validity e = absurd (omega arith)
-
--- 1 is that of bytes that are no encoding
-was-structure : (a : Answer) → numbersOf (readingOf a) .answer ≡ 1 → a ≡ structure
-was-structure (read v) e = absurd (omega arith)
-was-structure structure e = refl
-was-structure validity e = absurd (omega arith)
-
--- 2 is that of a descriptor that is too long valid
-was-validity : (a : Answer) → numbersOf (readingOf a) .answer ≡ 2 → a ≡ validity
-was-validity (read v) e = absurd (omega arith)
-was-validity structure e = absurd (omega arith)
-was-validity validity e = refl
 
 -- the number of an answer
 abbrev numberIn : Answer → ℕ
 numberIn a = numbersOf (readingOf a) .answer
 
+-- 0 is that of what was read
+was-read : (a : Answer) → numberIn a ≡ 0 → (v : Seen) × (a ≡ read v)
+was-read (read v) e = (v, refl)
+was-read structure e = absurd (omega arith)
+was-read validity e = absurd (omega arith)
+
+-- 1 is that of bytes that are no encoding
+was-structure : (a : Answer) → numberIn a ≡ 1 → a ≡ structure
+was-structure (read v) e = absurd (omega arith)
+was-structure structure e = refl
+was-structure validity e = absurd (omega arith)
+
+-- 2 is that of a descriptor that is too long valid
+was-validity : (a : Answer) → numberIn a ≡ 2 → a ≡ validity
+was-validity (read v) e = absurd (omega arith)
+was-validity structure e = absurd (omega arith)
+was-validity validity e = refl
+
+pub answers-told : AnswersTold
+answers-told s =
+    record {
+      done = (was-read (readOf s), λ r. ap numberIn (r .1));
+      structure = (was-structure (readOf s), λ e. ap numberIn e);
+      validity = (was-validity (readOf s), λ e. ap numberIn e);
+    }
+
 pub answered-exactly : AnsweredExactly
 answered-exactly s bs =
+    let n = answers-told s in
     record {
       done = (
-        λ e. let w = was-read (readOf s) e in let x = reads-exactly s bs (w .0) .0 (w .1) in (x .0, x .1, x .2),
-        λ x. ap numberIn (reads-exactly s bs (descriptorView 0 (x .0)) .1 (x .0, x .1, x .2, refl)),
+        λ e. let w = n .done .0 e in let x = reads-exactly s bs (w .0) .0 (w .1) in (x .0, x .1, x .2),
+        λ x. n .done .1 (descriptorView 0 (x .0), reads-exactly s bs (descriptorView 0 (x .0)) .1 (x .0, x .1, x .2, refl)),
       );
-      structure = (
-        λ e. structure-exactly s bs .0 (was-structure (readOf s) e),
-        λ f. ap numberIn (structure-exactly s bs .1 f),
-      );
-      validity = (
-        λ e. validity-exactly s bs .0 (was-validity (readOf s) e),
-        λ x. ap numberIn (validity-exactly s bs .1 x),
-      );
+      structure = (λ e. structure-exactly s bs .0 (n .structure .0 e), λ f. n .structure .1 (structure-exactly s bs .1 f));
+      validity = (λ e. validity-exactly s bs .0 (n .validity .0 e), λ x. n .validity .1 (validity-exactly s bs .1 x));
     }
 
 -- ---- the zeros of a refusal

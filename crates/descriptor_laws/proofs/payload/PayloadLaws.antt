@@ -86,7 +86,7 @@ fits-test s p k u t ek eu et =
 
 module _ (s : List ℕ) (at : ℕ) where
   -- where the grants stand
-  pub grants-at : (f : Front) → Has s at (encFront f) → Has s (at + length (head 5 (f .keys)) + length kGrants) (encGrants (f .grants))
+  grants-at : (f : Front) → Has s at (encFront f) → Has s (at + length (head 5 (f .keys)) + length kGrants) (encGrants (f .grants))
   grants-at f h = has-right s _ kGrants _ (has-left s _ (kGrants ++ encGrants (f .grants)) _ (has-right s at (head 5 (f .keys)) _ h))
 
   -- the terminal id of the first pattern

@@ -1,25 +1,26 @@
 -- Where the payload and the grants of a descriptor stand in its encoding. Assumes nothing.
 use mathlib.Core.Path.{_≡_, sym, ap, _∙_, subst}
-use mathlib.Core.List.{List, [], _∷_, _++_}
+use mathlib.Core.List.{List, [], _∷_, _++_, append-assoc}
 use Prim.Native.Nat.{ℕ, zero, suc, _+_, _≤_, _<_}
 use native.Mathlib.Numerals.{add-one}
 use native.Mathlib.Omega.{arith}
 use lib.ListN.{length, take, getD, length-append}
 use Rattle.octets.specs.Bytes.{Has}
-use Rattle.exact.specs.Reads.{got, encAll}
+use Rattle.exact.specs.Reads.{got, encOpt, encAll}
 use Rattle.cbor_item.specs.Encoding.{head}
 use Rattle.octets.proofs.BytesLaws.{has-left, has-right, has-part, all-has}
 use Rattle.exact.proofs.ReadsLaws.{complete}
 use Rattle.exact.proofs.CountedLaws.{all-at}
-use Rattle.descriptor.specs.Model.{Grant, Payload, Descriptor, encGrant, encGrants, encodePayload, encode}
+use Rattle.descriptor.specs.Keys.{kGrants, kMetadata, kIssuedAt}
+use Rattle.descriptor.specs.Model.{Grant, Payload, Descriptor, encPairs, encGrant, encGrants, encodePayload, encode}
 use Rattle.descriptor.specs.Allowed.{GrantOk, All, Formed}
 use Rattle.descriptor.specs.Reader.{beforePayload}
-use Rattle.descriptor.specs.View.{grantView, grantsView, descriptorView, grantPlace}
+use Rattle.descriptor.specs.View.{keysOf, grantView, grantsView, descriptorView, grantPlace}
 use Rattle.descriptor_laws.specs.Laws.{GrantsWalk}
 use Rattle.descriptor_laws.proofs.grants.GrantLaws.{grant-exact}
 use Rattle.descriptor_laws.proofs.grants.GrantsLaws.{pattern-at}
 use Rattle.descriptor_laws.proofs.payload.PieceLaws.{encFront}
-use Rattle.descriptor_laws.proofs.payload.PayloadLaws.{frontOf, pieces-encode, grants-at}
+use Rattle.descriptor_laws.proofs.payload.PayloadLaws.{frontOf, pieces-encode}
 use Rattle.descriptor_laws.proofs.whole.DescriptorLaws.{halves-encode}
 
 -- ---- lists
@@ -50,17 +51,32 @@ payload-here d =
 front-at : (s : List ℕ) (at : ℕ) (p : Payload) → Has s at (encodePayload p) → Has s at (encFront (frontOf p))
 front-at s at p h = has-left s at (encFront (frontOf p)) _ (subst (Has s at) (sym (pieces-encode p)) h)
 
--- where the first grant stands
-start-at : (s : List ℕ) (at : ℕ) (gs : List Grant) → 1 ≤ length gs → Has s at (encGrants gs) → Has s (grantsView at gs .start) (encAll encGrant gs)
+-- where the first grant stands, and what follows the last
+start-at : (s : List ℕ) (at : ℕ) (gs : List Grant) (rest : List ℕ) → 1 ≤ length gs → Has s at (encGrants gs ++ rest)
+    → Has s (grantsView at gs .start) (encAll encGrant gs ++ rest)
 unfolding encGrants
-start-at s at [] l h = absurd (omega arith)
-start-at s at (g ∷ gs) l h = has-right s at (head 4 (length (g ∷ gs))) (encAll encGrant (g ∷ gs)) h
+start-at s at [] rest l h = absurd (omega arith)
+start-at s at (g ∷ gs) rest l h =
+    let n : List ℕ = head 4 (length (g ∷ gs)) in
+    has-right s at n _ (subst (Has s at) (append-assoc n (encAll encGrant (g ∷ gs)) rest) h)
 
--- where all the grants of a descriptor stand
-all-grants : (d : Descriptor) → Formed d → Has (encode d) (descriptorView 0 d .payload .opening .grants .start) (encAll encGrant (d .payload .grants))
-all-grants d q =
-    let s = encode d in
-    start-at s _ (d .payload .grants) (q .payload .least) (grants-at s _ (frontOf (d .payload)) (front-at s _ (d .payload) (payload-here d)))
+-- what stands in a payload behind the grants: "metadata" with its pairs, or none, and "issued_at" with the time
+abbrev pub behindGrants : Payload → List ℕ
+behindGrants p = encOpt kMetadata encPairs (p .metadata) ++ (kIssuedAt ++ head 0 (p .issuedAt))
+
+-- where all the grants of a descriptor stand with what is behind them
+pub grants-here : (d : Descriptor) → Formed d
+    → Has (encode d) (descriptorView 0 d .payload .opening .grants .start) (encAll encGrant (d .payload .grants) ++ behindGrants (d .payload))
+grants-here d q =
+    let s : List ℕ = encode d in
+    let p : Payload = d .payload in
+    let keys = has-right s _ (head 5 (keysOf p)) _ (front-at s _ p (payload-here d)) in
+    start-at s _ (p .grants) (behindGrants p) (q .payload .least)
+    (has-right s _ kGrants _ (subst (Has s _) (append-assoc kGrants (encGrants (p .grants)) (behindGrants p)) keys))
+
+-- where they stand
+pub all-grants : (d : Descriptor) → Formed d → Has (encode d) (descriptorView 0 d .payload .opening .grants .start) (encAll encGrant (d .payload .grants))
+all-grants d q = has-left (encode d) _ (encAll encGrant (d .payload .grants)) (behindGrants (d .payload)) (grants-here d q)
 
 -- where the i-th stands
 pub grant-here : (d : Descriptor) → Formed d → (i : ℕ) (g : Grant) → i < length (d .payload .grants) → getD (d .payload .grants) i g ≡ g

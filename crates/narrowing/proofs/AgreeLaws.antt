@@ -15,7 +15,9 @@ use Rattle.resource.specs.Level.{same, levels}
 use Rattle.resource.specs.Pattern.{Pattern, endsDeep}
 use Rattle.resource.specs.Text.{levelsOf}
 use Rattle.resource.proofs.Flags.{same-eq}
+use Rattle.descriptor.specs.Model.{Grant}
 use Rattle.descriptor.specs.Reader.{hasMode, GrantSeen, grantAt, Seen, read, readOf}
+use Rattle.descriptor_laws.specs.Laws.{SeenAs, InTurn, no-more, one-more}
 use Rattle.descriptor_laws.proofs.grants.LevelLaws.{same-agree}
 use Rattle.narrowing.specs.declared.Narrowing.the-variants.{NotCovered}
 use Rattle.narrowing.specs.declared.search.Found.{Found}
@@ -23,11 +25,13 @@ use Rattle.narrowing.specs.declared.search.Found.the-variants.{At, Nothi
 use Rattle.narrowing.specs.Escape.{Rule, covered, canTake, escapesWith, deepest, choose, least, isSome, orZero, fewestNames, lowestMode, ruleAt, firstRule}
 use Rattle.narrowing.specs.Range.{most}
 use Rattle.narrowing.specs.Scan.{below, notedAt, lacksAt, foundAt, lowestFrom, lowestIn, zeros, escapeIn, orNext, firstIn}
-use Rattle.narrowing.specs.Narrow.{ruleOf, rulesIn, answerAt}
+use Rattle.narrowing.specs.Narrow.{rulesIn, answerAt}
+use Rattle.narrowing.specs.Laws.{rulesOf}
+use Rattle.narrowing.proofs.RuleLaws.{ruleFor}
 use Rattle.narrowing.proofs.LeastLaws.{least-fails, least-same}
 use Rattle.narrowing.proofs.SearchLaws.{with-last}
-use Rattle.narrowing.proofs.NotedLaws.{patternWith, Fits, Stand, no-more, one-more, stand-count, stand-few, zeros-lack, noted-covered, other-covered}
-use Rattle.narrowing.proofs.StandLaws.{read-stands}
+use Rattle.narrowing.proofs.ReadLaws.{turn-rules, turn-count, read-turn}
+use Rattle.narrowing.proofs.NotedLaws.{patternWith, pattern-seen, turn-few, zeros-lack, noted-covered, other-covered}
 
 -- ---- searches
 
@@ -139,10 +143,10 @@ abbrev ruleWith : ℕ → List ℕ → List ℕ → Rule
 ruleWith mask u p = record { mask = mask; pattern = patternWith u p }
 
 -- where the terminal ids are the same, the masks noted tell; where they are not, the zeros do
-told : (s t u p : List ℕ) {n at : ℕ} {qs : List Rule} → Stand s t n at qs → (own : Bool) → same t u ≡ own
-    → Told qs (patternWith u p) (cond own (notedAt s p zeros n at) zeros)
-told s t u p {qs = qs} st true e m k c h =
-    noted-covered s t p st m k c h ∙ ap (λ (x : List ℕ). covered qs m (patternWith x p) k) (same-eq t u e)
+told : (s t u p : List ℕ) {n at : ℕ} {gs : List Grant} → InTurn s t n at gs → (own : Bool) → same t u ≡ own
+    → Told (rulesOf gs) (patternWith u p) (cond own (notedAt s p zeros n at) zeros)
+told s t u p {gs = gs} st true e m k c h =
+    noted-covered s t p st m k c h ∙ ap (λ (x : List ℕ). covered (rulesOf gs) m (patternWith x p) k) (same-eq t u e)
 told s t u p st false e m k c h = zeros-lack m k ∙ sym (other-covered s t u p st e m k)
 
 -- masks that tell give the lowest mode with its fewest names
@@ -153,11 +157,11 @@ masks-found qs g d t few true e = lowest-found qs g d 1 most 0 4 (λ m o. fewest
 masks-found qs g d t few false e = lowest-found qs g d 0 1 0 4 (λ m o. fewest-flat qs g d m t e o)
 
 -- the escape found in the bytes is that of the rule
-escape-found : (s t u p : List ℕ) (mask : ℕ) {n at : ℕ} {qs : List Rule} → Stand s t n at qs
-    → escapeIn s at n (same t u) p mask ≡ foundOf qs (ruleWith mask u p) (lowestMode qs (ruleWith mask u p))
+escape-found : (s t u p : List ℕ) (mask : ℕ) {n at : ℕ} {gs : List Grant} → InTurn s t n at gs
+    → escapeIn s at n (same t u) p mask ≡ foundOf (rulesOf gs) (ruleWith mask u p) (lowestMode (rulesOf gs) (ruleWith mask u p))
 unfolding escapeIn lowestIn
-escape-found s t u p mask {n = n} {at = at} {qs = qs} st =
-    masks-found qs (ruleWith mask u p) (cond (same t u) (notedAt s p zeros n at) zeros) (told s t u p st (same t u) refl) (stand-few s t st)
+escape-found s t u p mask {n = n} {at = at} {gs = gs} st =
+    masks-found (rulesOf gs) (ruleWith mask u p) (cond (same t u) (notedAt s p zeros n at) zeros) (told s t u p st (same t u) refl) (turn-few s t st)
     (endsDeep (levelsOf (levels p))) refl
 
 -- ---- the rules of the child
@@ -180,32 +184,35 @@ answer-step qs cs i rest = go (lowestMode qs (ruleAt cs i)) refl
     go none e = refl
     go (some m) e = ap (λ (o : Option ℕ). NotCovered i (orZero o) (orZero (fewestNames qs (ruleAt cs i) (orZero o)))) (sym e)
 
--- a grant of the child that fits is the rule of its mask, the child's terminal id and its text of levels
-fits-rule : (s u : List ℕ) (g : GrantSeen) → Fits s u g → ruleWith (g .mask) u (below s (g .pattern)) ≡ ruleOf s g
-fits-rule s u g f = ap (λ (p : Pattern). record { mask = g .mask; pattern = p }) (sym (f .shown))
+-- the rule of the mask that is seen of a grant, the child's terminal id and the levels that are seen is the grant's
+rule-seen : {s u : List ℕ} {g : Grant} {v : GrantSeen} → SeenAs s u g v → ruleWith (v .mask) u (below s (v .pattern)) ≡ ruleFor g
+rule-seen f = ap₂ (λ (m : ℕ) (p : Pattern). record { mask = m; pattern = p }) (f .mask) (sym (pattern-seen f))
 
 -- the search through the child's bytes from the i-th grant on answers what the search through its rules from the i-th on does
-first-from : (s t : List ℕ) {count at : ℕ} {qs : List Rule} → Stand s t count at qs → (c u : List ℕ) (cs : List Rule) {n from : ℕ} {rs : List Rule} → Stand c u n from rs
-    → (i : ℕ) → ((j : ℕ) → ruleAt cs (i + j) ≡ ruleAt rs j)
-    → firstIn s at count (same t u) c i n from ≡ answerAt qs cs (least (λ j. isSome (lowestMode qs (ruleAt cs j))) i n)
+first-from : (s t : List ℕ) {count at : ℕ} {ps : List Grant} → InTurn s t count at ps → (c u : List ℕ) (cs : List Rule) {n from : ℕ} {gs : List Grant}
+    → InTurn c u n from gs → (i : ℕ) → ((j : ℕ) → ruleAt cs (i + j) ≡ ruleAt (rulesOf gs) j)
+    → firstIn s at count (same t u) c i n from ≡ answerAt (rulesOf ps) cs (least (λ j. isSome (lowestMode (rulesOf ps) (ruleAt cs j))) i n)
 unfolding firstIn
 first-from s t st c u cs (no-more from) i h = refl
-first-from s t {count = count} {at = at} {qs = qs} st c u cs (one-more n from next g rs e f r) i h =
-    let here : ruleWith (g .mask) u (below c (g .pattern)) ≡ ruleAt cs i = fits-rule c u g f ∙ sym (h 0) ∙ ap (ruleAt cs) (add-zero i) in
-    let later : (j : ℕ) → ruleAt cs (suc i + j) ≡ ruleAt rs j = λ j. let k : suc i + j ≡ i + suc j = omega arith in ap (ruleAt cs) k ∙ h (suc j) in
-    first-step s at count (same t u) c i n from next g e
+first-from s t {count = count} {at = at} {ps = ps} st c u cs (one-more n from next v g gs e f r) i h =
+    let qs : List Rule = rulesOf ps in
+    let here : ruleWith (v .mask) u (below c (v .pattern)) ≡ ruleAt cs i = rule-seen f ∙ sym (h 0) ∙ ap (ruleAt cs) (add-zero i) in
+    let later : (j : ℕ) → ruleAt cs (suc i + j) ≡ ruleAt (rulesOf gs) j = λ j. let k : suc i + j ≡ i + suc j = omega arith in ap (ruleAt cs) k ∙ h (suc j) in
+    first-step s at count (same t u) c i n from next v e
     ∙ ap₂ (orNext i)
-    (escape-found s t u (below c (g .pattern)) (g .mask) st ∙ ap (λ (x : Rule). foundOf qs x (lowestMode qs x)) here)
+    (escape-found s t u (below c (v .pattern)) (v .mask) st ∙ ap (λ (x : Rule). foundOf qs x (lowestMode qs x)) here)
     (first-from s t st c u cs r (suc i) later)
     ∙ answer-step qs cs i (least (λ j. isSome (lowestMode qs (ruleAt cs j))) (suc i) n)
 
 -- the search through the bytes of the child's grants answers the first rule by which a path escapes, its lowest mode and its fewest names
-pub first-found : (s t : List ℕ) {count at : ℕ} {qs : List Rule} → Stand s t count at qs → (c u : List ℕ) {n from : ℕ} {cs : List Rule} → Stand c u n from cs
-    → firstIn s at count (same t u) c 0 n from ≡ answerAt qs cs (firstRule qs cs)
+first-found : (s t : List ℕ) {count at : ℕ} {ps : List Grant} → InTurn s t count at ps → (c u : List ℕ) {n from : ℕ} {gs : List Grant} → InTurn c u n from gs
+    → firstIn s at count (same t u) c 0 n from ≡ answerAt (rulesOf ps) (rulesOf gs) (firstRule (rulesOf ps) (rulesOf gs))
 unfolding firstRule
-first-found s t {qs = qs} st c u {cs = cs} r =
+first-found s t {ps = ps} st c u {gs = gs} r =
+    let qs : List Rule = rulesOf ps in
+    let cs : List Rule = rulesOf gs in
     first-from s t st c u cs r 0 (λ j. ap (ruleAt cs) (zero-add j))
-    ∙ ap (λ (n : ℕ). answerAt qs cs (least (λ j. isSome (lowestMode qs (ruleAt cs j))) 0 n)) (sym (stand-count c u r))
+    ∙ ap (λ (n : ℕ). answerAt qs cs (least (λ j. isSome (lowestMode qs (ruleAt cs j))) 0 n)) (sym (turn-count r))
 
 -- ---- two descriptors
 
@@ -216,7 +223,8 @@ pub scan-agrees : (s t : List ℕ) (v w : Seen) → AreBytes s → AreBytes t �
     (w .payload .opening .grants .start)
     ≡ answerAt (rulesIn s v) (rulesIn t w) (firstRule (rulesIn s v) (rulesIn t w))
 scan-agrees s t v w bs bt e f =
-    let a = read-stands s v bs e in
-    let b = read-stands t w bt f in
+    let a = read-turn s v bs e .1 in
+    let b = read-turn t w bt f .1 in
     ap (λ (own : Bool). firstIn s (v .payload .opening .grants .start) (v .payload .opening .grants .count) own t 0 (w .payload .opening .grants .count) (w .payload .opening .grants .start)) (same-agree _ _)
     ∙ first-found s _ a t _ b
+    ∙ sym (ap₂ (λ (qs cs : List Rule). answerAt qs cs (firstRule qs cs)) (turn-rules a) (turn-rules b))

@@ -8,7 +8,7 @@ use native.Mathlib.Omega.{arith}
 use lib.ListN.{length}
 use Rattle.descriptor.specs.Model.{Descriptor}
 use Rattle.descriptor.specs.Allowed.{GrantOk, All, Allowed}
-use Rattle.descriptor_laws.proofs.places.SeenLaws.{all-get}
+use Rattle.descriptor_laws.proofs.Laws.{grants-allowed}
 use Rattle.narrowing.specs.declared.Narrowing.{Narrowing}
 use Rattle.narrowing.specs.declared.Narrowing.the-variants.{Accepted, NoParent, Structure, Validity, Constrained, Period, NotCovered}
 use Rattle.narrowing.specs.Escape.{Rule, ruleAt, firstRule}
@@ -26,7 +26,7 @@ grants-ok d a = a .formed .payload .grants
 
 -- the grant at a place of the child is allowed
 grant-ok : (d : Descriptor) (i : ℕ) → Allowed d → i < length (d .payload .grants) → GrantOk (grantOf d i)
-grant-ok d i a h = all-get GrantOk (d .payload .grants) i _ h (grants-ok d a)
+grant-ok d i a h = grants-allowed d (a .formed) i _ h
 
 -- where no path escapes by the child's rule at a place in a mode, none escapes by its grant; modes from 4 on are none of the grant's
 no-escape : (p c : Descriptor) → Allowed p → Allowed c → (i : ℕ) → i < length (c .payload .grants) → (n : ℕ)

@@ -11,7 +11,6 @@ pub mod Laws
 pub mod Cases
 pub mod RangeLaws
 pub mod NotedLaws
-pub mod StandLaws
 pub mod AgreeLaws
 pub mod MarkLaws
 pub mod CoverSteps

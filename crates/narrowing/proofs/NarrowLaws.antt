@@ -68,7 +68,7 @@ narrow-as s t p c a b =
     under-as s t p a
     ∙ ap (underParent s (descriptorView 0 p) t) (read-as t c b)
     ∙ plain-as s (descriptorView 0 p) t (descriptorView 0 c) (rulesOf (p .payload .grants)) (rulesOf (c .payload .grants))
-    (pairs-none p .1 (a .plain)) (pairs-none c .1 (b .plain)) (rules-as s p a) (rules-as t c b)
+    (pairs-none p (a .allowed .formed) .1 (a .plain)) (pairs-none c (b .allowed .formed) .1 (b .plain)) (rules-as s p a) (rules-as t c b)
 
 -- a child that is accepted under a parent has no pair
 no-pairs : (s : List ℕ) (v : Seen) (t : List ℕ) (w : Seen) → compared s v t w ≡ Accepted → unconstrained w ≡ true
@@ -85,7 +85,7 @@ accepted-reads s t p a b e = go (readOf t) refl (sym (under-as s t p a) ∙ e)
         let r = reads-exactly t b w .0 q in
         let u : unconstrained (descriptorView 0 (r .0)) ≡ true
         = subst (λ (v : Seen). unconstrained v ≡ true) (r .3) (no-pairs s (descriptorView 0 p) t w h) in
-        (r .0, record { bytes = b; allowed = r .1; encoded = r .2; plain = pairs-none (r .0) .0 u })
+        (r .0, record { bytes = b; allowed = r .1; encoded = r .2; plain = pairs-none (r .0) (r .1 .formed) .0 u })
     go structure q h = absurd (omega (arith, number h))
     go validity q h = absurd (omega (arith, number h))
 

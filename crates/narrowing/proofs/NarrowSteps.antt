@@ -14,12 +14,13 @@ use Rattle.exact.specs.Reads.{got, refused}
 use Rattle.descriptor.specs.declared.Fields.{Fields}
 use Rattle.descriptor.specs.declared.Reading.{Reading}
 use Rattle.descriptor.specs.declared.Reading.the-variants as reading
+use Rattle.descriptor.specs.Model.{Descriptor}
+use Rattle.descriptor.specs.Allowed.{Allowed}
 use Rattle.descriptor.specs.Reader.{GrantSeen, grantAt, Seen, Answer, read, structure, validity, readOf}
-use Rattle.descriptor.specs.View.{descriptorView}
 use Rattle.descriptor.specs.Answer.{fieldsOf, readingOf}
-use Rattle.descriptor.specs.Numbers.{numberOf}
-use Rattle.descriptor_laws.proofs.Laws.{reads-exactly}
-use Rattle.descriptor_laws.proofs.places.PlaceLaws.{terminal-part}
+use Rattle.descriptor.specs.Numbers.{numbersOf, numberOf}
+use Rattle.descriptor_laws.specs.Promises.{DescriptorHanded}
+use Rattle.descriptor_laws.proofs.Promises.{answered-exactly, hands-back}
 use Rattle.descriptor.proofs.WordLaws.{terminal-length}
 use Rattle.descriptor.proofs.ValueSteps.{lent-levels}
 use Rattle.narrowing.specs.declared.Narrowing.{Narrowing}
@@ -91,19 +92,22 @@ part-in : (s : List ℕ) (at n : ℕ) → 0 < n → length (part s at n) ≡ n �
 unfolding part
 part-in s at n h e = let i = sym (length-take n (drop at s)) ∙ e in let j = length-drop at s in omega (arith, i, j)
 
--- the terminal id of a descriptor that was read lies within s
-seen-terminal : (s : List ℕ) (x : Seen) → AreBytes s → readOf s ≡ read x → x .payload .closing .terminal + 45 ≤ length s
-seen-terminal s x b e =
-    let r = reads-exactly s b x .0 e in
-    let d = r .0 in
-    let q = r .1 .formed in
-    subst (λ (y : Seen). y .payload .closing .terminal + 45 ≤ length s) (sym (r .3))
-    (subst (λ (u : List ℕ). descriptorView 0 d .payload .closing .terminal + 45 ≤ length u) (sym (r .2))
-    (part-in _ _ 45 (omega arith) (ap length (terminal-part d q) ∙ terminal-length (d .payload .terminal) (q .payload .terminal))))
+-- fields that were read are an allowed descriptor's, number by number
+fields-handed : (s : List ℕ) (v : Fields) → AreBytes s → reading.Read v ≡ readingOf (readOf s)
+    → (d : Descriptor) × Allowed d × DescriptorHanded s d (numbersOf (reading.Read v))
+fields-handed s v b e =
+    let r = answered-exactly s b .done .0 (sym (ap numberOf e)) in
+    (r .0, r .1, subst (λ (a : Reading). DescriptorHanded s (r .0) (numbersOf a)) (sym e) (hands-back s b (r .0) (r .1) (r .2)))
 
--- so does that of the fields
+-- the terminal id lies within s
 pub terminal-room : (s : List ℕ) (v : Fields) → AreBytes s → reading.Read v ≡ readingOf (readOf s) → v .terminal + 45 ≤ length s
-terminal-room s v b e = let x = seen-as s v e in subst (λ (f : Fields). f .terminal + 45 ≤ length s) (sym (x .2)) (seen-terminal s (x .0) b (x .1))
+terminal-room s v b e =
+    let r = fields-handed s v b e in
+    part-in s (v .terminal) 45 (omega arith) (ap length (r .2 .terminal) ∙ terminal-length (r .0 .payload .terminal) (r .1 .formed .payload .terminal))
+
+-- and there are at most 256 grants
+pub grants-few : (s : List ℕ) (v : Fields) → AreBytes s → reading.Read v ≡ readingOf (readOf s) → v .grants ≤ 256
+grants-few s v b e = let r = fields-handed s v b e in omega (arith, r .2 .grants, r .1 .formed .payload .most)
 
 -- ---- narrowing
 

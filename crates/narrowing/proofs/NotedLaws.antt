@@ -5,7 +5,7 @@ use mathlib.Core.List.{List, [], _∷_}
 use Prim.Native.Nat.{ℕ, zero, suc, _+_, _*_, _^_, _≤_, _<_}
 use native.Mathlib.Nat.{zero-div}
 use native.Mathlib.Omega.{arith}
-use lib.ListN.{length, getD, take, drop, replicate, length-append, length-replicate}
+use lib.ListN.{length, getD, replicate, length-append, length-replicate}
 use lib.Dec.{leb}
 use lib.Bits.{bitOr}
 use Rattle.exact.specs.Reads.{got}
@@ -15,14 +15,17 @@ use Rattle.resource.specs.Text.{isPattern, longest, patternOk, levelsOf, patter
 use Rattle.resource.specs.Cover.{covers}
 use Rattle.resource.proofs.Flags.{and-right, no-flag, same-refl}
 use Rattle.resource.proofs.Promises.{patterns-exact, patterns-once}
+use Rattle.descriptor.specs.Model.{Grant}
 use Rattle.descriptor.specs.Reader.{hasMode, GrantSeen, grantAt}
+use Rattle.descriptor.specs.View.{maskOf}
 use Rattle.descriptor.proofs.WordLaws.{terminal-length, pattern-short}
-use Rattle.descriptor_laws.proofs.grants.LevelLaws.{pattern-levels}
+use Rattle.descriptor_laws.specs.Laws.{SeenAs, InTurn, no-more, one-more}
+use Rattle.descriptor_laws.proofs.Laws.{terminal-first}
 use Rattle.narrowing.specs.declared.range.Range.{Range}
-use Rattle.narrowing.specs.Escape.{Rule, patternCovers, covered, canTake, deepest}
+use Rattle.narrowing.specs.Escape.{patternCovers, covered, canTake, deepest}
 use Rattle.narrowing.specs.Range.{inRange, most, textRange, marked}
 use Rattle.narrowing.specs.Scan.{below, notedAt, zeros}
-use Rattle.narrowing.specs.Narrow.{ruleOf, rulesAt}
+use Rattle.narrowing.specs.Laws.{rulesOf}
 use Rattle.narrowing.proofs.RangeLaws.{range-covers, marked-length, marked-at, or-mode}
 
 -- ---- the text of a pattern
@@ -31,10 +34,11 @@ use Rattle.narrowing.proofs.RangeLaws.{range-covers, marked-length, mar
 abbrev pub patternWith : List ℕ → List ℕ → Pattern
 patternWith t p = record { terminal = t; below = levelsOf (levels p) }
 
--- the pattern that a text spells has its first 45 bytes as the terminal id, and the levels of what follows the 46th
-pub pattern-parts : (x : List ℕ) → patternOk x ≡ true → patternOf x ≡ patternWith (take 45 x) (drop 46 x)
+-- that of a grant that is seen in s has the terminal id t, and the levels that are seen
+pub pattern-seen : {s t : List ℕ} {g : Grant} {v : GrantSeen} → SeenAs s t g v → patternOf (g .pattern) ≡ patternWith t (below s (v .pattern))
 unfolding patternOf
-pattern-parts x e = ap patternIn (pattern-levels x e)
+pattern-seen {g = g} f =
+    ap patternIn (terminal-first .0 (g .pattern) (f .allowed .pattern)) ∙ ap₂ (λ (u p : List ℕ). patternWith u p) (f .own) (sym (f .below))
 
 -- a name has a character
 name-some : (n : List ℕ) → isName n ≡ true → 1 ≤ length n
@@ -49,7 +53,7 @@ spelled-long l (name n p) i = omega (arith, length-append l (47 ∷ joined (n �
 spelled-long l (star p) i = omega (arith, length-append l (47 ∷ joined ((42 ∷ []) ∷ spelled p)), spelled-long (42 ∷ []) p i)
 
 -- a pattern of 256 bytes has at most 105 levels before "**"
-pub pattern-few : (x : List ℕ) → patternOk x ≡ true → before (patternOf x .below) ≤ 105
+pattern-few : (x : List ℕ) → patternOk x ≡ true → before (patternOf x .below) ≤ 105
 unfolding patternOk
 pattern-few x e =
     let r : (p : Pattern) × IsPattern p × (x ≡ patternText p) = patterns-exact x .0 (and-right (leb (length x) longest) (isPattern x) e) in
@@ -59,34 +63,10 @@ pattern-few x e =
     rw same-pattern
     (omega (arith, size, pattern-short x e .1, terminal-length (p .terminal) (r .1 .terminal), spelled-long (p .terminal) (p .below) (r .1 .names)))
 
--- ---- the rules that stand in bytes
-
--- the pattern of a grant that was seen in s has the terminal id t, and is short
-pub record Fits (s t : List ℕ) (g : GrantSeen) : Type 0 where
-  pub shown : ruleOf s g .pattern ≡ patternWith t (below s (g .pattern))
-  pub few : before (ruleOf s g .pattern .below) ≤ 105
-
--- the rules of the n grants from a place of s on, each with the terminal id t
-pub data Stand (s t : List ℕ) : ℕ → ℕ → List Rule → Type 0 where
-  no-more : (at : ℕ) → Stand s t 0 at []
-  one-more : (n at next : ℕ) (g : GrantSeen) (rs : List Rule) → grantAt s at ≡ got g next → Fits s t g → Stand s t n next rs
-      → Stand s t (suc n) at (ruleOf s g ∷ rs)
-
--- they are those that are read there
-pub stand-rules : (s t : List ℕ) {n at : ℕ} {rs : List Rule} → Stand s t n at rs → rulesAt s n at ≡ rs
-unfolding rulesAt
-stand-rules s t (no-more at) = refl
-stand-rules s t (one-more n at next g rs e f r) = rw (rulesAt, e, stand-rules s t r)
-
--- there are n
-pub stand-count : (s t : List ℕ) {n at : ℕ} {rs : List Rule} → Stand s t n at rs → length rs ≡ n
-stand-count s t (no-more at) = refl
-stand-count s t (one-more n at next g rs e f r) = ap suc (stand-count s t r)
-
--- their patterns have at most 105 levels before "**"
-pub stand-few : (s t : List ℕ) {n at : ℕ} {rs : List Rule} → Stand s t n at rs → deepest rs ≤ 105
-stand-few s t (no-more at) = omega arith
-stand-few s t (one-more n at next g rs e f r) = omega (arith, f .few, stand-few s t r)
+-- the rules of grants that are read in turn have at most 105 levels before "**"
+pub turn-few : (s t : List ℕ) {n at : ℕ} {gs : List Grant} → InTurn s t n at gs → deepest (rulesOf gs) ≤ 105
+turn-few s t (no-more at) = omega arith
+turn-few s t (one-more n at next v g gs e f r) = omega (arith, pattern-few (g .pattern) (f .allowed .pattern), turn-few s t r)
 
 -- ---- the masks
 
@@ -107,39 +87,39 @@ or-row true b c = refl
 or-row false b c = refl
 
 -- a grant's pattern covers another of the same terminal id exactly where the range of the two texts has k
-range-told : (s t p : List ℕ) (g : GrantSeen) (k : ℕ) → Fits s t g → canTake (levelsOf (levels p)) k ≡ true → k < most
-    → inRange (textRange (below s (g .pattern)) p) k ≡ patternCovers (ruleOf s g .pattern) (patternWith t p) k
+range-told : (s t p : List ℕ) (g : Grant) (v : GrantSeen) (k : ℕ) → SeenAs s t g v → canTake (levelsOf (levels p)) k ≡ true → k < most
+    → inRange (textRange (below s (v .pattern)) p) k ≡ patternCovers (patternOf (g .pattern)) (patternWith t p) k
 unfolding textRange
-range-told s t p g k f c h =
-    let q : Levels = levelsOf (levels (below s (g .pattern))) in
+range-told s t p g v k f c h =
+    let q : Levels = levelsOf (levels (below s (v .pattern))) in
     sym
-    (ap (λ (x : Pattern). patternCovers x (patternWith t p) k) (f .shown)
+    (ap (λ (x : Pattern). patternCovers x (patternWith t p) k) (pattern-seen f)
     ∙ ap (λ (b : Bool). b && covers q (levelsOf (levels p)) k) (same-refl t)
     ∙ range-covers q (levelsOf (levels p)) k c h)
 
 -- after one grant is noted, the mask at k has the modes that it had and those in which the grant's rule covers the pattern with k names
-noted-one : (s t p d : List ℕ) (g : GrantSeen) (m k : ℕ) → Fits s t g → length d ≡ most → canTake (levelsOf (levels p)) k ≡ true → k < most
-    → hasMode (getD (marked 0 d (textRange (below s (g .pattern)) p) (g .mask)) k 0) m
-    ≡ (hasMode (getD d k 0) m || (hasMode (g .mask) m && patternCovers (ruleOf s g .pattern) (patternWith t p) k))
-noted-one s t p d g m k f l c h =
-    let r : Range = textRange (below s (g .pattern)) p in
-    ap (λ (x : ℕ). hasMode x m) (marked-at d r (g .mask) k (omega arith)) ∙ or-where (inRange r k) (getD d k 0) (g .mask) m
-    ∙ ap (λ (b : Bool). hasMode (getD d k 0) m || (hasMode (g .mask) m && b)) (range-told s t p g k f c h)
+noted-one : (s t p d : List ℕ) (g : Grant) (v : GrantSeen) (m k : ℕ) → SeenAs s t g v → length d ≡ most → canTake (levelsOf (levels p)) k ≡ true → k < most
+    → hasMode (getD (marked 0 d (textRange (below s (v .pattern)) p) (v .mask)) k 0) m
+    ≡ (hasMode (getD d k 0) m || (hasMode (maskOf (g .modes)) m && patternCovers (patternOf (g .pattern)) (patternWith t p) k))
+noted-one s t p d g v m k f l c h =
+    let r : Range = textRange (below s (v .pattern)) p in
+    ap (λ (x : ℕ). hasMode x m) (marked-at d r (v .mask) k (omega arith)) ∙ or-where (inRange r k) (getD d k 0) (v .mask) m
+    ∙ ap₂ (λ (x : ℕ) (b : Bool). hasMode (getD d k 0) m || (hasMode x m && b)) (f .mask) (range-told s t p g v k f c h)
 
--- after the grants are noted, the mask at k has the modes that it had and those in which the rules cover the pattern with k names
-noted-more : (s t p : List ℕ) {n at : ℕ} {rs : List Rule} → Stand s t n at rs → (d : List ℕ) (m k : ℕ)
+-- after the grants are noted, the mask at k has the modes that it had and those in which their rules cover the pattern with k names
+noted-more : (s t p : List ℕ) {n at : ℕ} {gs : List Grant} → InTurn s t n at gs → (d : List ℕ) (m k : ℕ)
     → length d ≡ most → canTake (levelsOf (levels p)) k ≡ true → k < most
-    → hasMode (getD (notedAt s p d n at) k 0) m ≡ (hasMode (getD d k 0) m || covered rs m (patternWith t p) k)
+    → hasMode (getD (notedAt s p d n at) k 0) m ≡ (hasMode (getD d k 0) m || covered (rulesOf gs) m (patternWith t p) k)
 unfolding notedAt
 noted-more s t p (no-more at) d m k l c h = sym (or-false (hasMode (getD d k 0) m))
-noted-more s t p (one-more n at next g rs e f st) d m k l c h =
-    let r : Range = textRange (below s (g .pattern)) p in
-    let d₁ : List ℕ = marked 0 d r (g .mask) in
-    let rest : Bool = covered rs m (patternWith t p) k in
-    ap (λ (x : List ℕ). hasMode (getD x k 0) m) (noted-step s p d n at next g e)
-    ∙ noted-more s t p st d₁ m k (marked-length 0 d r (g .mask) ∙ l) c h
-    ∙ ap (λ (b : Bool). b || rest) (noted-one s t p d g m k f l c h)
-    ∙ or-row (hasMode (getD d k 0) m) (hasMode (g .mask) m && patternCovers (ruleOf s g .pattern) (patternWith t p) k) rest
+noted-more s t p (one-more n at next v g gs e f st) d m k l c h =
+    let r : Range = textRange (below s (v .pattern)) p in
+    let d₁ : List ℕ = marked 0 d r (v .mask) in
+    let rest : Bool = covered (rulesOf gs) m (patternWith t p) k in
+    ap (λ (x : List ℕ). hasMode (getD x k 0) m) (noted-step s p d n at next v e)
+    ∙ noted-more s t p st d₁ m k (marked-length 0 d r (v .mask) ∙ l) c h
+    ∙ ap (λ (b : Bool). b || rest) (noted-one s t p d g v m k f l c h)
+    ∙ or-row (hasMode (getD d k 0) m) (hasMode (maskOf (g .modes)) m && patternCovers (patternOf (g .pattern)) (patternWith t p) k) rest
 
 -- each of n zeros, and what follows them, is 0
 zero-at : (n k : ℕ) → _≡_ {A = ℕ} (getD (replicate n 0) k 0) 0
@@ -156,18 +136,19 @@ zero-lacks m = rw (zero-div (2 ^ m))
 pub zeros-lack : (m k : ℕ) → hasMode (getD zeros k 0) m ≡ false
 zeros-lack m k = ap (λ (x : ℕ). hasMode x m) (zero-at most k) ∙ zero-lacks m
 
--- after the grants are noted, the mask at k has exactly the modes in which the rules cover the pattern with k names
-pub noted-covered : (s t p : List ℕ) {n at : ℕ} {rs : List Rule} → Stand s t n at rs → (m k : ℕ) → canTake (levelsOf (levels p)) k ≡ true → k < most
-    → hasMode (getD (notedAt s p zeros n at) k 0) m ≡ covered rs m (patternWith t p) k
-noted-covered s t p {rs = rs} st m k c h =
-    noted-more s t p st zeros m k (length-replicate {A = ℕ} most 0) c h ∙ ap (λ (b : Bool). b || covered rs m (patternWith t p) k) (zeros-lack m k)
+-- after the grants are noted, the mask at k has exactly the modes in which their rules cover the pattern with k names
+pub noted-covered : (s t p : List ℕ) {n at : ℕ} {gs : List Grant} → InTurn s t n at gs → (m k : ℕ) → canTake (levelsOf (levels p)) k ≡ true → k < most
+    → hasMode (getD (notedAt s p zeros n at) k 0) m ≡ covered (rulesOf gs) m (patternWith t p) k
+noted-covered s t p {gs = gs} st m k c h =
+    noted-more s t p st zeros m k (length-replicate {A = ℕ} most 0) c h ∙ ap (λ (b : Bool). b || covered (rulesOf gs) m (patternWith t p) k) (zeros-lack m k)
 
 -- rules with another terminal id cover nothing
-pub other-covered : (s t u p : List ℕ) {n at : ℕ} {rs : List Rule} → Stand s t n at rs → same t u ≡ false → (m k : ℕ)
-    → covered rs m (patternWith u p) k ≡ false
+pub other-covered : (s t u p : List ℕ) {n at : ℕ} {gs : List Grant} → InTurn s t n at gs → same t u ≡ false → (m k : ℕ)
+    → covered (rulesOf gs) m (patternWith u p) k ≡ false
 other-covered s t u p (no-more at) e m k = refl
-other-covered s t u p (one-more n at next g rs i f r) e m k =
-    let none-here : patternCovers (ruleOf s g .pattern) (patternWith u p) k ≡ false =
-    ap (λ (x : Pattern). patternCovers x (patternWith u p) k) (f .shown)
-    ∙ ap (λ (b : Bool). b && covers (levelsOf (levels (below s (g .pattern)))) (levelsOf (levels p)) k) e in
-    ap₂ (λ (a b : Bool). (hasMode (g .mask) m && a) || b) none-here (other-covered s t u p r e m k) ∙ ap (λ (b : Bool). b || false) (and-false (hasMode (g .mask) m))
+other-covered s t u p (one-more n at next v g gs i f r) e m k =
+    let none-here : patternCovers (patternOf (g .pattern)) (patternWith u p) k ≡ false =
+    ap (λ (x : Pattern). patternCovers x (patternWith u p) k) (pattern-seen f)
+    ∙ ap (λ (b : Bool). b && covers (levelsOf (levels (below s (v .pattern)))) (levelsOf (levels p)) k) e in
+    ap₂ (λ (a b : Bool). (hasMode (maskOf (g .modes)) m && a) || b) none-here (other-covered s t u p r e m k)
+    ∙ ap (λ (b : Bool). b || false) (and-false (hasMode (maskOf (g .modes)) m))

@@ -1,74 +1,76 @@
 -- What narrowing reads of the encoding of an allowed descriptor: the rules of its grants, and whether it has a constraint pair. Assumes nothing.
-use mathlib.Core.Path.{_≡_, refl, sym, ap, ap₂, _∙_}
+use mathlib.Core.Path.{_≡_, refl, sym, ap, _∙_, subst}
 use mathlib.Core.Logic.{_↔_}
 use mathlib.Core.Bool.{true}
 use mathlib.Core.List.{List, [], _∷_}
-use Prim.Native.Nat.{ℕ, suc, _+_}
-use native.Mathlib.Numerals.{add-one}
-use native.Mathlib.Nat.{add-zero}
+use mathlib.Core.Option.{Option, none, some}
+use Prim.Native.Nat.{ℕ, suc}
 use native.Mathlib.Omega.{arith}
 use borrow.Author.Tests.{eqb-true, eq-eqb}
-use lib.ListN.{length, drop}
-use Rattle.octets.specs.Bytes.{AreBytes}
-use lib.Bits.{bitOr}
-use Rattle.exact.specs.Reads.{got}
-use Rattle.resource.specs.Text.{patternOf}
-use Rattle.descriptor.specs.Model.{Grant, Descriptor, encode}
+use lib.ListN.{length}
+use Rattle.octets.specs.Bytes.{AreBytes, part}
+use Rattle.descriptor.specs.Model.{Pair, Grant, Descriptor, pairCount, encode}
 use Rattle.descriptor.specs.Allowed.{Formed}
-use Rattle.descriptor.specs.Reader.{GrantSeen, Sum, pairsOf, grantAt}
-use Rattle.descriptor.specs.View.{maskOf, countOf, sumFrom, grantView, grantsView, descriptorView, grantPlace}
-use Rattle.descriptor_laws.proofs.Laws.{grants-walk}
-use Rattle.descriptor_laws.proofs.grants.WalkLaws.{dropped, count-of, pairs-of}
-use Rattle.narrowing.specs.Escape.{Rule}
-use Rattle.narrowing.specs.Narrow.{ruleOf, rulesAt, rulesIn, unconstrained}
+use Rattle.descriptor.specs.Reader.{Seen, read, readOf}
+use Rattle.descriptor.specs.View.{descriptorView}
+use Rattle.descriptor_laws.specs.Promises.{pairsIn, constraintPairs}
+use Rattle.descriptor_laws.specs.Laws.{InTurn, no-more, one-more}
+use Rattle.descriptor_laws.proofs.Laws.{reads-exactly, seen-handed, grants-in-turn}
+use Rattle.narrowing.specs.Narrow.{rulesAt, rulesIn, unconstrained}
 use Rattle.narrowing.specs.Laws.{rulesOf}
 use Rattle.narrowing.specs.Promises.{NoPairs}
-use Rattle.narrowing.proofs.RuleLaws.{ruleFor}
 
 -- ---- rules
 
--- one grant that is read is one rule
-rules-step : (s : List ℕ) (n at next : ℕ) (v : GrantSeen) → grantAt s at ≡ got v next → rulesAt s (suc n) at ≡ ruleOf s v ∷ rulesAt s n next
+-- the rules read from a place on are those of the grants that are read from there on
+pub turn-rules : {s t : List ℕ} {n at : ℕ} {gs : List Grant} → InTurn s t n at gs → rulesAt s n at ≡ rulesOf gs
 unfolding rulesAt
-rules-step s n at next v e = rw (rulesAt, e)
+turn-rules (no-more at) = refl
+turn-rules (one-more n at next v g gs e f r) = rw (rulesAt, e, f .mask, f .pattern, turn-rules r)
 
--- the rules read from the i-th grant on are those of the grants from the i-th on
-rules-from : (d : Descriptor) → AreBytes (encode d) → Formed d → (hs : List Grant) (i : ℕ) → drop i (d .payload .grants) ≡ hs
-    → rulesAt (encode d) (length hs) (grantPlace d i) ≡ rulesOf hs
-unfolding rulesAt
-rules-from d b q [] i e = refl
-rules-from d b q (g ∷ hs) i e =
-    let r = dropped (d .payload .grants) i g hs e in
-    let w = grants-walk d b q i g (r .0) (r .1) in
-    let here : ruleOf (encode d) (grantView (grantPlace d i) g) ≡ ruleFor g
-    = ap (λ (s : List ℕ). record { mask = maskOf (g .modes); pattern = patternOf s }) (w .1) in
-    rules-step (encode d) (length hs) (grantPlace d i) (grantPlace d (i + 1)) (grantView (grantPlace d i) g) (w .0)
-    ∙ ap₂ (λ (c : Rule) (cs : List Rule). c ∷ cs) here (rules-from d b q hs (i + 1) (rw add-one (r .2)))
+-- there are as many
+pub turn-count : {s t : List ℕ} {n at : ℕ} {gs : List Grant} → InTurn s t n at gs → length (rulesOf gs) ≡ n
+turn-count (no-more at) = refl
+turn-count (one-more n at next v g gs e f r) = ap suc (turn-count r)
 
 -- the rules read of a descriptor are those of its grants
 pub rules-in : (d : Descriptor) → AreBytes (encode d) → Formed d → rulesIn (encode d) (descriptorView 0 d) ≡ rulesOf (d .payload .grants)
-rules-in d b q = ap₂ (rulesAt (encode d)) (count-of _ (d .payload .grants)) (sym (add-zero _)) ∙ rules-from d b q (d .payload .grants) 0 refl
+rules-in d b q = turn-rules (grants-in-turn d b q)
+
+-- the grants gs, of the terminal t, are read in turn of a descriptor that was read from s
+abbrev TurnIn : List ℕ → List ℕ → Seen → List Grant → Type 0
+TurnIn s t v gs = InTurn s t (v .payload .opening .grants .count) (v .payload .opening .grants .start) gs
+
+-- there are such grants for the terminal id that stands there
+pub read-turn : (s : List ℕ) (v : Seen) → AreBytes s → readOf s ≡ read v → (gs : List Grant) × TurnIn s (part s (v .payload .closing .terminal) 45) v gs
+read-turn s v b e =
+    let r = reads-exactly s b v .0 e in
+    let d : Descriptor = r .0 in
+    let gs : List Grant = d .payload .grants in
+    let own : (x : List ℕ) (w : Seen) → Type 0 = λ x w. TurnIn x (part x (w .payload .closing .terminal) 45) w gs in
+    let here : own (encode d) (descriptorView 0 d)
+    = subst (λ (t : List ℕ). TurnIn (encode d) t (descriptorView 0 d) gs) (sym (seen-handed d (r .1 .formed) .terminal))
+    (grants-in-turn d (subst AreBytes (r .2) b) (r .1 .formed)) in
+    (gs, subst (own s) (sym (r .3)) (subst (λ (x : List ℕ). own x (descriptorView 0 d)) (sym (r .2)) here))
 
 -- ---- constraint pairs
 
--- there is no pair in a sum exactly when there was none before and no grant has one
-sum-none : (sum : Sum) (gs : List Grant) → (sumFrom sum gs .pairs ≡ 0) ↔ ((sum .pairs ≡ 0) × NoPairs gs)
-sum-none sum [] = (λ e. (e, tt), λ h. h .0)
-sum-none sum (g ∷ gs) =
-    let r = sum-none (record { mask = bitOr (sum .mask) (maskOf (g .modes)); pairs = sum .pairs + pairsOf (countOf (g .constraints)) }) gs in
-    let c = pairs-of (g .constraints) in
-    (λ e. let h = r .0 e in (omega (arith, h .0), (omega (arith, h .0, c), h .1)), λ h. r .1 (omega (arith, c, h .0, h .1 .0), h .1 .1))
+-- the number of pairs by either name
+pairs-same : (m : Option (List Pair)) → pairsIn m ≡ pairCount m
+pairs-same none = refl
+pairs-same (some ps) = refl
 
--- there is no pair in what is seen of grants exactly when no grant has one
-grants-none : (at : ℕ) (gs : List Grant) → (grantsView at gs .sum .pairs ≡ 0) ↔ NoPairs gs
-grants-none at [] = (λ e. tt, λ h. refl)
-grants-none at (g ∷ gs) =
-    let r = sum-none (record { mask = maskOf (g .modes); pairs = pairsOf (countOf (g .constraints)) }) gs in
-    let c = pairs-of (g .constraints) in
-    (λ e. let h = r .0 e in (sym c ∙ h .0, h .1), λ h. r .1 (c ∙ h .0, h .1))
+-- grants have no pair in all exactly when no grant has one
+none-counted : (gs : List Grant) → (constraintPairs gs ≡ 0) ↔ NoPairs gs
+none-counted [] = (λ e. tt, λ h. refl)
+none-counted (g ∷ gs) =
+    let r = none-counted gs in
+    let c = pairs-same (g .constraints) in
+    (λ e. (omega (arith, c, e), r .0 (omega (arith, e))), λ h. omega (arith, c, h .0, r .1 (h .1)))
 
 -- a descriptor that is read is unconstrained exactly when no grant has a pair
-pub pairs-none : (d : Descriptor) → (unconstrained (descriptorView 0 d) ≡ true) ↔ NoPairs (d .payload .grants)
-pairs-none d =
-    let r = grants-none _ (d .payload .grants) in
-    (λ e. r .0 (eqb-true _ 0 e), λ h. eq-eqb _ 0 (r .1 h))
+pub pairs-none : (d : Descriptor) → Formed d → (unconstrained (descriptorView 0 d) ≡ true) ↔ NoPairs (d .payload .grants)
+pairs-none d q =
+    let r = none-counted (d .payload .grants) in
+    let c = seen-handed d q .constraints in
+    (λ e. r .0 (sym c ∙ eqb-true _ 0 e), λ h. eq-eqb _ 0 (c ∙ r .1 h))

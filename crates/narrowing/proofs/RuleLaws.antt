@@ -15,7 +15,7 @@ use Rattle.resource.proofs.Flags.{and-left, and-right, or-elim, no-flag}
 use Rattle.descriptor.specs.Model.{Grant}
 use Rattle.descriptor.specs.Allowed.{isIn, ModeOk, seenWith, GrantOk, All}
 use Rattle.descriptor.specs.View.{maskOf}
-use Rattle.descriptor_laws.proofs.values.ModeLaws.{mask-exact}
+use Rattle.descriptor_laws.proofs.Laws.{mask-exactly}
 use Rattle.narrowing.specs.Meaning.{grantAdmits, anyAdmits, Escapes}
 use Rattle.narrowing.specs.Escape.{Rule, ruleAt}
 use Rattle.narrowing.specs.Laws.{rulesOf}
@@ -48,7 +48,7 @@ ruleFor g = record { mask = maskOf (g .modes); pattern = patternOf (g .pattern) 
 
 -- it admits what the grant admits
 rule-admits : (g : Grant) (m : ℕ) (x : Path) → GrantOk g → m < 4 → grantAdmits g m x ≡ ruleAdmits (ruleFor g) m x
-rule-admits g m x o h = ap (λ (b : Bool). b && admits (patternOf (g .pattern)) x) (sym (mask-exact (g .modes) (o .modes) .1 m h))
+rule-admits g m x o h = ap (λ (b : Bool). b && admits (patternOf (g .pattern)) x) (sym (mask-exactly g o .1 m h))
 
 -- and so do the rules of grants
 rules-admit : (gs : List Grant) (m : ℕ) (x : Path) → All GrantOk gs → m < 4 → anyAdmits gs m x ≡ rulesAdmit (rulesOf gs) m x

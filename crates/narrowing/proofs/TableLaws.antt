@@ -8,20 +8,13 @@ use native.Mathlib.Decide.{decLt}
 use native.Mathlib.Omega.{arith}
 use lib.ListN.{length, getD, set, length-set}
 use lib.Seq.{getD-set-same, getD-set-other}
-use Rattle.octets.specs.Bytes.{AreBytes, part}
+use Rattle.octets.specs.Bytes.{part}
 use Rattle.exact.specs.Reads.{got, refused}
 use Rattle.resource.specs.Level.{levels}
 use Rattle.resource.specs.Pattern.{endsDeep}
 use Rattle.resource.specs.Text.{levelsOf}
-use Rattle.descriptor.specs.declared.Fields.{Fields}
-use Rattle.descriptor.specs.declared.Reading.{Reading}
-use Rattle.descriptor.specs.declared.Reading.the-variants as reading
-use Rattle.descriptor.specs.Model.{Grant}
-use Rattle.descriptor.specs.Reader.{GrantSeen, grantAt, Seen, Answer, read, structure, validity, readOf}
-use Rattle.descriptor.specs.View.{grantsView}
-use Rattle.descriptor.specs.Answer.{readingOf}
+use Rattle.descriptor.specs.Reader.{GrantSeen, grantAt}
 use Rattle.descriptor.proofs.GrantBounds.{pattern-room}
-use Rattle.descriptor_laws.proofs.Laws.{reads-exactly}
 use Rattle.narrowing.specs.declared.search.Found.the-variants.{Nothing}
 use Rattle.narrowing.specs.Range.{textRange, marked}
 use Rattle.narrowing.specs.Scan.{notedAt, rowStart, rowEnd, rowMask, rowLevels, notedRows, InPlace, Filled, lowestFrom, lowestIn, zeros, escapeIn, EscapeOf}
@@ -189,27 +182,3 @@ module _ (s t : List ℕ) (n : ℕ) (own : Bool) (p : List ℕ) (mask : ℕ) (d 
   pub escape-flat : deep ≡ false → EscapeOf s t n own p mask (lowestFrom d mask 0 1 0 4)
   unfolding lowestIn
   escape-flat g = subst (λ (b : Bool). EscapeOf s t n own p mask (lowestIn b d mask)) g escape-told
-
--- ---- how many grants there are
-
--- at most 256 where a descriptor was read
-abbrev Few : Reading → Type 0
-Few (reading.Read v) = v .grants ≤ 256
-Few reading.Structure = Unit {0}
-Few reading.Validity = Unit {0}
-
--- as many as there are are seen
-view-few : (at : ℕ) (gs : List Grant) → length gs ≤ 256 → grantsView at gs .count ≤ 256
-view-few at [] h = omega arith
-view-few at (g ∷ gs) h = h
-
-few-read : (s : List ℕ) → AreBytes s → (a : Answer) → readOf s ≡ a → Few (readingOf a)
-few-read s b (read x) e =
-    let r = reads-exactly s b x .0 e in
-    subst (λ (y : Seen). y .payload .opening .grants .count ≤ 256) (sym (r .3)) (view-few _ (r .0 .payload .grants) (r .1 .formed .payload .most))
-few-read s b structure e = tt
-few-read s b validity e = tt
-
--- a descriptor that reads has at most 256 grants
-pub grants-few : (s : List ℕ) (v : Fields) → AreBytes s → reading.Read v ≡ readingOf (readOf s) → v .grants ≤ 256
-grants-few s v b e = subst Few (sym e) (few-read s b (readOf s) refl)

@@ -14,9 +14,7 @@ use Rattle.descriptor.specs.Reader.{Seen, Answer, read, structure, validity, re
 use Rattle.descriptor.specs.Numbers.{numberOf}
 use Rattle.descriptor.specs.View.{descriptorView}
 use Rattle.descriptor.specs.Answer.{fieldsOf, readingOf}
-use Rattle.descriptor_laws.proofs.Laws.{reads-exactly}
-use Rattle.descriptor_laws.proofs.grants.MaskLaws.{grants-union}
-use Rattle.descriptor_laws.proofs.places.PlaceLaws.{id-part}
+use Rattle.descriptor_laws.proofs.Laws.{reads-exactly, seen-handed}
 use Rattle.image.specs.Layout.{idSize}
 use Rattle.image.specs.Image.{reading, isRead, idOf, modesOf}
 use Rattle.image.specs.Promises.{RowOfBody, answerOf}
@@ -39,8 +37,8 @@ seen-row : (b : List ℕ) (v : Seen) (d : Descriptor) → Formed d → readOf b 
 unfolding reading
 seen-row b v d q e i j =
     let r = ap readingOf e in (
-      id-read b (fieldsOf v) r ∙ ap₂ (λ (x : List ℕ) (u : Seen). part x (u .payload .closing .id) idSize) i j ∙ id-part d q,
-      modes-read b (fieldsOf v) r ∙ ap (λ (u : Seen). u .payload .opening .grants .sum .mask) j ∙ grants-union _ (d .payload .grants) (q .payload .grants),
+      id-read b (fieldsOf v) r ∙ ap₂ (λ (x : List ℕ) (u : Seen). part x (u .payload .closing .id) idSize) i j ∙ seen-handed d q .id,
+      modes-read b (fieldsOf v) r ∙ ap (λ (u : Seen). u .payload .opening .grants .sum .mask) j ∙ seen-handed d q .mask,
     )
 
 -- `BodyRead`.

@@ -2,26 +2,21 @@
 use mathlib.Core.Path.{_≡_, refl, sym, ap, ap₂, _∙_}
 use mathlib.Core.Bool.{Bool, true, false, cond, _&&_, and-comm, and-false}
 use mathlib.Core.List.{List, [], _∷_}
-use Prim.Native.Nat.{ℕ, suc, _+_, _-_, _<_}
-use native.Mathlib.Numerals.{add-one}
-use native.Mathlib.Nat.{add-zero}
-use lib.ListN.{length, take, drop}
+use Prim.Native.Nat.{ℕ, suc, _+_, _<_}
+use lib.ListN.{take, drop}
 use lib.Dec.{eqb}
-use Rattle.octets.specs.Bytes.{AreBytes, part, same as sameBytes}
+use Rattle.octets.specs.Bytes.{AreBytes, same as sameBytes}
 use Rattle.exact.specs.Reads.{got}
 use Rattle.resource.specs.Pattern.{admits}
 use Rattle.resource.specs.Text.{resourceOk, pathOf, patternOf, levelsMatch}
 use Rattle.descriptor.specs.Model.{Grant, Descriptor, pairCount, encode}
-use Rattle.descriptor.specs.Allowed.{isIn, GrantOk, All, Formed}
-use Rattle.descriptor.specs.Reader.{GrantSeen, grantAt}
-use Rattle.descriptor.specs.View.{maskOf, grantView, descriptorView, grantPlace}
+use Rattle.descriptor.specs.Allowed.{isIn, GrantOk, Formed}
+use Rattle.descriptor.specs.Reader.{hasMode, GrantSeen, grantAt}
+use Rattle.descriptor.specs.View.{maskOf, descriptorView}
 use Rattle.descriptor.specs.Answer.{fieldsOf}
-use Rattle.descriptor_laws.proofs.values.ModeLaws.{mask-exact}
-use Rattle.descriptor_laws.proofs.grants.GrantsLaws.{OwnedBy}
-use Rattle.descriptor_laws.proofs.grants.WalkLaws.{dropped, count-of, pairs-of}
-use Rattle.descriptor_laws.proofs.grants.LevelLaws.{same-agree, part-below}
-use Rattle.descriptor_laws.proofs.places.PlaceLaws.{terminal-part}
-use Rattle.descriptor_laws.proofs.Laws.{grants-walk}
+use Rattle.descriptor_laws.specs.Laws.{SeenAs, InTurn, no-more, one-more}
+use Rattle.descriptor_laws.proofs.grants.LevelLaws.{same-agree}
+use Rattle.descriptor_laws.proofs.Laws.{seen-handed, mask-exactly, grants-in-turn}
 use Rattle.request.specs.declared.search.Matched.{Matched}
 use Rattle.request.specs.declared.search.Matched.the-variants.{Nothing}
 use Rattle.request.specs.Decision.{serves, orNext, firstFrom, matchedOn}
@@ -31,29 +26,29 @@ use Rattle.request.proofs.MatchLaws.{admits-text}
 
 -- ---- one grant
 
--- An allowed grant that is seen in b serves a resource id of its terminal exactly where the grant itself serves.
-serves-agree : (b r : List ℕ) (m at : ℕ) (g : Grant) → GrantOk g → resourceOk r ≡ true → m < 4 → sameBytes (take 45 (g .pattern)) (take 45 r) ≡ true
-    → part b (grantView at g .pattern .start) (grantView at g .pattern .len) ≡ g .pattern
-    → serves b (drop 46 r) m (grantView at g) ≡ grantServes g m (pathOf r)
+-- The pattern of a grant matches a resource id exactly where the first 45 bytes are the same and the levels below match.
+grant-admits : (r : List ℕ) (g : Grant) (c : Bool) → GrantOk g → resourceOk r ≡ true → sameBytes (take 45 (g .pattern)) (take 45 r) ≡ c
+    → admits (patternOf (g .pattern)) (pathOf r) ≡ (c && levelsMatch (drop 46 (g .pattern)) (drop 46 r))
+grant-admits r g c o w t =
+    admits-text (g .pattern) r (o .pattern) w
+    ∙ ap (λ (c : Bool). c && levelsMatch (drop 46 (g .pattern)) (drop 46 r)) (sym (same-agree (take 45 (g .pattern)) (take 45 r)) ∙ t)
+
+-- A grant that is seen in b serves a resource id of its terminal exactly where the grant itself serves.
+serves-agree : (b t r : List ℕ) (m : ℕ) (g : Grant) (v : GrantSeen) → SeenAs b t g v → resourceOk r ≡ true → m < 4 → sameBytes t (take 45 r) ≡ true
+    → serves b (drop 46 r) m v ≡ grantServes g m (pathOf r)
 unfolding serves
-serves-agree b r m at g o w h t e =
-    let v : GrantSeen = grantView at g in
+serves-agree b t r m g v f w h s =
     let few : Bool = eqb (pairCount (g .constraints)) 0 in
-    let below : levelsMatch (part b (v .pattern .start + 46) (v .pattern .len - 46)) (drop 46 r) ≡ levelsMatch (drop 46 (g .pattern)) (drop 46 r)
-    = ap (λ (x : List ℕ). levelsMatch x (drop 46 r)) (part-below b (v .pattern .start) (v .pattern .len) ∙ ap (drop 46) e) in
-    let whole : admits (patternOf (g .pattern)) (pathOf r) ≡ levelsMatch (drop 46 (g .pattern)) (drop 46 r)
-    = admits-text (g .pattern) r (o .pattern) w
-    ∙ ap (λ (c : Bool). c && levelsMatch (drop 46 (g .pattern)) (drop 46 r)) (sym (same-agree (take 45 (g .pattern)) (take 45 r)) ∙ t) in
-    ap₂ _&&_ (mask-exact (g .modes) (o .modes) .1 m h)
-    (ap₂ _&&_ (ap (λ (n : ℕ). eqb n 0) (pairs-of (g .constraints))) (below ∙ sym whole) ∙ and-comm few (admits (patternOf (g .pattern)) (pathOf r)))
+    let whole = grant-admits r g true (f .allowed) w (ap (λ (x : List ℕ). sameBytes x (take 45 r)) (f .own) ∙ s) in
+    ap₂ _&&_ (ap (λ (x : ℕ). hasMode x m) (f .mask) ∙ mask-exactly g (f .allowed) .1 m h)
+    (ap₂ _&&_ (ap (λ (n : ℕ). eqb n 0) (f .pairs)) (ap (λ (x : List ℕ). levelsMatch x (drop 46 r)) (f .below) ∙ sym whole)
+    ∙ and-comm few (admits (patternOf (g .pattern)) (pathOf r)))
 
 -- A grant of another terminal does not serve.
-other-serves : (r : List ℕ) (m : ℕ) (g : Grant) → GrantOk g → resourceOk r ≡ true → sameBytes (take 45 (g .pattern)) (take 45 r) ≡ false
+other-serves : (b t r : List ℕ) (m : ℕ) (g : Grant) (v : GrantSeen) → SeenAs b t g v → resourceOk r ≡ true → sameBytes t (take 45 r) ≡ false
     → grantServes g m (pathOf r) ≡ false
-other-serves r m g o w t =
-    let whole : admits (patternOf (g .pattern)) (pathOf r) ≡ false
-    = admits-text (g .pattern) r (o .pattern) w
-    ∙ ap (λ (c : Bool). c && levelsMatch (drop 46 (g .pattern)) (drop 46 r)) (sym (same-agree (take 45 (g .pattern)) (take 45 r)) ∙ t) in
+other-serves b t r m g v f w s =
+    let whole = grant-admits r g false (f .allowed) w (ap (λ (x : List ℕ). sameBytes x (take 45 r)) (f .own) ∙ s) in
     ap (λ (c : Bool). isIn m (g .modes) && (c && eqb (pairCount (g .constraints)) 0)) whole ∙ and-false (isIn m (g .modes))
 
 -- ---- all grants
@@ -64,50 +59,36 @@ first-step : (b r : List ℕ) (m n at next i : ℕ) (v : GrantSeen) → grantAt 
 unfolding firstFrom
 first-step b r m n at next i v e = rw (firstFrom, e)
 
--- For a resource id of the terminal t, the search from the i-th grant on finds the first that serves of the grants from the i-th on.
-first-from : (d : Descriptor) (t r : List ℕ) (m : ℕ) → AreBytes (encode d) → Formed d → resourceOk r ≡ true → m < 4 → sameBytes t (take 45 r) ≡ true
-    → (hs : List Grant) (i : ℕ) → drop i (d .payload .grants) ≡ hs → All GrantOk hs → OwnedBy t hs
-    → firstFrom (encode d) (drop 46 r) m (length hs) (grantPlace d i) i ≡ firstServing hs m (pathOf r) i
-unfolding firstFrom
-first-from d t r m b q w h s [] i e a o = refl
-first-from d t r m b q w h s (g ∷ hs) i e a o =
-    let l = dropped (d .payload .grants) i g hs e in
-    let k = grants-walk d b q i g (l .0) (l .1) in
-    let own : sameBytes (take 45 (g .pattern)) (take 45 r) ≡ true = ap (λ (x : List ℕ). sameBytes x (take 45 r)) (o .0) ∙ s in
-    first-step (encode d) (drop 46 r) m (length hs) (grantPlace d i) (grantPlace d (i + 1)) i (grantView (grantPlace d i) g) (k .0)
-    ∙ ap₂ (λ (c : Bool) (x : Matched). orNext c i (maskOf (g .modes)) x) (serves-agree (encode d) r m (grantPlace d i) g (a .0) w h own (k .1))
-    (first-from d t r m b q w h s hs (i + 1) (rw add-one (l .2)) (a .1) (o .1))
+module _ (b t r : List ℕ) (m : ℕ) (w : resourceOk r ≡ true) where
+  -- For a resource id of the terminal t, the search finds the first that serves of the grants that are read in turn.
+  first-from : m < 4 → sameBytes t (take 45 r) ≡ true → {n at : ℕ} {gs : List Grant} → InTurn b t n at gs → (i : ℕ)
+      → firstFrom b (drop 46 r) m n at i ≡ firstServing gs m (pathOf r) i
+  unfolding firstFrom
+  first-from h s (no-more at) i = refl
+  first-from h s (one-more n at next v g gs e f rest) i =
+      first-step b (drop 46 r) m n at next i v e
+      ∙ ap₂ (λ (c : Bool) (k : ℕ). orNext c i k (firstFrom b (drop 46 r) m n next (i + 1))) (serves-agree b t r m g v f w h s) (f .mask)
+      ∙ ap (orNext (grantServes g m (pathOf r)) i (maskOf (g .modes))) (first-from h s rest (i + 1))
 
--- For a resource id of another terminal no grant serves.
-first-none : (t r : List ℕ) (m : ℕ) → resourceOk r ≡ true → sameBytes t (take 45 r) ≡ false
-    → (hs : List Grant) (i : ℕ) → All GrantOk hs → OwnedBy t hs → firstServing hs m (pathOf r) i ≡ Nothing
-first-none t r m w s [] i a o = refl
-first-none t r m w s (g ∷ hs) i a o =
-    let other : sameBytes (take 45 (g .pattern)) (take 45 r) ≡ false = ap (λ (x : List ℕ). sameBytes x (take 45 r)) (o .0) ∙ s in
-    ap (λ (c : Bool). orNext c i (maskOf (g .modes)) (firstServing hs m (pathOf r) (i + 1))) (other-serves r m g (a .0) w other)
-    ∙ first-none t r m w s hs (i + 1) (a .1) (o .1)
+  -- For a resource id of another terminal no grant serves.
+  first-none : sameBytes t (take 45 r) ≡ false → {n at : ℕ} {gs : List Grant} → InTurn b t n at gs → (i : ℕ) → firstServing gs m (pathOf r) i ≡ Nothing
+  first-none s (no-more at) i = refl
+  first-none s (one-more n at next v g gs e f rest) i =
+      ap (λ (c : Bool). orNext c i (maskOf (g .modes)) (firstServing gs m (pathOf r) (i + 1))) (other-serves b t r m g v f w s) ∙ first-none s rest (i + 1)
 
 -- The first grant that serves in the encoding of a formed descriptor is the first of its grants that serves.
 pub matched-agree : (d : Descriptor) (r : List ℕ) (m : ℕ) → AreBytes (encode d) → Formed d → resourceOk r ≡ true → m < 4
     → matchedOn (encode d) (fieldsOf (descriptorView 0 d)) r m ≡ firstServing (d .payload .grants) m (pathOf r) 0
 unfolding matchedOn
 matched-agree d r m b q w h =
-    ap (λ (x : List ℕ). cond (sameBytes x (take 45 r)) found Nothing) (terminal-part d q) ∙ go (sameBytes t (take 45 r)) refl
+    ap (λ (x : List ℕ). cond (sameBytes x (take 45 r)) found Nothing) (seen-handed d q .terminal) ∙ go (sameBytes t (take 45 r)) refl
   where
     t : List ℕ
     t = d .payload .terminal
 
-    gs : List Grant
-    gs = d .payload .grants
-
-    first : ℕ
-    first = descriptorView 0 d .payload .opening .grants .start
-
     found : Matched
-    found = firstFrom (encode d) (drop 46 r) m (descriptorView 0 d .payload .opening .grants .count) first 0
+    found = firstFrom (encode d) (drop 46 r) m (descriptorView 0 d .payload .opening .grants .count) (descriptorView 0 d .payload .opening .grants .start) 0
 
-    go : (c : Bool) → sameBytes t (take 45 r) ≡ c → cond c found Nothing ≡ firstServing gs m (pathOf r) 0
-    go true s =
-        ap₂ (λ (n at : ℕ). firstFrom (encode d) (drop 46 r) m n at 0) (count-of _ gs) (sym (add-zero first))
-        ∙ first-from d t r m b q w h s gs 0 refl (q .payload .grants) (q .payload .own)
-    go false s = sym (first-none t r m w s gs 0 (q .payload .grants) (q .payload .own))
+    go : (c : Bool) → sameBytes t (take 45 r) ≡ c → cond c found Nothing ≡ firstServing (d .payload .grants) m (pathOf r) 0
+    go true s = first-from (encode d) t r m w h s (grants-in-turn d b q) 0
+    go false s = sym (first-none (encode d) t r m w s (grants-in-turn d b q) 0)

@@ -18,7 +18,7 @@ use Rattle.descriptor.specs.Model.{Descriptor, encode}
 use Rattle.descriptor.specs.Allowed.{Formed, Allowed}
 use Rattle.descriptor.specs.View.{descriptorView}
 use Rattle.descriptor.specs.Answer.{fieldsOf, readingOf}
-use Rattle.descriptor_laws.proofs.Laws.{reads-exactly}
+use Rattle.descriptor_laws.proofs.Laws.{reads-exactly, seen-handed}
 use Rattle.steps.specs.Key.{isVerdict}
 use Rattle.image.specs.Layout.{idSize}
 use Rattle.image.specs.Image.{reading, Holds, bodyWith}
@@ -28,7 +28,6 @@ use Rattle.request.specs.Decision.{Facts, factsOf, matchedOn, decisionOf
 use Rattle.request.specs.Meaning.{firstServing, factsOfDescriptor, decidedFor}
 use Rattle.request.proofs.StepLaws.{decidedBy}
 use Rattle.request.proofs.HeldLaws.{isWell, malformed-first, decided-on-body}
-use Rattle.descriptor_laws.proofs.places.PlaceLaws.{terminal-part, fay-part}
 use Rattle.request.proofs.GrantLaws.{matched-agree}
 
 -- What well-formed arguments say of the mode and the resource id.
@@ -56,7 +55,7 @@ reading-encode d b o = ap readingOf (reads-exactly (encode d) b (descriptorView 
 -- The facts that are read of the encoding of a formed descriptor are the descriptor's.
 facts-agree : (d : Descriptor) → Formed d → factsOf (encode d) (fieldsOf (descriptorView 0 d)) ≡ factsOfDescriptor d
 facts-agree d q =
-    ap₂ (λ (f t : List ℕ). record { before = d .payload .notBefore; after = d .payload .notAfter; fay = f; terminal = t }) (fay-part d q) (terminal-part d q)
+    ap₂ (λ (f t : List ℕ). record { before = d .payload .notBefore; after = d .payload .notAfter; fay = f; terminal = t }) (seen-handed d q .fay) (seen-handed d q .terminal)
 
 -- A request for a descriptor that a sound image holds is decided on that descriptor, with the meaning of matching.
 pub decided-on-descriptor : (s : List ℕ) (q : Asked) (bs : List (List ℕ)) (d : Descriptor) → Holds s bs → AreBytes (encode d) → Allowed d

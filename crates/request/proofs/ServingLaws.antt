@@ -11,7 +11,7 @@ use Rattle.descriptor.specs.Model.{Grant}
 use Rattle.descriptor.specs.Allowed.{GrantOk, All}
 use Rattle.descriptor.specs.Modes.{unionOf}
 use Rattle.descriptor.specs.View.{maskOf}
-use Rattle.descriptor_laws.proofs.grants.MaskLaws.{modes-union}
+use Rattle.descriptor_laws.proofs.Laws.{mask-exactly}
 use Rattle.request.specs.declared.search.Matched.the-variants.{IsAt}
 use Rattle.request.specs.Decision.{isMatched, orNext}
 use Rattle.request.specs.Meaning.{firstServing}
@@ -39,7 +39,7 @@ found-first (g ∷ gs) m x i a e = go (grantServes g m x) e (found-first gs m x 
         → (someServes gs m x ≡ true → firstServing gs m x (i + 1) ≡ IsAt ((i + 1) + firstPlace gs m x) (firstMask gs m x))
         → orNext b i (maskOf (g .modes)) (firstServing gs m x (i + 1))
         ≡ IsAt (i + cond b 0 (firstPlace gs m x + 1)) (cond b (unionOf (g ∷ [])) (firstMask gs m x))
-    go true f k = let z : i ≡ i + 0 = omega arith in rw (← z, modes-union g (a .0))
+    go true f k = let z : i ≡ i + 0 = omega arith in rw (← z, mask-exactly g (a .0) .0)
     go false f k =
         let z : (i + 1) + firstPlace gs m x ≡ i + (firstPlace gs m x + 1) = omega arith in
         k f ∙ ap (λ (p : ℕ). IsAt p (firstMask gs m x)) z

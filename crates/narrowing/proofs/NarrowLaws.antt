@@ -21,15 +21,15 @@ use Rattle.descriptor_laws.proofs.Laws.{reads-exactly}
 use Rattle.narrowing.specs.declared.Narrowing.{Narrowing}
 use Rattle.narrowing.specs.declared.Narrowing.the-variants.{Accepted, NoParent, Structure, Validity, Constrained, Period, NotCovered}
 use Rattle.narrowing.specs.Meaning.{grantAdmits, anyAdmits, Admits}
-use Rattle.narrowing.specs.Escape.{Rule, firstRule, witnessPath}
-use Rattle.narrowing.specs.Narrow.{rulesIn, unconstrained, periodWithin, answerAt, compared, underParent, narrow}
+use Rattle.narrowing.specs.Escape.{witnessPath}
+use Rattle.narrowing.specs.Narrow.{rulesIn, unconstrained, underParent, narrow}
 use Rattle.narrowing.specs.Promises.{Reads, PeriodInside, grantOf, FirstEscape, Inside}
 use Rattle.narrowing.specs.Laws.{rulesOf, Attained}
 use Rattle.narrowing.proofs.CoveredLaws.{contra, true-of, or-left, witness-path, witness-admitted}
 use Rattle.narrowing.proofs.RuleLaws.{pattern-of, admitting, admitted-by}
 use Rattle.narrowing.proofs.ReadLaws.{rules-in, pairs-none}
 use Rattle.narrowing.proofs.NumberLaws.{number}
-use Rattle.narrowing.proofs.OrderLaws.{compared-as, goes-on}
+use Rattle.narrowing.proofs.OrderLaws.{goes-on, both-as, read-as}
 use Rattle.narrowing.proofs.EscapeLaws.{grants-ok, byGrants, Says, grants-say, grants-escape}
 
 -- ---- answers
@@ -42,50 +42,41 @@ chosen false x y d e = absurd (d e)
 -- ---- what the bytes come to
 
 -- bytes of a descriptor are read as it
-read-as : (s : List ℕ) (d : Descriptor) → Reads s d → readOf s ≡ read (descriptorView 0 d)
-read-as s d r = reads-exactly s (r .bytes) (descriptorView 0 d) .1 (d, r .allowed, r .encoded, refl)
+seen-as : (s : List ℕ) (d : Descriptor) → Reads s d → readOf s ≡ read (descriptorView 0 d)
+seen-as s d r = read-as s d (r .bytes) (r .allowed) (r .encoded)
 
 -- the rules read from them are those of its grants
 rules-as : (s : List ℕ) (d : Descriptor) → Reads s d → rulesIn s (descriptorView 0 d) ≡ rulesOf (d .payload .grants)
 rules-as s d r = ap (λ (u : List ℕ). rulesIn u (descriptorView 0 d)) (r .encoded) ∙ rules-in d (subst AreBytes (r .encoded) (r .bytes)) (r .allowed .formed)
 
--- the answer for two that are read and have no pair
-plain-as : (s : List ℕ) (v : Seen) (t : List ℕ) (w : Seen) (qs cs : List Rule) → unconstrained v ≡ true → unconstrained w ≡ true
-    → rulesIn s v ≡ qs → rulesIn t w ≡ cs → compared s v t w ≡ cond (periodWithin v w) (answerAt qs cs (firstRule qs cs)) Period
-plain-as s v t w qs cs a b e f = compared-as s v t w ∙ rw (a, b, e, f)
+-- they have no pair
+plain-as : (s : List ℕ) (d : Descriptor) → Reads s d → unconstrained (descriptorView 0 d) ≡ true
+plain-as s d r = pairs-none d (r .allowed .formed) .1 (r .plain)
 
 -- the period of the child lies within that of the parent
 abbrev within : Descriptor → Descriptor → Bool
 within p c = leb (p .payload .notBefore) (c .payload .notBefore) && leb (c .payload .notAfter) (p .payload .notAfter)
 
--- with the parent read, the child decides
-under-as : (s t : List ℕ) (p : Descriptor) → Reads s p → narrow s t ≡ underParent s (descriptorView 0 p) t (readOf t)
-under-as s t p a = goes-on s t (descriptorView 0 p) (read-as s p a)
-
 -- the answer for two descriptors
 narrow-as : (s t : List ℕ) (p c : Descriptor) → Reads s p → Reads t c → narrow s t ≡ cond (within p c) (byGrants p c) Period
 narrow-as s t p c a b =
-    under-as s t p a
-    ∙ ap (underParent s (descriptorView 0 p) t) (read-as t c b)
-    ∙ plain-as s (descriptorView 0 p) t (descriptorView 0 c) (rulesOf (p .payload .grants)) (rulesOf (c .payload .grants))
-    (pairs-none p (a .allowed .formed) .1 (a .plain)) (pairs-none c (b .allowed .formed) .1 (b .plain)) (rules-as s p a) (rules-as t c b)
-
--- a child that is accepted under a parent has no pair
-no-pairs : (s : List ℕ) (v : Seen) (t : List ℕ) (w : Seen) → compared s v t w ≡ Accepted → unconstrained w ≡ true
-no-pairs s v t w e =
-    and-right (unconstrained v) (unconstrained w)
-    (chosen (unconstrained v && unconstrained w) _ Constrained (λ h. absurd (omega (arith, number h))) (sym (compared-as s v t w) ∙ e) .0)
+    both-as s t (descriptorView 0 p) (descriptorView 0 c) (seen-as s p a) (seen-as t c b)
+    ∙ rw (plain-as s p a, plain-as t c b, rules-as s p a, rules-as t c b)
 
 -- a child that is accepted reads as a descriptor with no pair
 pub accepted-reads : (s t : List ℕ) (p : Descriptor) → Reads s p → AreBytes t → narrow s t ≡ Accepted → (d : Descriptor) × Reads t d
-accepted-reads s t p a b e = go (readOf t) refl (sym (under-as s t p a) ∙ e)
+accepted-reads s t p a b e = go (readOf t) refl (sym (goes-on s t v (seen-as s p a)) ∙ e)
   where
-    go : (r : Answer) → readOf t ≡ r → underParent s (descriptorView 0 p) t r ≡ Accepted → (d : Descriptor) × Reads t d
+    v : Seen
+    v = descriptorView 0 p
+
+    go : (r : Answer) → readOf t ≡ r → underParent s v t r ≡ Accepted → (d : Descriptor) × Reads t d
     go (read w) q h =
         let r = reads-exactly t b w .0 q in
-        let u : unconstrained (descriptorView 0 (r .0)) ≡ true
-        = subst (λ (v : Seen). unconstrained v ≡ true) (r .3) (no-pairs s (descriptorView 0 p) t w h) in
-        (r .0, record { bytes = b; allowed = r .1; encoded = r .2; plain = pairs-none (r .0) (r .1 .formed) .0 u })
+        let u : (unconstrained v && unconstrained w) ≡ true
+        = chosen (unconstrained v && unconstrained w) _ Constrained (λ i. absurd (omega (arith, number i))) (sym (both-as s t v w (seen-as s p a) q) ∙ e) .0 in
+        let n = subst (λ (x : Seen). unconstrained x ≡ true) (r .3) (and-right (unconstrained v) (unconstrained w) u) in
+        (r .0, record { bytes = b; allowed = r .1; encoded = r .2; plain = pairs-none (r .0) (r .1 .formed) .0 n })
     go structure q h = absurd (omega (arith, number h))
     go validity q h = absurd (omega (arith, number h))
 

@@ -53,11 +53,6 @@ after s v t w = cond (periodWithin v w) (answerAt (rulesIn s v) (rulesIn t w) (f
 after-later : (s : List ℕ) (v : Seen) (t : List ℕ) (w : Seen) → Later (after s v t w)
 after-later s v t w = period-later (periodWithin v w) _ (grants-later (rulesIn s v) (rulesIn t w) (firstRule (rulesIn s v) (rulesIn t w)))
 
--- the constraints come before it
-pub compared-as : (s : List ℕ) (v : Seen) (t : List ℕ) (w : Seen) → compared s v t w ≡ cond (unconstrained v && unconstrained w) (after s v t w) Constrained
-unfolding compared
-compared-as s v t w = refl
-
 -- with the constraints, none of 1, 2 and 21 is answered
 with-constraints : (b : Bool) (n : Narrowing) → Later n
     → (cond b n Constrained ≡ Structure → ⊥) × (cond b n Constrained ≡ Validity → ⊥) × (cond b n Constrained ≡ NoParent → ⊥)
@@ -67,10 +62,8 @@ with-constraints false n l = (λ e. omega (arith, number e), λ e. omega (arith,
 -- so it is for two that read
 both-read : (s : List ℕ) (v : Seen) (t : List ℕ) (w : Seen)
     → (compared s v t w ≡ Structure → ⊥) × (compared s v t w ≡ Validity → ⊥) × (compared s v t w ≡ NoParent → ⊥)
-both-read s v t w =
-    let r = with-constraints (unconstrained v && unconstrained w) (after s v t w) (after-later s v t w) in
-    let e = compared-as s v t w in
-    (λ h. r .0 (sym e ∙ h), λ h. r .1 (sym e ∙ h), λ h. r .2 (sym e ∙ h))
+unfolding compared
+both-read s v t w = with-constraints (unconstrained v && unconstrained w) (after s v t w) (after-later s v t w)
 
 -- narrowing begins with the parent
 begins : (s t : List ℕ) → narrow s t ≡ withParent s (readOf s) t
@@ -80,6 +73,16 @@ begins s t = refl
 -- and goes on with the child
 pub goes-on : (s t : List ℕ) (v : Seen) → readOf s ≡ read v → narrow s t ≡ underParent s v t (readOf t)
 goes-on s t v e = begins s t ∙ ap (λ (r : Answer). withParent s r t) e
+
+-- two that read are compared: the constraints come first
+pub both-as : (s t : List ℕ) (v w : Seen) → readOf s ≡ read v → readOf t ≡ read w
+    → narrow s t ≡ cond (unconstrained v && unconstrained w) (after s v t w) Constrained
+unfolding compared
+both-as s t v w e f = goes-on s t v e ∙ ap (underParent s v t) f
+
+-- the encoding of an allowed descriptor is read as it
+pub read-as : (s : List ℕ) (d : Descriptor) → AreBytes s → Allowed d → s ≡ encode d → readOf s ≡ read (descriptorView 0 d)
+read-as s d b a e = reads-exactly s b (descriptorView 0 d) .1 (d, a, e, refl)
 
 -- 21 exactly when the parent doesn't read
 pub order-parent : (s t : List ℕ) → (narrow s t ≡ NoParent) ↔ ((v : Seen) → readOf s ≡ read v → ⊥)
@@ -131,10 +134,7 @@ order-constrained s t p c bs bt fp fc es et = (
     w = descriptorView 0 c
 
     e : narrow s t ≡ cond (unconstrained v && unconstrained w) (after s v t w) Constrained
-    e =
-        goes-on s t v (reads-exactly s bs v .1 (p, fp, es, refl))
-        ∙ ap (underParent s v t) (reads-exactly t bt w .1 (c, fc, et, refl))
-        ∙ compared-as s v t w
+    e = both-as s t v w (read-as s p bs fp es) (read-as t c bt fc et)
 
     go : (NoPairs (p .payload .grants) × NoPairs (c .payload .grants) → ⊥) → (b : Bool) → (unconstrained v && unconstrained w) ≡ b → (unconstrained v && unconstrained w) ≡ false
     go f true q = absurd (f (pairs-none p (fp .formed) .0 (and-left (unconstrained v) (unconstrained w) q), pairs-none c (fc .formed) .0 (and-right (unconstrained v) (unconstrained w) q)))

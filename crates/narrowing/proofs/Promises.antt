@@ -1,22 +1,23 @@
 -- The promises of specs/Promises.antt, proved: each is a law of the answers, told by their numbers. Assumes nothing.
+use Rattle.descriptor_laws.proofs.Laws.{answers-told}
 use Rattle.narrowing.specs.declared.Narrowing.the-variants.{Accepted, NoParent, Structure, Validity, Constrained, Period, NotCovered}
 use Rattle.narrowing.specs.Narrow.{narrow}
 use Rattle.narrowing.specs.Promises.{NoParentExactly, ChildExactly, ConstrainedExactly, PeriodExactly, EscapeExactly, AcceptedExactly, one, more, ChainInside}
-use Rattle.narrowing.proofs.NumberLaws.{numbers-tell, by-numbers, reads-zero, reads-one, reads-two}
+use Rattle.narrowing.proofs.NumberLaws.{numbers-tell, by-numbers}
 use Rattle.narrowing.proofs.OrderLaws.{order-parent, order-child, order-constrained}
 use Rattle.narrowing.proofs.NarrowLaws.{narrow-period, narrow-escape, narrow-accepted, accepted-reads}
 
 pub no-parent-exactly : NoParentExactly
 no-parent-exactly s t =
     let r = order-parent s t in
-    by-numbers (narrow s t) NoParent (λ h z. let v = reads-zero s .0 z in r .0 h (v .0) (v .1), λ f. r .1 (λ v e. f (reads-zero s .1 (v, e))))
+    by-numbers (narrow s t) NoParent (λ h z. let v = answers-told s .done .0 z in r .0 h (v .0) (v .1), λ f. r .1 (λ v e. f (answers-told s .done .1 (v, e))))
 
 pub child-exactly : ChildExactly
 child-exactly s t z =
-    let v = reads-zero s .0 z in
+    let v = answers-told s .done .0 z in
     let r = order-child s t (v .0) (v .1) in (
-      by-numbers (narrow s t) Structure (λ h. reads-one t .1 (r .0 .0 h), λ e. r .0 .1 (reads-one t .0 e)),
-      by-numbers (narrow s t) Validity (λ h. reads-two t .1 (r .1 .0 h), λ e. r .1 .1 (reads-two t .0 e)),
+      by-numbers (narrow s t) Structure (λ h. answers-told t .structure .1 (r .0 .0 h), λ e. r .0 .1 (answers-told t .structure .0 e)),
+      by-numbers (narrow s t) Validity (λ h. answers-told t .validity .1 (r .1 .0 h), λ e. r .1 .1 (answers-told t .validity .0 e)),
     )
 
 pub constrained-exactly : ConstrainedExactly

@@ -10,7 +10,7 @@ use borrow.Author.Tests.{ne-eqb}
 use Rattle.resource.specs.declared.Step.{Step}
 use Rattle.resource.specs.declared.Step.the-variants.{Differ, Finish, Next}
 use Rattle.resource.specs.Level.{same, isStar, isDeep, levels}
-use Rattle.resource.specs.Pattern.{Levels, done, deep}
+use Rattle.resource.specs.Pattern.{Levels, done, deep, name, star}
 use Rattle.resource.specs.Text.{withLevel, levelsOf}
 use Rattle.resource.specs.Scan.{starFirst, stepOf}
 use Rattle.resource.proofs.Flags.{by-cond, same-eq}
@@ -107,35 +107,29 @@ unfolding textRange
 front-cover l k {a} {b} h g e f d c =
     rw (front-spelled l h e d, front-spelled k g f c) (level-cover l k (levelsOf (tailLevels a)) (levelsOf (tailLevels b)))
 
+-- what holds of "**", of "*" before levels and of a name before levels holds of one or more levels
+some-levels : (P : Levels → Type 0) → P deep → ((q : Levels) → P (star q)) → ((n : List ℕ) (q : Levels) → P (name n q))
+    → (l : List ℕ) (ls : List (List ℕ)) → P (levelsOf (l ∷ ls))
+unfolding levelsOf
+some-levels P d s n l [] = go (isDeep l) (isStar l)
+  where
+    go : (t u : Bool) → P (elim t [ true ↦ deep | false ↦ withLevel u l done ])
+    go true u = d
+    go false true = s done
+    go false false = n l done
+some-levels P d s n l (k ∷ ls) = go (isStar l) (levelsOf (k ∷ ls))
+  where
+    go : (t : Bool) (q : Levels) → P (withLevel t l q)
+    go true q = s q
+    go false q = n l q
+
 -- no level against one or more
 none-some : (l : List ℕ) (ls : List (List ℕ)) → coverRange done (levelsOf (l ∷ ls)) ≡ range 0 0
-unfolding levelsOf
-none-some l [] = go (isDeep l) (isStar l)
-  where
-    go : (t u : Bool) → coverRange done (elim t [ true ↦ deep | false ↦ withLevel u l done ]) ≡ range 0 0
-    go true u = refl
-    go false true = refl
-    go false false = refl
-none-some l (k ∷ ls) = go (isStar l) (levelsOf (k ∷ ls))
-  where
-    go : (t : Bool) (q : Levels) → coverRange done (withLevel t l q) ≡ range 0 0
-    go true q = refl
-    go false q = refl
+none-some = some-levels (λ q. coverRange done q ≡ range 0 0) refl (λ q. refl) (λ n q. refl)
 
 -- one or more against none
 some-none : (l : List ℕ) (ls : List (List ℕ)) → coverRange (levelsOf (l ∷ ls)) done ≡ range 0 0
-unfolding levelsOf
-some-none l [] = go (isDeep l) (isStar l)
-  where
-    go : (t u : Bool) → coverRange (elim t [ true ↦ deep | false ↦ withLevel u l done ]) done ≡ range 0 0
-    go true u = refl
-    go false true = refl
-    go false false = refl
-some-none l (k ∷ ls) = go (isStar l) (levelsOf (k ∷ ls))
-  where
-    go : (t : Bool) (q : Levels) → coverRange (withLevel t l q) done ≡ range 0 0
-    go true q = refl
-    go false q = refl
+some-none = some-levels (λ q. coverRange q done ≡ range 0 0) refl (λ q. refl) (λ n q. refl)
 
 -- the levels after the first decide, and there are fewer of them
 pub record Goes (q p : List ℕ) (i j : ℕ) : Type 0 where
@@ -191,18 +185,7 @@ module _ (q p : List ℕ) (i j : ℕ) (g : Goes q p i j) where
 
 -- "**" covers whatever is left
 some-cover : (l : List ℕ) (ls : List (List ℕ)) → coverRange deep (levelsOf (l ∷ ls)) ≡ range 0 most
-unfolding levelsOf
-some-cover l [] = go (isDeep l) (isStar l)
-  where
-    go : (t u : Bool) → coverRange deep (elim t [ true ↦ deep | false ↦ withLevel u l done ]) ≡ range 0 most
-    go true u = refl
-    go false true = refl
-    go false false = refl
-some-cover l (k ∷ ls) = go (isStar l) (levelsOf (k ∷ ls))
-  where
-    go : (t : Bool) (q : Levels) → coverRange deep (withLevel t l q) ≡ range 0 most
-    go true q = refl
-    go false q = refl
+some-cover = some-levels (λ q. coverRange deep q ≡ range 0 most) refl (λ q. refl) (λ n q. refl)
 
 pub deep-told : (q p : List ℕ) → isDeep q ≡ true → textRange q p ≡ range 0 most
 unfolding textRange levels levelsOf same

@@ -2,14 +2,14 @@
 use mathlib.Core.Path.{_≡_, refl, sym, ap, _∙_}
 use mathlib.Core.Bool.{Bool, true, false, cond, _&&_, _||_, and-false}
 use mathlib.Core.List.{List, [], _∷_}
-use Prim.Native.Nat.{ℕ, zero, suc, _+_, _/_, _%_, _^_, _≤_, _<_, min, max}
-use native.Mathlib.Nat.{add-zero, zero-add, mod-lt, zero-lt-suc}
+use Prim.Native.Nat.{ℕ, zero, suc, _+_, _≤_, _<_}
+use native.Mathlib.Nat.{add-zero, zero-add}
 use native.Mathlib.Omega.{arith}
 use borrow.Author.Tests.{lt-ltb, le-ltb, le-leb, lt-leb}
 use lib.ListN.{length, getD}
 use lib.Dec.{eqb, leb}
-use lib.Arith.{digits-mod}
-use lib.Bits.{bitAnd, bitOr, and-step, or-step, and-shr, or-shr}
+use lib.Bits.{bitAnd, bitOr}
+use Rattle.octets.proofs.BitLaws.{or-bit, and-bit}
 use Rattle.resource.specs.Level.{same}
 use Rattle.resource.specs.Pattern.{Levels, done, deep, name, star}
 use Rattle.resource.specs.Cover.{matchesFresh, covers}
@@ -112,50 +112,12 @@ pub marked-at : (d : List ℕ) (r : Range) (mask k : ℕ) → k < length d
     → getD (marked 0 d r mask) k 0 ≡ cond (inRange r k) (bitOr (getD d k 0) mask) (getD d k 0)
 marked-at d r mask k h = rw (zero-add k) at (marked-from 0 d r mask k h)
 
--- the greater of two digits is 1 exactly when one of them is
-or-digit : (x y : ℕ) → x < 2 → y < 2 → eqb (max x y) 1 ≡ (eqb x 1 || eqb y 1)
-or-digit zero zero a b = refl
-or-digit zero (suc zero) a b = refl
-or-digit (suc zero) zero a b = refl
-or-digit (suc zero) (suc zero) a b = refl
-or-digit zero (suc (suc y)) a b = absurd (omega arith)
-or-digit (suc zero) (suc (suc y)) a b = absurd (omega arith)
-or-digit (suc (suc x)) y a b = absurd (omega arith)
-
--- the last digit of two numbers joined
-or-odd : (a b : ℕ) → bitOr a b % 2 ≡ max (a % 2) (b % 2)
-or-odd a b =
-    let x : a % 2 < 2 = mod-lt a (zero-lt-suc 1) in
-    let y : b % 2 < 2 = mod-lt b (zero-lt-suc 1) in
-    ap (λ (n : ℕ). n % 2) (or-step a b) ∙ digits-mod (bitOr (a / 2) (b / 2)) {m = 2} (omega arith)
-
 -- a mask joined of two has exactly the modes of both
 pub or-mode : (a b m : ℕ) → hasMode (bitOr a b) m ≡ (hasMode a m || hasMode b m)
 unfolding hasMode
-or-mode a b m =
-    ap (λ (x : ℕ). eqb (x % 2) 1) (or-shr a b m) ∙ ap (λ (x : ℕ). eqb x 1) (or-odd (a / 2 ^ m) (b / 2 ^ m))
-    ∙ or-digit (a / 2 ^ m % 2) (b / 2 ^ m % 2) (mod-lt (a / 2 ^ m) (zero-lt-suc 1)) (mod-lt (b / 2 ^ m) (zero-lt-suc 1))
-
--- the lesser of two digits is 1 exactly when both are
-and-digit : (x y : ℕ) → x < 2 → y < 2 → eqb (min x y) 1 ≡ (eqb x 1 && eqb y 1)
-and-digit zero zero a b = refl
-and-digit zero (suc zero) a b = refl
-and-digit (suc zero) zero a b = refl
-and-digit (suc zero) (suc zero) a b = refl
-and-digit zero (suc (suc y)) a b = absurd (omega arith)
-and-digit (suc zero) (suc (suc y)) a b = absurd (omega arith)
-and-digit (suc (suc x)) y a b = absurd (omega arith)
-
--- the last digit of what two numbers have in common
-and-odd : (a b : ℕ) → bitAnd a b % 2 ≡ min (a % 2) (b % 2)
-and-odd a b =
-    let x : a % 2 < 2 = mod-lt a (zero-lt-suc 1) in
-    let y : b % 2 < 2 = mod-lt b (zero-lt-suc 1) in
-    ap (λ (n : ℕ). n % 2) (and-step a b) ∙ digits-mod (bitAnd (a / 2) (b / 2)) {m = 2} (omega arith)
+or-mode = or-bit
 
 -- what two masks have in common has exactly the modes that both have
 pub and-mode : (a b m : ℕ) → hasMode (bitAnd a b) m ≡ (hasMode a m && hasMode b m)
 unfolding hasMode
-and-mode a b m =
-    ap (λ (x : ℕ). eqb (x % 2) 1) (and-shr a b m) ∙ ap (λ (x : ℕ). eqb x 1) (and-odd (a / 2 ^ m) (b / 2 ^ m))
-    ∙ and-digit (a / 2 ^ m % 2) (b / 2 ^ m % 2) (mod-lt (a / 2 ^ m) (zero-lt-suc 1)) (mod-lt (b / 2 ^ m) (zero-lt-suc 1))
+and-mode = and-bit

@@ -3,3 +3,4 @@ pub mod BytesLaws
 pub mod SameLaws
 pub mod OverLaws
 pub mod NumberLaws
+pub mod BitLaws

@@ -6,6 +6,7 @@ use Prim.Native.Nat.{ℕ, _+_, _<_}
 use native.Mathlib.Omega.{arith}
 use lib.Bits.{bitOr, or-lt}
 use lib.Dec.{T, eqb, eqb→eq}
+use Rattle.octets.proofs.BitLaws.{or-bit}
 use Rattle.descriptor.specs.Model.{Grant}
 use Rattle.descriptor.specs.Allowed.{isIn, GrantOk, All}
 use Rattle.descriptor.specs.Modes.{anyHas, bit, unionOf}
@@ -22,21 +23,9 @@ or-assoc false b c = refl
 -- ---- the union of two masks
 
 -- The union has a mode exactly where one of the two has it.
-unfoldable unites : ℕ → ℕ → ℕ → Bool
-unites a b m = Bool·beq (hasMode (bitOr a b) m) (hasMode a m || hasMode b m)
-
--- This holds for all masks below 16 and every mode.
-all-unite : T (allBelow 16 (λ a. allBelow 16 (λ b. allBelow 4 (λ m. unites a b m))))
-unfolding allBelow unites hasMode
-all-unite = tt
-
--- So it holds for two given masks and a mode.
-pub or-has : (a b m : ℕ) → a < 16 → b < 16 → m < 4 → hasMode (bitOr a b) m ≡ (hasMode a m || hasMode b m)
-unfolding unites
-or-has a b m i j k =
-    beq-eq (hasMode (bitOr a b) m) (hasMode a m || hasMode b m)
-    (all-below 4 (λ m. unites a b m)
-    (all-below 16 (λ b. allBelow 4 (λ m. unites a b m)) (all-below 16 (λ a. allBelow 16 (λ b. allBelow 4 (λ m. unites a b m))) all-unite a i) b j) m k)
+or-has : (a b m : ℕ) → hasMode (bitOr a b) m ≡ (hasMode a m || hasMode b m)
+unfolding hasMode
+or-has = or-bit
 
 -- ---- the mask of all grants
 
@@ -47,7 +36,7 @@ sum-has sum [] m h s a = sym (or-false (hasMode (sum .mask) m))
 sum-has sum (g ∷ gs) m h s a =
     let q = mask-exact (g .modes) (a .0 .modes) in
     sum-has _ gs m h (or-lt 4 (sum .mask) (maskOf (g .modes)) s (q .0)) (a .1)
-    ∙ ap (λ (t : Bool). t || anyHas m gs) (or-has (sum .mask) (maskOf (g .modes)) m s (q .0) h ∙ ap (λ (t : Bool). hasMode (sum .mask) m || t) (q .1 m h))
+    ∙ ap (λ (t : Bool). t || anyHas m gs) (or-has (sum .mask) (maskOf (g .modes)) m ∙ ap (λ (t : Bool). hasMode (sum .mask) m || t) (q .1 m h))
     ∙ sym (or-assoc (hasMode (sum .mask) m) (isIn m (g .modes)) (anyHas m gs))
 
 -- The union has no other bit.

@@ -68,12 +68,11 @@ TerminalFirst =
 -- reading the grant at that place gives the i-th grant, and the place of the next
 abbrev pub GrantsWalk : Type 0
 GrantsWalk = (d : Descriptor) → AreBytes (encode d) → Formed d → (i : ℕ) (g : Grant) → i < length (d .payload .grants) → getD (d .payload .grants) i g ≡ g
-    → (grantAt (encode d) (grantPlace d i) ≡ got (grantView (grantPlace d i) g) (grantPlace d (i + 1)))
-    × (part (encode d) (grantView (grantPlace d i) g .pattern .start) (grantView (grantPlace d i) g .pattern .len) ≡ g .pattern)
+    → grantAt (encode d) (grantPlace d i) ≡ got (grantView (grantPlace d i) g) (grantPlace d (i + 1))
 
 -- behind the last there is none
 abbrev pub GrantsEnd : Type 0
-GrantsEnd = (d : Descriptor) → AreBytes (encode d) → Formed d 
+GrantsEnd = (d : Descriptor) → AreBytes (encode d) → Formed d
     → grantNumbers (grantAt (encode d) (grantPlace d (length (d .payload .grants)))) ≡ noGrant
 
 -- v is what is seen in s of the allowed grant g of the terminal t: its mask, the number of its constraint pairs, its pattern, and the levels of that

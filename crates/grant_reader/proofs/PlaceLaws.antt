@@ -32,7 +32,7 @@ step-place : (d : Descriptor) → AreBytes (encode d) → Formed d → (i : ℕ)
     → placeAfter (encode d) (grantPlace d i) ≡ grantPlace d (i + 1)
 step-place d bs q i l =
     let g = nth-there (d .payload .grants) i l in
-    after-got (encode d) _ _ _ (sym (grants-walk d bs q i (g .0) l (g .1) .0))
+    after-got (encode d) _ _ _ (sym (grants-walk d bs q i (g .0) l (g .1)))
 
 -- from the i-th grant the walk is n grants later at the n-th after it
 from-place : (d : Descriptor) → AreBytes (encode d) → Formed d → (n i : ℕ) → i + n ≤ length (d .payload .grants)

@@ -7,7 +7,7 @@ use native.Mathlib.Nat.{add-zero, zero-add}
 use native.Mathlib.Omega.{arith}
 use borrow.Author.Tests.{lt-ltb, le-ltb, le-leb, lt-leb}
 use lib.ListN.{length, getD}
-use lib.Dec.{eqb, leb}
+use lib.Dec.{leb}
 use lib.Bits.{bitAnd, bitOr}
 use Rattle.octets.proofs.BitLaws.{or-bit, and-bit}
 use Rattle.resource.specs.Level.{same}

@@ -1,7 +1,7 @@
 -- The first grant that serves, found in the encoding of a descriptor, is the first of its grants that serves (specs/Meaning.antt). Assumes nothing.
 use mathlib.Core.Path.{_≡_, refl, sym, ap, ap₂, _∙_}
 use mathlib.Core.Bool.{Bool, true, false, cond, _&&_, and-comm, and-false}
-use mathlib.Core.List.{List, [], _∷_}
+use mathlib.Core.List.{List}
 use Prim.Native.Nat.{ℕ, suc, _+_, _<_}
 use lib.ListN.{take, drop}
 use lib.Dec.{eqb}

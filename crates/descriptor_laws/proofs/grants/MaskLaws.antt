@@ -1,6 +1,6 @@
 -- The mask that is read of a descriptor has a mode's bit exactly where a grant names the mode. Assumes nothing.
 use mathlib.Core.Path.{_≡_, refl, sym, ap, _∙_}
-use mathlib.Core.Bool.{Bool, true, false, _||_, or-false, Bool·beq}
+use mathlib.Core.Bool.{Bool, true, false, _||_, or-false}
 use mathlib.Core.List.{List, [], _∷_}
 use Prim.Native.Nat.{ℕ, _+_, _<_}
 use native.Mathlib.Omega.{arith}
@@ -13,7 +13,7 @@ use Rattle.descriptor.specs.Modes.{anyHas, bit, unionOf}
 use Rattle.descriptor.specs.Reader.{hasMode, Sum}
 use Rattle.descriptor.specs.View.{maskOf, sumFrom, grantsView}
 use Rattle.descriptor_laws.specs.Laws.{MaskExactly}
-use Rattle.descriptor_laws.proofs.values.ModeLaws.{allBelow, all-below, beq-eq, no-marks, mask-exact}
+use Rattle.descriptor_laws.proofs.values.ModeLaws.{allBelow, all-below, no-marks, mask-exact}
 
 -- One test before two others.
 or-assoc : (a b c : Bool) → (a || (b || c)) ≡ ((a || b) || c)

@@ -11,8 +11,7 @@ use Rattle.exact.specs.Reads.{encOpt, encAll}
 use Rattle.cbor_item.specs.Encoding.{head}
 use Rattle.octets.proofs.BytesLaws.{has-left, has-right, has-clash}
 use Rattle.descriptor.specs.Keys.{kMetadata, kIssuedAt}
-use Rattle.descriptor.specs.Model.{Pair, Grant, Descriptor, size, encPairs, encGrant, encode}
-use Rattle.descriptor.specs.Allowed.{Formed}
+use Rattle.descriptor.specs.Model.{Pair, Grant, size, encPairs, encGrant, encode}
 use Rattle.descriptor.specs.View.{descriptorView, grantPlace}
 use Rattle.descriptor_laws.specs.Laws.{GrantsEnd}
 use Rattle.descriptor_laws.proofs.places.SeenLaws.{behindGrants, grants-here}

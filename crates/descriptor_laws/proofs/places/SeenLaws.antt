@@ -8,7 +8,7 @@ use lib.ListN.{length, take, getD, length-append}
 use Rattle.octets.specs.Bytes.{Has}
 use Rattle.exact.specs.Reads.{got, encOpt, encAll}
 use Rattle.cbor_item.specs.Encoding.{head}
-use Rattle.octets.proofs.BytesLaws.{has-left, has-right, has-part, all-has}
+use Rattle.octets.proofs.BytesLaws.{has-left, has-right, all-has}
 use Rattle.exact.proofs.ReadsLaws.{complete}
 use Rattle.exact.proofs.CountedLaws.{all-at}
 use Rattle.descriptor.specs.Keys.{kGrants, kMetadata, kIssuedAt}
@@ -18,7 +18,6 @@ use Rattle.descriptor.specs.Reader.{beforePayload}
 use Rattle.descriptor.specs.View.{keysOf, grantView, grantsView, descriptorView, grantPlace}
 use Rattle.descriptor_laws.specs.Laws.{GrantsWalk}
 use Rattle.descriptor_laws.proofs.grants.GrantLaws.{grant-exact}
-use Rattle.descriptor_laws.proofs.grants.GrantsLaws.{pattern-at}
 use Rattle.descriptor_laws.proofs.payload.PieceLaws.{encFront}
 use Rattle.descriptor_laws.proofs.payload.PayloadLaws.{frontOf, pieces-encode}
 use Rattle.descriptor_laws.proofs.whole.DescriptorLaws.{halves-encode}
@@ -94,8 +93,5 @@ next-grant d i g l e =
 -- the grants are read one after the other
 pub grants-walk : GrantsWalk
 grants-walk d bs q i g l e =
-    let h = grant-here d q i g l e in
-    let ok : GrantOk g = subst GrantOk e (all-get GrantOk (d .payload .grants) i g l (q .payload .grants)) in (
-      complete (grant-exact (encode d) bs (grantPlace d i)) g ok h ∙ ap (got (grantView (grantPlace d i) g)) (next-grant d i g l e),
-      has-part (encode d) _ (g .pattern) (pattern-at (encode d) (grantPlace d i) g h),
-    )
+    let ok : GrantOk g = subst GrantOk e (all-get GrantOk (d .payload .grants) i g l (q .payload .grants)) in
+    complete (grant-exact (encode d) bs (grantPlace d i)) g ok (grant-here d q i g l e) ∙ ap (got (grantView (grantPlace d i) g)) (next-grant d i g l e)

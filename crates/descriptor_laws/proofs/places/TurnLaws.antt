@@ -10,7 +10,7 @@ use Rattle.octets.specs.Bytes.{AreBytes, part, Has}
 use Rattle.exact.specs.Reads.{encAll}
 use Rattle.octets.proofs.BytesLaws.{has-left, has-right, has-part}
 use Rattle.exact.proofs.ReadsLaws.{complete}
-use Rattle.descriptor.specs.Model.{Pair, Grant, Descriptor, pairCount, encGrant, encode}
+use Rattle.descriptor.specs.Model.{Pair, Grant, pairCount, encGrant, encode}
 use Rattle.descriptor.specs.Allowed.{GrantOk, All}
 use Rattle.descriptor.specs.Reader.{pairsOf}
 use Rattle.descriptor.specs.View.{countOf, grantView, descriptorView}

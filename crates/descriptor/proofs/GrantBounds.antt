@@ -1,148 +1,37 @@
 -- What the readers of values and of grants answer lies in the bytes and is small. Assumes nothing.
-use mathlib.Core.Path.{_≡_, refl, sym, ap, ap₂, _∙_, subst}
+use mathlib.Core.Path.{_≡_, refl, sym, ap, ap₂, _∙_}
 use mathlib.Core.Bool.{Bool, true, false, not, _&&_}
 use mathlib.Core.List.{List, [], _∷_}
 use mathlib.Core.Option.{Option, none, some}
-use Prim.Native.Nat.{ℕ, zero, suc, _+_, _-_, _^_, _%_, _≤_, _<_}
+use Prim.Native.Nat.{ℕ, suc, _+_, _-_, _≤_, _<_}
 use native.Mathlib.Omega.{arith}
-use lib.ListN.{length, getD, take, drop, length-take, length-drop}
+use lib.ListN.{length, take, drop, length-take, length-drop}
 use lib.Seq.{take-take}
-use lib.Dec.{T, ltb, leb, eqb, leb→le}
+use lib.Dec.{T, leb, eqb, leb→le}
 use mir.Facts.{and-yes}
-use borrow.Author.Tests.{ltb-false}
 use Rattle.octets.specs.Bytes.{part, same, hasAt}
 use Rattle.exact.specs.Reads.{Got, got, refused, bind, guard, optAt, many}
-use Rattle.cbor_item.specs.Head.{Span, spanOf, longHead, wideHead, headAt, spanIn, spanAt}
-use Rattle.octets.specs.Number.{numberAt}
+use Rattle.exact.specs.Holds.{Holds}
+use Rattle.octets.specs.Span.{Span, spanOf}
 use Rattle.octets.proofs.Tests.{by-cond}
 use Rattle.octets.proofs.BytesLaws.{has-fits, hasAt-yes, part-has, T-of-not, not-T-of}
 use Rattle.exact.proofs.ReadsLaws.{took, stopped}
+use Rattle.exact.proofs.HoldsLaws.{held, holds-map, holds-bind, holds-guard, holds-opt, holds-many, opt-key}
 use Rattle.exact.proofs.CountedLaws.{many-zero, many-got, many-refused}
-use Rattle.cbor_item.proofs.HeadLaws.{head-in}
+use Rattle.cbor_item.specs.Laws.{HeadTo, SpanTo}
+use Rattle.cbor_item.proofs.Laws.{heads-end, spans-end}
 use Rattle.resource.specs.Text.{patternOk}
 use Rattle.descriptor.specs.Keys.{modeNames, kModes, kConstraints, kResourcePattern}
 use Rattle.descriptor.specs.Value.{within, countAt, textAt, wordAt, bytesAt, oneOf}
 use Rattle.descriptor.specs.Reader.{pairAt, pairsAt, pairsOf, modeAt, modesAt, GrantSeen, grantAt, Sum, moreAt, GrantsSeen, grantsAt}
-use Rattle.descriptor.proofs.Truth.{T-true, T-false}
+use Rattle.octets.proofs.TruthLaws.{T-true, T-false}
 use Rattle.descriptor.proofs.WordLaws.{pattern-short}
-
--- ---- what holds of an answer
-
--- P holds of the result and of the place after it, where there is an answer
-abbrev pub Holds : {R : Type 0} → (R → ℕ → Type 0) → Got R → Type 0
-Holds P (got r n) = P r n
-Holds P refused = Unit {0}
-
--- what holds of an answer holds of what was answered
-pub held : {R : Type 0} {o : Got R} {r : R} {n : ℕ} (P : R → ℕ → Type 0) → Holds P o → got r n ≡ o → P r n
-held P h e = subst (Holds P) (sym e) h
-
--- what is known of an answer and of what was answered
-pub holds-of : {R : Type 0} (P : R → ℕ → Type 0) (o : Got R) → ((r : R) (n : ℕ) → got r n ≡ o → P r n) → Holds P o
-holds-of P (got r n) f = f r n refl
-holds-of P refused f = tt
-
--- what follows from what holds of an answer
-pub holds-map : {R : Type 0} (P P₂ : R → ℕ → Type 0) (o : Got R) → Holds P o → ((r : R) (n : ℕ) → P r n → P₂ r n) → Holds P₂ o
-holds-map P P₂ (got r n) h f = f r n h
-holds-map P P₂ refused h f = tt
-
--- a reader and then another
-pub holds-bind : {R Q : Type 0} (P : R → ℕ → Type 0) (P₂ : Q → ℕ → Type 0) (o : Got R) (k : R → ℕ → Got Q)
-    → Holds P o → ((r : R) (n : ℕ) → P r n → Holds P₂ (k r n)) → Holds P₂ (bind o k)
-unfolding bind
-holds-bind P P₂ (got r n) k h f = f r n h
-holds-bind P P₂ refused k h f = tt
-
--- a reader of which nothing is needed, and then another
-pub holds-then : {R Q : Type 0} (P : Q → ℕ → Type 0) (o : Got R) (k : R → ℕ → Got Q) → ((r : R) (n : ℕ) → Holds P (k r n)) → Holds P (bind o k)
-unfolding bind
-holds-then P (got r n) k f = f r n
-holds-then P refused k f = tt
-
--- a test and then a reader
-pub holds-guard : {R : Type 0} (P : R → ℕ → Type 0) (b : Bool) (o : Got R) → (T b → Holds P o) → Holds P (guard b o)
-unfolding guard
-holds-guard P true o h = h tt
-holds-guard P false o h = tt
-
--- an optional value
-pub holds-opt : {R : Type 0} (P : Option R → ℕ → Type 0) (b : Bool) (o : Got R) (at : ℕ) → P none at → Holds (λ r n. P (some r) n) o → Holds P (optAt b o at)
-unfolding optAt bind
-holds-opt P true (got r n) at z h = h
-holds-opt P true refused at z h = tt
-holds-opt P false o at z h = z
-
--- elements one after the other, where each keeps I for one more
-pub holds-many : {A : Type 0} (I : A → ℕ → Type 0) (step : A → ℕ → Got A)
-    → ((a : A) (at : ℕ) → I a at → Holds I (step a at)) → (n : ℕ) (a : A) (at : ℕ) → I a at → Holds I (many step n a at)
-unfolding many
-holds-many I step each zero a at i = i
-holds-many I step each (suc n) a at i = holds-bind I I (step a at) (λ a′ at′. many step n a′ at′) (each a at i) (λ a′ at′ i′. holds-many I step each n a′ at′ i′)
-
--- the test of its key holds, where an optional value is there
-abbrev KeyHeld : {R : Type 0} → Bool → Option R → ℕ → Type 0
-KeyHeld b none n = Unit {0}
-KeyHeld b (some r) n = T b
-
--- an optional value is there only where that test holds
-opt-held : {R : Type 0} (b : Bool) (o : Got R) (at : ℕ) → Holds (KeyHeld b) (optAt b o at)
-unfolding optAt bind
-opt-held true (got r n) at = tt
-opt-held true refused at = tt
-opt-held false o at = tt
-
--- the same of an answer
-pub opt-key : {R : Type 0} {r : R} {n : ℕ} (b : Bool) (o : Got R) (at : ℕ) → got (some r) n ≡ optAt b o at → T b
-opt-key b o at e = held (KeyHeld b) (opt-held b o at) e
 
 -- ---- values
 
 -- a key that stands at a place lies within s
 pub key-fits : (s : List ℕ) (at : ℕ) (k : List ℕ) → 0 < length k → T (hasAt s at k) → at + length k ≤ length s
 key-fits s at k h t = has-fits s at k h (hasAt-yes s at k t)
-
--- a long head ends not before its place
-long-on : (s : List ℕ) (at major w least : ℕ) → Holds (λ h n. at ≤ n) (longHead s at major w least)
-unfolding longHead
-long-on s at major w least =
-    by-cond (Holds (λ h n. at ≤ n)) (ltb (length s - (at + 1)) w) (λ e. tt) λ e.
-    by-cond (Holds (λ h n. at ≤ n)) (ltb (numberAt s (at + 1) w) least) (λ f. tt) λ f. omega arith
-
--- nor does a head with more than its initial byte
-wide-on : (s : List ℕ) (at major info : ℕ) → Holds (λ h n. at ≤ n) (wideHead s at major info)
-unfolding wideHead
-wide-on s at major info =
-    by-cond (Holds (λ h n. at ≤ n)) (eqb info 24) (λ e. long-on s at major 1 24) λ e.
-    by-cond (Holds (λ h n. at ≤ n)) (eqb info 25) (λ e. long-on s at major 2 (2 ^ 8)) λ e.
-    by-cond (Holds (λ h n. at ≤ n)) (eqb info 26) (λ e. long-on s at major 4 (2 ^ 16)) λ e.
-    by-cond (Holds (λ h n. at ≤ n)) (eqb info 27) (λ e. long-on s at major 8 (2 ^ 32)) λ e. tt
-
--- a head ends not before its place
-head-on : (s : List ℕ) (at : ℕ) → Holds (λ h n. at ≤ n) (headAt s at)
-unfolding headAt
-head-on s at =
-    by-cond (Holds (λ h n. at ≤ n)) (leb (length s) at) (λ e. tt) λ e.
-    by-cond (Holds (λ h n. at ≤ n)) (ltb (getD s at 0 % 32) 24) (λ f. omega arith) λ f. wide-on s at _ _
-
--- a head ends within s, or at its end
-head-within : (s : List ℕ) (at : ℕ) → Holds (λ h n. (at ≤ n) × (n ≤ length s)) (headAt s at)
-head-within s at = holds-of (λ h n. (at ≤ n) × (n ≤ length s)) (headAt s at) (λ h n e. (held (λ h n. at ≤ n) (head-on s at) e, head-in s at e))
-
--- a string that begins at or after `at`, ends at n and lies within s
-pub record SpanTo (s : List ℕ) (at : ℕ) (c : Span) (n : ℕ) : Type 0 where
-  pub after : at ≤ c .start
-  pub ends : n ≡ c .start + c .len
-  pub fits : n ≤ length s
-
--- a string that was read is such a string
-pub span-to : (s : List ℕ) (at major : ℕ) → Holds (SpanTo s at) (spanAt s at major)
-unfolding spanAt spanIn
-span-to s at major =
-    holds-bind (λ h n. (at ≤ n) × (n ≤ length s)) (SpanTo s at) _ _ (head-within s at)
-    (λ h n i. holds-guard (SpanTo s at) (eqb (h .major) major) _
-    (λ t. by-cond (Holds (SpanTo s at)) (ltb (length s - n) (h .number)) (λ e. tt)
-    (λ e. record { after = i .0; ends = refl; fits = omega (arith, ltb-false) })))
 
 -- a number between its limits, and a place not before `at`
 abbrev pub CountTo : ℕ → ℕ → ℕ → ℕ → ℕ → Type 0
@@ -152,22 +41,22 @@ CountTo at lo hi v n = (lo ≤ v) × (v ≤ hi) × (at ≤ n)
 pub count-bounds : (s : List ℕ) (at major lo hi : ℕ) → Holds (CountTo at lo hi) (countAt s at major lo hi)
 unfolding countAt within
 count-bounds s at major lo hi =
-    holds-bind (λ h n. at ≤ n) (CountTo at lo hi) _ _ (head-on s at)
+    holds-bind (HeadTo s at) (CountTo at lo hi) _ _ (heads-end s at)
     (λ h n i. holds-guard (CountTo at lo hi) _ _
     (λ t.
     let a = and-yes (eqb (h .major) major) (leb lo (h .number) && leb (h .number) hi) t in
     let b = and-yes (leb lo (h .number)) (leb (h .number) hi) (a .1) in
-    (leb→le _ _ (b .0), leb→le _ _ (b .1), i)))
+    (leb→le _ _ (b .0), leb→le _ _ (b .1), omega (arith, i .after))))
 
 -- a text lies within s
 pub text-bounds : (s : List ℕ) (at lo hi : ℕ) → Holds (SpanTo s at) (textAt s at lo hi)
 unfolding textAt
-text-bounds s at lo hi = holds-bind (SpanTo s at) (SpanTo s at) _ _ (span-to s at 3) (λ c n i. holds-guard (SpanTo s at) _ _ (λ t. i))
+text-bounds s at lo hi = holds-bind (SpanTo s at) (SpanTo s at) _ _ (spans-end s at 3) (λ c n i. holds-guard (SpanTo s at) _ _ (λ t. i))
 
 -- a byte string lies within s
 pub bytes-bounds : (s : List ℕ) (at lo hi : ℕ) → Holds (SpanTo s at) (bytesAt s at lo hi)
 unfolding bytesAt
-bytes-bounds s at lo hi = holds-bind (SpanTo s at) (SpanTo s at) _ _ (span-to s at 2) (λ c n i. holds-guard (SpanTo s at) _ _ (λ t. i))
+bytes-bounds s at lo hi = holds-bind (SpanTo s at) (SpanTo s at) _ _ (spans-end s at 2) (λ c n i. holds-guard (SpanTo s at) _ _ (λ t. i))
 
 -- such a string of at least so many bytes
 abbrev pub WordTo : List ℕ → ℕ → ℕ → Span → ℕ → Type 0
@@ -178,7 +67,7 @@ pub word-bounds : (good : List ℕ → Bool) (least : ℕ) → ((c : List ℕ) �
     → (s : List ℕ) (at : ℕ) → Holds (WordTo s at least) (wordAt good s at)
 unfolding wordAt
 word-bounds good least long s at =
-    holds-bind (SpanTo s at) (WordTo s at least) _ _ (span-to s at 3)
+    holds-bind (SpanTo s at) (WordTo s at least) _ _ (spans-end s at 3)
     (λ c n i. holds-guard (WordTo s at least) _ _
     (λ t.
     let e = part-has s (c .start) (c .len) (omega (arith, i .ends, i .fits)) .1 in

@@ -1,4 +1,3 @@
-pub mod Truth
 pub mod WordLaws
 pub mod GrantBounds
 pub mod PayloadBounds
@@ -6,4 +5,3 @@ pub mod ReadSteps
 pub mod ValueSteps
 pub mod ModeSteps
 pub mod PairSteps
-pub mod LoopLaws

@@ -17,8 +17,9 @@ use Rattle.descriptor.specs.Value.{countAt, oneOf}
 use Rattle.descriptor.specs.Keys.{mRead, mWrite, mExecute, mConfigure, modeNames}
 use Rattle.descriptor.specs.Reader.{hasMode, modeAt, modesAt}
 use Rattle.descriptor.specs.Answer.{withMode}
-use Rattle.descriptor.proofs.Truth.{T-false}
-use Rattle.descriptor.proofs.GrantBounds.{Holds, held, holds-guard}
+use Rattle.octets.proofs.TruthLaws.{T-false}
+use Rattle.exact.specs.Holds.{Holds}
+use Rattle.exact.proofs.HoldsLaws.{held, holds-guard}
 
 -- ---- one mode more
 

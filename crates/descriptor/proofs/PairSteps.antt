@@ -7,14 +7,17 @@ use native.Mathlib.Omega.{arith}
 use lib.ListN.{length, take, drop}
 use Rattle.octets.specs.Bytes.{part}
 use Rattle.exact.specs.Reads.{got, refused, many}
-use Rattle.cbor_item.specs.Head.{Span, spanOf}
+use Rattle.octets.specs.Span.{Span, spanOf}
 use Rattle.octets.proofs.BytesLaws.{T-of-not, not-T-of}
 use Rattle.exact.proofs.ReadsLaws.{took, stopped, passed, failed}
 use Rattle.exact.proofs.CountedLaws.{many-zero, many-refused}
 use Rattle.descriptor.specs.Value.{countAt, textAt}
-use Rattle.descriptor.specs.Allowed.{before}
+use Rattle.octets.specs.Order.{before}
 use Rattle.descriptor.specs.Reader.{pairAt, pairsAt}
-use Rattle.descriptor.proofs.GrantBounds.{Holds, held, holds-bind, holds-guard, SpanTo, text-bounds}
+use Rattle.exact.specs.Holds.{Holds}
+use Rattle.exact.proofs.HoldsLaws.{held, holds-bind, holds-guard}
+use Rattle.cbor_item.specs.Laws.{SpanTo}
+use Rattle.descriptor.proofs.GrantBounds.{text-bounds}
 use Rattle.descriptor.proofs.ValueSteps.{lent}
 
 -- ---- pairs

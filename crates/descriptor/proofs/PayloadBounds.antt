@@ -10,7 +10,7 @@ use mir.Facts.{and-yes}
 use borrow.Author.Tests.{eq-eqb, ne-eqb, le-leb, lt-leb}
 use Rattle.octets.specs.Bytes.{part, same, hasAt}
 use Rattle.exact.specs.Reads.{Got, got, optAt}
-use Rattle.cbor_item.specs.Head.{spanOf}
+use Rattle.octets.specs.Span.{spanOf}
 use Rattle.resource.specs.Identifier.{isFay, isTerminal}
 use Rattle.descriptor.specs.declared.payload.PayloadFields.{PayloadFields}
 use Rattle.descriptor.specs.Keys.{kGrants, kMetadata, kIssuedAt, kIssuerId, kNotAfter, kGrantorId, kNotBefore, kTerminalId, kDescriptorId, kSubjectFayId}
@@ -19,7 +19,10 @@ use Rattle.descriptor.specs.Value.{timeAt, textAt, wordAt, bytesAt}
 use Rattle.descriptor.specs.Reader.{pairsAt, grantsAt, Opening, openingAt, middleAt, Closing, closingAt, PayloadSeen, payloadFits, payloadAt}
 use Rattle.descriptor.specs.Answer.{optOf, flag, payloadOf}
 use Rattle.descriptor.proofs.WordLaws.{terminal-length}
-use Rattle.descriptor.proofs.GrantBounds.{GrantsIn, WordTo, CountTo, Holds, held, holds-map, holds-bind, holds-guard, holds-opt, SpanTo, count-bounds, text-bounds, bytes-bounds, word-bounds, key-on, pairs-bounds, grants-bounds}
+use Rattle.descriptor.proofs.GrantBounds.{GrantsIn, WordTo, CountTo, count-bounds, text-bounds, bytes-bounds, word-bounds, key-on, pairs-bounds, grants-bounds}
+use Rattle.cbor_item.specs.Laws.{SpanTo}
+use Rattle.exact.specs.Holds.{Holds}
+use Rattle.exact.proofs.HoldsLaws.{held, holds-map, holds-bind, holds-guard, holds-opt}
 
 -- an optional value after its key ends not before the key's place
 opt-on : {R : Type 0} (s : List ℕ) (at : ℕ) (k : List ℕ) (o : Got R) → Holds (λ r n. at + length k ≤ n) o → Holds (λ r n. at ≤ n) (optAt (hasAt s at k) o at)

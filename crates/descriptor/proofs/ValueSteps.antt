@@ -12,14 +12,18 @@ use mir.Facts.{and-yes, yes-and, yes-eqb}
 use Rattle.octets.specs.Bytes.{part, hasAt}
 use Rattle.exact.specs.Reads.{Got, got, refused, guard}
 use Rattle.cbor_item.specs.Utf8.{isUtf8}
-use Rattle.cbor_item.specs.Head.{headOf, spanOf, headAt, spanAt}
+use Rattle.cbor_item.specs.Head.{headOf, headAt, spanAt}
+use Rattle.octets.specs.Span.{spanOf}
 use Rattle.octets.proofs.BytesLaws.{has-fits, hasAt-yes}
 use Rattle.exact.proofs.ReadsLaws.{took, passed, failed}
 use Rattle.resource.specs.Text.{patternOk}
 use Rattle.descriptor.specs.Value.{within, countAt, textAt, wordAt, bytesAt}
 use Rattle.descriptor.specs.Answer.{wordOk}
-use Rattle.descriptor.proofs.Truth.{T-true, T-false}
-use Rattle.descriptor.proofs.GrantBounds.{held, SpanTo, span-to, text-bounds}
+use Rattle.octets.proofs.TruthLaws.{T-true, T-false}
+use Rattle.exact.proofs.HoldsLaws.{held}
+use Rattle.cbor_item.specs.Laws.{SpanTo}
+use Rattle.cbor_item.proofs.Laws.{spans-end}
+use Rattle.descriptor.proofs.GrantBounds.{text-bounds}
 
 -- ---- tests
 
@@ -142,7 +146,7 @@ bytes-no s at lo hi start len e f =
 
 -- the string of a major type at a place lies in s
 pub span-bound : (s : List ℕ) (at major start len : ℕ) → got (spanOf start len) (start + len) ≡ spanAt s at major → start + len ≤ length s
-span-bound s at major start len e = held (SpanTo s at) (span-to s at major) e .fits
+span-bound s at major start len e = held (SpanTo s at) (spans-end s at major) e .fits
 
 -- a text at a place lies in s, and after that place
 pub text-bound : (s : List ℕ) (at lo hi start len : ℕ) → got (spanOf start len) (start + len) ≡ textAt s at lo hi → (at ≤ start) × (start + len ≤ length s)

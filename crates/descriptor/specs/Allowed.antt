@@ -1,13 +1,13 @@
 -- What document 01 allows, "Descriptor bytes": every written limit. Nothing of places or of reading. A reader of the promises does not need this page: `AllowedExactly`
 -- of `descriptor_laws` has each limit with its number.
 use mathlib.Core.Path.{_≡_}
-use mathlib.Core.Bool.{Bool, true, false, _&&_, _||_}
+use mathlib.Core.Bool.{Bool, true, false, _||_}
 use mathlib.Core.List.{List, [], _∷_}
 use mathlib.Core.Logic.{_⊎_}
-use mathlib.Core.Option.{Option, none, some}
-use Prim.Native.Nat.{ℕ, _+_, _-_, _^_, _≤_, _<_}
+use Prim.Native.Nat.{ℕ, _-_, _^_, _≤_, _<_}
 use lib.ListN.{length, take}
-use lib.Dec.{ltb, eqb}
+use lib.Dec.{eqb}
+use Rattle.octets.specs.Order.{before}
 use Rattle.cbor_item.specs.Unicode.{Utf8}
 use Rattle.exact.specs.Reads.{OptOk, AllFrom}
 use Rattle.resource.specs.Identifier.{isFay, isTerminal}
@@ -23,12 +23,6 @@ pub record TextOk (lo hi : ℕ) (c : List ℕ) : Type 0 where
 -- a time: unsigned 64-bit seconds
 abbrev pub TimeOk : ℕ → Type 0
 TimeOk t = t < 2 ^ 64
-
--- x stands before y in bytewise order
-unfoldable pub before : List ℕ → List ℕ → Bool
-before xs [] = false
-before [] (y ∷ ys) = true
-before (x ∷ xs) (y ∷ ys) = ltb x y || (eqb x y && before xs ys)
 
 -- a pair after a key whose encoding is `last`: from text of 1 to 64 bytes to text of 0 to 256, the key's encoding after `last`; before the first key `last` is
 -- empty

@@ -8,7 +8,7 @@ use lib.ListN.{length}
 use lib.Dec.{eqb}
 use Rattle.octets.specs.Bytes.{hasAt}
 use Rattle.exact.specs.Reads.{Got, got, refused, bind, guard}
-use Rattle.cbor_item.specs.Head.{Span, spanOf}
+use Rattle.octets.specs.Span.{Span, spanOf}
 use Rattle.resource.specs.Identifier.{isFay, isTerminal}
 use Rattle.resource.specs.Text.{patternOk}
 use Rattle.descriptor.specs.declared.value.CountRead.{CountRead}

@@ -2,8 +2,7 @@
 -- `descriptor_laws`. What reading hands back, in document 01's numbers; the names and the order are those of include/cap.h.
 use mathlib.Core.List.{List}
 use Prim.Native.Nat.{ℕ}
-use Rattle.cbor_item.specs.Head.{Span, spanOf}
-use Rattle.cbor_item.specs.Item.{inside}
+use Rattle.octets.specs.Span.{Span, spanOf, inside}
 use Rattle.exact.specs.Reads.{Got, got, refused}
 use Rattle.descriptor.specs.declared.Fields.{Fields}
 use Rattle.descriptor.specs.declared.Reading.{Reading}

@@ -9,12 +9,13 @@ use lib.Dec.{leb, ltb, eqb}
 use lib.Bits.{bitOr}
 use Rattle.octets.specs.Bytes.{part, same, hasAt}
 use Rattle.exact.specs.Reads.{Got, got, refused, bind, guard, optAt, many}
-use Rattle.cbor_item.specs.Head.{Span, spanOf}
+use Rattle.octets.specs.Span.{Span, spanOf}
 use Rattle.resource.specs.Identifier.{isFay, isTerminal}
 use Rattle.resource.specs.Text.{patternOk}
 use Rattle.descriptor.specs.Keys.{kPayload, kVersion, kSignature, kGrants, kMetadata, kIssuedAt, kIssuerId, kNotAfter, kGrantorId, kNotBefore, kTerminalId, kDescriptorId, kSubjectFayId, kKeyId, kAlgorithm, kSignatureValue, kModes, kConstraints, kResourcePattern, algorithms, modeNames}
 use Rattle.descriptor.specs.Model.{size}
-use Rattle.descriptor.specs.Allowed.{before, longest, longestPeriod}
+use Rattle.octets.specs.Order.{before}
+use Rattle.descriptor.specs.Allowed.{longest, longestPeriod}
 use Rattle.descriptor.specs.Value.{countAt, timeAt, textAt, wordAt, bytesAt, oneOf}
 
 -- ---- pairs

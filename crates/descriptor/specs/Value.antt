@@ -8,7 +8,8 @@ use lib.Dec.{leb, eqb}
 use Rattle.octets.specs.Bytes.{part, hasAt}
 use Rattle.exact.specs.Reads.{Got, got, refused, bind, guard}
 use Rattle.cbor_item.specs.Utf8.{isUtf8}
-use Rattle.cbor_item.specs.Head.{Span, headAt, spanAt}
+use Rattle.octets.specs.Span.{Span}
+use Rattle.cbor_item.specs.Head.{headAt, spanAt}
 
 -- n is a number from lo to hi
 unfoldable pub within : ℕ → ℕ → ℕ → Bool

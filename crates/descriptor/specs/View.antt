@@ -7,7 +7,7 @@ use lib.ListN.{length, take}
 use lib.Bits.{bitOr}
 use Rattle.cbor_item.specs.Encoding.{head}
 use Rattle.exact.specs.Reads.{encOpt, encAll, viewOpt}
-use Rattle.cbor_item.specs.Head.{Span, spanOf}
+use Rattle.octets.specs.Span.{Span, spanOf}
 use Rattle.descriptor.specs.Keys.{kGrants, kMetadata, kIssuedAt, kIssuerId, kNotAfter, kGrantorId, kNotBefore, kTerminalId, kDescriptorId, kSubjectFayId, kAlgorithm, kSignatureValue, kModes, kConstraints, kResourcePattern}
 use Rattle.descriptor.specs.Model.{Pair, Grant, Payload, Signature, Descriptor, size, encBytes, encText, encPairs, encModes, encGrant, encGrants, encodePayload, encAlgorithm}
 use Rattle.descriptor.specs.Reader.{GrantSeen, Sum, GrantsSeen, Opening, Middle, Closing, PayloadSeen, SignatureSeen, Seen, placeOf, pairsOf, beforePayload, beforeKeyId}

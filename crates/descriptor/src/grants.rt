@@ -1,7 +1,6 @@
 // Grants.
 use crate::GrantFields;
 use crate::GrantRead;
-use crate::bytes::has_at;
 use crate::bytes::same_terminal;
 use crate::keys;
 use crate::modes::modes_at;
@@ -11,6 +10,7 @@ use crate::value::CountRead;
 use crate::value::count_at;
 use crate::value::keyed_word;
 use cbor_item::SpanRead;
+use octets::has_at;
 ghost use mathlib.Core.Path.{_≡_};
 ghost use Prim.Native.Nat.{_+_, _≤_, _<_};
 ghost use lib.ListN.{length};

@@ -1,7 +1,5 @@
 // Descriptors: the data model of source 002 in the deterministic encoding of RFC 8949, as document 01 limits it. What is promised is in
 // specs/Promises.antt of `descriptor_laws`.
-use cbor_item::Item;
-
 mod bytes;
 mod grants;
 mod keys;
@@ -125,12 +123,7 @@ pub fn payload_part(s: &[u8], reading: Reading) -> &[u8]
     match reading {
         Reading::Read(fields) => {
             let payload = fields.payload;
-            let item = Item::Bytes {
-                start: payload.at,
-                len: payload.len,
-                next: 0,
-            };
-            cbor_item::content(s, item)
+            octets::part_at(s, payload.at, payload.len)
         }
         Reading::Structure => &s[..0],
         Reading::Validity => &s[..0],

@@ -1,8 +1,8 @@
 // Modes, by the names of their numbers.
-use crate::bytes::has_at;
 use crate::keys;
 use crate::value::CountRead;
 use crate::value::count_at;
+use octets::has_at;
 ghost use mathlib.Core.Path.{_≡_};
 ghost use Prim.Native.Nat.{_<_, _^_};
 ghost use Rattle.descriptor.specs.Reader.{modeAt, modesAt};

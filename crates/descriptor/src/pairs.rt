@@ -1,16 +1,16 @@
 // Maps of pairs: metadata and constraints.
-use crate::bytes::before;
-use crate::bytes::has_at;
 use crate::value::CountRead;
 use crate::value::count_at;
 use crate::value::text_at;
 use cbor_item::SpanRead;
+use octets::before;
+use octets::has_at;
 ghost use mathlib.Core.Path.{_≡_};
 ghost use Prim.Native.Nat.{_+_, _≤_};
 ghost use lib.ListN.{length};
 ghost use Rattle.octets.specs.Bytes.{hasAt};
 ghost use Rattle.exact.specs.Reads.{optAt};
-ghost use Rattle.cbor_item.specs.Head.{spanOf};
+ghost use Rattle.octets.specs.Span.{spanOf};
 ghost use Rattle.descriptor.specs.Reader.{pairAt, pairsAt};
 ghost use Rattle.descriptor.specs.Answer.{pairRead, countRead, optRead};
 

@@ -1,5 +1,4 @@
 // The payload, in three pieces.
-use crate::bytes::has_at;
 use crate::bytes::same_terminal;
 use crate::grants::GrantsFields;
 use crate::grants::GrantsRead;
@@ -16,6 +15,7 @@ use crate::value::keyed_time;
 use crate::value::keyed_word;
 use crate::value::opt_text;
 use cbor_item::SpanRead;
+use octets::has_at;
 ghost use mathlib.Core.Path.{_≡_};
 ghost use Prim.Native.Nat.{_+_, _≤_};
 ghost use lib.ListN.{length};

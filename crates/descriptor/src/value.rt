@@ -1,7 +1,7 @@
 // Single values at a place: a number under a head, a text, a byte string.
-use crate::bytes::has_at;
 use cbor_item::HeadRead;
 use cbor_item::SpanRead;
+use octets::has_at;
 ghost use mathlib.Core.Path.{_≡_};
 ghost use Prim.Native.Nat.{_+_};
 ghost use lib.ListN.{length};

@@ -20,7 +20,8 @@ use Rattle.descriptor.specs.declared.DescriptorNumbers.{DescriptorNumbers}
 use Rattle.descriptor.specs.declared.GrantNumbers.{GrantNumbers}
 use Rattle.descriptor.specs.Keys.{kPayload, kVersion, kSignature, kGrants, kMetadata, kIssuedAt, kIssuerId, kNotAfter, kGrantorId, kNotBefore, kTerminalId, kDescriptorId, kSubjectFayId, kKeyId, kAlgorithm, kSignatureValue, kModes, kConstraints, kResourcePattern, ed25519, ecdsaP256Sha256, mRead, mWrite, mExecute, mConfigure}
 use Rattle.descriptor.specs.Model.{Pair, Grant, Payload, Signature, Descriptor, encPairs, encMode, encGrant, encodePayload, encAlgorithm, encSignature, encode}
-use Rattle.descriptor.specs.Allowed.{before, PairsOk, longest, longestPeriod, Formed, Allowed}
+use Rattle.octets.specs.Order.{before}
+use Rattle.descriptor.specs.Allowed.{PairsOk, longest, longestPeriod, Formed, Allowed}
 use Rattle.descriptor.specs.Modes.{unionOf}
 use Rattle.descriptor.specs.Reader.{readOf, grantAt}
 use Rattle.descriptor.specs.View.{maskOf, grantPlace}

@@ -1,3 +1,4 @@
 pub mod ReadsLaws
 pub mod OptionalLaws
 pub mod CountedLaws
+pub mod HoldsLaws

@@ -18,7 +18,11 @@ use Rattle.descriptor.specs.Allowed.{longest, longestPeriod}
 use Rattle.descriptor.specs.Value.{bytesAt, within}
 use Rattle.descriptor.specs.Reader.{modesAt, modeAt, GrantSeen, grantAt, Sum, moreAt, GrantsSeen, grantsAt, Opening, openingAt, Closing, closingAt, PayloadSeen, payloadAt, Seen, descriptorAt, beforePayload, Answer, read, structure, validity, whole, readOf}
 use Rattle.descriptor.specs.Answer.{fieldsOf, readingOf}
-use Rattle.descriptor.proofs.GrantBounds.{Holds, holds-of, holds-bind, holds-then, holds-guard, holds-many, SpanTo, span-to, CountTo, count-bounds, WordTo, word-bounds}
+use Rattle.exact.specs.Holds.{Holds}
+use Rattle.exact.proofs.HoldsLaws.{holds-of, holds-bind, holds-then, holds-guard, holds-many}
+use Rattle.cbor_item.specs.Laws.{SpanTo}
+use Rattle.cbor_item.proofs.Laws.{spans-end}
+use Rattle.descriptor.proofs.GrantBounds.{CountTo, count-bounds, WordTo, word-bounds}
 use Rattle.descriptor.proofs.ModeSteps.{mode-small}
 use Rattle.descriptor.proofs.WordLaws.{terminal-length, fay-length}
 use Rattle.image.specs.Image.{reading}
@@ -86,7 +90,7 @@ opening-small s at =
 id-to : (s : List ℕ) (at : ℕ) → Holds (λ c n. c .start + 16 ≤ length s) (bytesAt s at 16 16)
 unfolding bytesAt within
 id-to s at =
-    holds-bind (SpanTo s at) (λ c n. c .start + 16 ≤ length s) _ _ (span-to s at 2)
+    holds-bind (SpanTo s at) (λ c n. c .start + 16 ≤ length s) _ _ (spans-end s at 2)
     (λ c n i. holds-guard (λ c n. c .start + 16 ≤ length s) _ _ (λ t. omega (arith, i .ends, i .fits, leb-true 16 (c .len) (and-left (leb 16 (c .len)) (leb (c .len) 16) (yes t)))))
   where
     yes : {b : Bool} → T b → b ≡ true

@@ -12,7 +12,7 @@ use Rattle.octets.proofs.BytesLaws.{same-eq, same-refl, T-of}
 use Rattle.descriptor.specs.declared.Fields.{Fields}
 use Rattle.descriptor.specs.declared.Reading.{Reading}
 use Rattle.descriptor.specs.declared.Reading.the-variants.{Read, Structure, Validity}
-use Rattle.descriptor.proofs.Truth.{T-true}
+use Rattle.octets.proofs.TruthLaws.{T-true}
 use Rattle.image.specs.Image.{reading, isRead, idOf, joined, hasId, BodyOk, seenWith, bodyWith}
 use Rattle.image.proofs.BodyLaws.{read-in}
 

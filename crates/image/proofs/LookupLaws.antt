@@ -9,8 +9,8 @@ use lib.ListN.{length}
 use lib.Dec.{eqb}
 use borrow.Author.Tests.{eq-eqb, ne-eqb}
 use Rattle.octets.specs.Bytes.{AreBytes, part}
-use Rattle.cbor_item.specs.Head.{spanOf}
-use Rattle.cbor_item.proofs.ItemLaws.{inside-fits}
+use Rattle.octets.specs.Span.{spanOf}
+use Rattle.octets.proofs.SpanLaws.{inside-fits}
 use Rattle.octets.proofs.BytesLaws.{part-has}
 use Rattle.image.specs.declared.Held.{Held}
 use Rattle.image.specs.declared.Held.the-variants.{Missing, Body}

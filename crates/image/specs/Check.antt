@@ -6,9 +6,8 @@ use Prim.Native.Nat.{ℕ, zero, suc, _+_}
 use lib.ListN.{length}
 use lib.Dec.{leb, eqb}
 use Rattle.octets.specs.Bytes.{part, same}
-use Rattle.cbor_item.specs.Head.{Span, spanOf}
+use Rattle.octets.specs.Span.{Span, spanOf, inside}
 use Rattle.octets.specs.Number.{numberAt}
-use Rattle.cbor_item.specs.Item.{inside}
 use Rattle.exact.specs.Reads.{Got, got, refused, bind, guard}
 use Rattle.descriptor.specs.declared.Fields.{Fields}
 use Rattle.descriptor.specs.declared.Reading.{Reading}

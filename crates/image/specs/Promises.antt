@@ -7,7 +7,7 @@ use mathlib.Core.Option.{none, some}
 use Prim.Native.Nat.{ℕ, _+_, _*_, _/_, _%_, _≤_, _<_}
 use lib.ListN.{length, drop}
 use Rattle.octets.specs.Bytes.{AreBytes, part}
-use Rattle.cbor_item.specs.Head.{spanOf}
+use Rattle.octets.specs.Span.{spanOf}
 use Rattle.octets.specs.Number.{numberAt}
 use Rattle.descriptor.specs.Model.{Descriptor, encode}
 use Rattle.descriptor.specs.Allowed.{Allowed}

@@ -85,14 +85,7 @@ pub fn body_part(image: &[u8], finding: Finding) -> &[u8]
     ensures { λ r. ⌜ PartOf (image .entry) r (bodySpan (now (image .entry)) finding .start) (bodySpan (now (image .entry)) finding .len) ⌝ }
 {
     match finding {
-        Finding::Found { at, len } => {
-            let item = cbor_item::Item::Bytes {
-                start: at,
-                len,
-                next: 0,
-            };
-            cbor_item::content(image, item)
-        }
+        Finding::Found { at, len } => octets::part_at(image, at, len),
         Finding::BadId => &image[..0],
         Finding::BadImage => &image[..0],
         Finding::NotHeld => &image[..0],

@@ -11,7 +11,7 @@ use Rattle.resource.specs.Level.{same as sameName, isNameChar, allNameChars, le
 use Rattle.resource.specs.Text.{patternOk, isPattern, levelsOf, patternOf}
 use Rattle.descriptor.specs.Keys.{kPayload, kVersion, kSignature, kGrants, kMetadata, kIssuedAt, kIssuerId, kNotAfter, kGrantorId, kNotBefore, kTerminalId, kDescriptorId, kSubjectFayId, kKeyId, kAlgorithm, kSignatureValue, kModes, kConstraints, kResourcePattern, algorithms, modeNames, ed25519, ecdsaP256Sha256, mRead, mWrite, mExecute, mConfigure}
 use Rattle.descriptor.specs.Model.{encMode, encModes, encGrant, encGrants, encodePayload, encAlgorithm, encSignature, encode}
-use Rattle.descriptor.specs.Allowed.{before}
+use Rattle.octets.specs.Order.{before}
 use Rattle.descriptor.specs.Value.{within, countAt, textAt, wordAt, bytesAt, oneOf}
 use Rattle.descriptor.specs.Reader.{pairAt, pairsAt, hasMode, modeAt, modesAt, grantAt, moreAt, grantsAt, openingAt, middleAt, closingAt, payloadFits, payloadAt, valueFits, signatureAt, beforePayload, beforeKeyId, descriptorAt, readOf}
 use Rattle.cbor_item.proofs.Promises.{marked-items}

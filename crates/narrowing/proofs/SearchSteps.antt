@@ -13,7 +13,7 @@ use borrow.Author.Tests.{not-true, not-false}
 use Rattle.octets.specs.Bytes.{part, same}
 use Rattle.exact.specs.Reads.{got, refused}
 use Rattle.descriptor.specs.Reader.{hasMode, GrantSeen, grantAt}
-use Rattle.descriptor.proofs.LoopLaws.{same-more}
+use Rattle.octets.proofs.SameLaws.{same-last}
 use Rattle.narrowing.specs.declared.search.Found.the-variants.{At, Nothing}
 use Rattle.narrowing.specs.Escape.{least, orElse}
 use Rattle.narrowing.specs.Range.{textRange, marked}
@@ -102,7 +102,7 @@ pub same-parts : (s t : List ℕ) (a b i : ℕ) → a + i < length s → b + i <
     → same (part s a (i + 1)) (part t b (i + 1)) ≡ (same (part s a i) (part t b i) && eqb (getD s (a + i) 0) (getD t (b + i) 0))
 unfolding part
 same-parts s t a b i h k =
-    rw (← getD-drop a s i 0, ← getD-drop b t i 0) (same-more (drop a s) (drop b t) i (omega (arith, length-drop a s)) (omega (arith, length-drop b t)))
+    rw (← getD-drop a s i 0, ← getD-drop b t i 0) (same-last (drop a s) (drop b t) i (omega (arith, length-drop a s)) (omega (arith, length-drop b t)))
 
 -- ---- noting
 

@@ -10,7 +10,7 @@ use Rattle.octets.specs.Bytes.{part, same}
 use lib.Dec.{eqb, leb, ltb}
 use lib.Bits.{bitOr}
 use Rattle.exact.specs.Reads.{got, refused}
-use Rattle.cbor_item.specs.Head.{Span}
+use Rattle.octets.specs.Span.{Span}
 use Rattle.resource.specs.Level.{levels}
 use Rattle.resource.specs.Pattern.{endsDeep}
 use Rattle.resource.specs.Text.{levelsOf}

@@ -141,6 +141,10 @@ pub hasAt-done : (s : List ℕ) (at : ℕ) (k : List ℕ) (i : ℕ) → length k
 unfolding hasAt part same
 hasAt-done s at k i h = ap (λ (x : List ℕ). same (take (length x) (drop (at + i) s)) x) (drop-of-length-le k h)
 
+-- no bytes stand at any place
+pub hasAt-none : (s : List ℕ) (at : ℕ) (k : List ℕ) → length k ≡ 0 → hasAt s at k ≡ true
+hasAt-none s at k e = ap (λ (p : ℕ). hasAt s p k) (sym (add-zero at)) ∙ hasAt-done s at k 0 (omega arith)
+
 pub hasAt-short : (s : List ℕ) (at : ℕ) (k : List ℕ) → 0 < length k → length s < at + length k → hasAt s at k ≡ false
 hasAt-short s at k pos h =
     elim (hasAt s at k) as (λ b. (T b → Has s at k) → b ≡ false) [

@@ -1,6 +1,9 @@
 pub mod Tests
+pub mod TruthLaws
 pub mod BytesLaws
+pub mod SpanLaws
 pub mod SameLaws
+pub mod OrderLaws
 pub mod OverLaws
 pub mod NumberLaws
 pub mod BitLaws

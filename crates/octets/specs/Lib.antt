@@ -1,3 +1,5 @@
 pub mod Bytes
+pub mod Span
+pub mod Order
 pub mod Number
 pub mod Write

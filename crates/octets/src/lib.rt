@@ -1,11 +1,15 @@
 // Reading and writing pieces of lent bytes. A piece that does not fit is not written, and no function has a requirement.
 mod compare;
 mod numbers;
+mod order;
+mod part;
 mod write;
 
 ghost use mathlib.Core.Path.{_≡_};
 ghost use Prim.Native.Nat.{_^_, _<_};
-ghost use Rattle.octets.specs.Bytes.{same};
+ghost use Rattle.octets.specs.Bytes.{PartOf, same, hasAt};
+ghost use Rattle.octets.specs.Span.{inside as insideOf};
+ghost use Rattle.octets.specs.Order.{before as beforeOf};
 ghost use Rattle.octets.specs.Number.{bigEndian, numberIn};
 ghost use Rattle.octets.specs.Write.{putAt, movedUp};
 
@@ -14,6 +18,27 @@ pub fn same_bytes(a: &[u8], b: &[u8]) -> bool
     ensures { λ r. ⌜ r ≡ same (now (a .entry)) (now (b .entry)) ⌝ }
 {
     compare::same_bytes(a, b)
+}
+
+// Whether the bytes of s at the place begin with k.
+pub fn has_at(s: &[u8], at: usize, k: &[u8]) -> bool
+    ensures { λ r. ⌜ r ≡ hasAt (now (s .entry)) at (now (k .entry)) ⌝ }
+{
+    order::has_at(s, at, k)
+}
+
+// Whether x stands before y in bytewise order.
+pub fn before(x: &[u8], y: &[u8]) -> bool
+    ensures { λ r. ⌜ r ≡ beforeOf (now (x .entry)) (now (y .entry)) ⌝ }
+{
+    order::before(x, y)
+}
+
+// The n bytes from `start` on where s has them, as the part of s itself, else the empty part at the start.
+pub fn part_at(s: &[u8], start: usize, n: usize) -> &[u8]
+    ensures { λ r. ⌜ PartOf (s .entry) r (insideOf (now (s .entry)) start n .start) (insideOf (now (s .entry)) start n .len) ⌝ }
+{
+    part::part_at(s, start, n)
 }
 
 // The number in the w bytes from the place on, the highest byte first; 0 where they are not there, or more than 8.

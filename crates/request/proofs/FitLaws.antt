@@ -8,7 +8,8 @@ use Rattle.octets.specs.Bytes.{part, same}
 use Rattle.exact.specs.Reads.{Got, got, refused}
 use Rattle.descriptor.specs.declared.Fields.{Fields}
 use Rattle.descriptor.specs.declared.Reading.the-variants.{Read}
-use Rattle.descriptor.proofs.GrantBounds.{Holds, holds-of, holds-bind, holds-guard}
+use Rattle.exact.specs.Holds.{Holds}
+use Rattle.exact.proofs.HoldsLaws.{holds-of, holds-bind, holds-guard}
 use Rattle.image.specs.declared.Held.{Held}
 use Rattle.image.specs.declared.Held.the-variants.{Missing, Body}
 use Rattle.image.specs.declared.Survey.{Survey}

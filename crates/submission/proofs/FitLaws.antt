@@ -9,7 +9,8 @@ use lib.Dec.{leb, leb→le}
 use Rattle.octets.specs.Bytes.{same}
 use Rattle.exact.specs.Reads.{Got, got, refused}
 use Rattle.descriptor.specs.declared.Fields.{Fields}
-use Rattle.descriptor.proofs.GrantBounds.{Holds, holds-of, holds-bind, holds-guard}
+use Rattle.exact.specs.Holds.{Holds}
+use Rattle.exact.proofs.HoldsLaws.{holds-of, holds-bind, holds-guard}
 use Rattle.image.specs.declared.Held.{Held}
 use Rattle.image.specs.declared.Held.the-variants.{Missing}
 use Rattle.image.specs.Layout.{rowPlace}

@@ -9,8 +9,8 @@ use Rattle.descriptor.proofs.payload_part.Tie as tie
 enum-known-reading : tie.Need-enum-known-reading
 enum-known-reading c = search needs
 
-content-requires : tie.Need-content-requires
-content-requires c κs = search needs
+part-at-requires : tie.Need-part-at-requires
+part-at-requires c κs = search needs
 
 enum-told : tie.Need-enum-told
 enum-told c = search needs
@@ -25,7 +25,7 @@ slice-aggregate-result-2 : tie.Need-slice-aggregate-result-2
 slice-aggregate-result-2 c = search needs
 
 returns : tie.Need-returns
-returns c = rw (c .before .before .before .reading .given .1) (c .content .ensures)
+returns c = rw (c .before .before .before .reading .given .1) (c .part-at .ensures)
 
 returns-2 : tie.Need-returns-2
 unfolding part
@@ -40,7 +40,7 @@ payload-part-spec =
     tie.close
     (tie.spec
     enum-known-reading
-    content-requires
+    part-at-requires
     enum-told
     slice-aggregate-result
     enum-told-2

@@ -8,7 +8,7 @@ use lib.ListN.{length}
 use Rattle.exact.specs.Reads.{encAll}
 use Rattle.cbor_item.specs.Encoding.{head}
 use Rattle.descriptor.specs.Model.{Pair, Grant, Payload, Signature, Descriptor, encPair, encPairs, encModes, encGrant, encGrants, encodePayload, encSignature, encode}
-use Rattle.descriptor.specs.Allowed.{before}
+use Rattle.octets.specs.Order.{before}
 use Rattle.descriptor_laws.specs.Promises.{Entry, text, map, descriptorEntries, payloadEntries, signatureEntries, grantEntries, pairEntries, ascending, IsMap, MapsDeterministic}
 use Rattle.descriptor_laws.proofs.encoding.NameLaws as named
 

@@ -10,7 +10,8 @@ use borrow.Author.Tests.{ltb-true, eqb-true, lt-ltb, eq-eqb}
 use Rattle.exact.specs.Reads.{AllFrom}
 use Rattle.resource.proofs.Flags.{and-left, and-right, and-both, or-elim, no-flag}
 use Rattle.descriptor.specs.Model.{Pair}
-use Rattle.descriptor.specs.Allowed.{before, PairOk, keyOf}
+use Rattle.octets.specs.Order.{before}
+use Rattle.descriptor.specs.Allowed.{PairOk, keyOf}
 use Rattle.descriptor_laws.specs.Promises.{text, Less, BytewiseOrder, Each, EachTwo, PairsAscend, PairsDistinct}
 
 -- ---- the order

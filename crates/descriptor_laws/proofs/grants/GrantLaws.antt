@@ -20,7 +20,7 @@ use Rattle.descriptor.specs.Model.{Pair, size, encText, encGrant}
 use Rattle.descriptor.specs.Allowed.{GrantOk}
 use Rattle.descriptor.specs.Reader.{grantAt}
 use Rattle.descriptor.specs.View.{grantRest, grantView}
-use Rattle.descriptor.proofs.Truth.{eqb-test}
+use Rattle.octets.proofs.TruthLaws.{eqb-test}
 use Rattle.descriptor_laws.proofs.values.OptionLaws.{size-small, size-view, place-view}
 use Rattle.descriptor_laws.proofs.values.ValueLaws.{count-exact, word-exact}
 use Rattle.descriptor_laws.proofs.values.PairLaws.{pairs-exact}

@@ -16,7 +16,7 @@ use Rattle.descriptor.specs.Model.{Grant, size, encPairs, encModes, encGrant, e
 use Rattle.descriptor.specs.Allowed.{GrantOk, All}
 use Rattle.descriptor.specs.Reader.{Sum, addGrant, moreAt, grantsAt}
 use Rattle.descriptor.specs.View.{grantView, sumFrom, grantsRest, grantsView}
-use Rattle.descriptor.proofs.Truth.{same-test}
+use Rattle.octets.proofs.TruthLaws.{same-test}
 use Rattle.descriptor_laws.proofs.values.ValueLaws.{count-exact}
 use Rattle.descriptor.proofs.WordLaws.{pattern-short}
 use Rattle.descriptor_laws.proofs.grants.GrantLaws.{grant-exact}

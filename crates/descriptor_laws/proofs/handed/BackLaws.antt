@@ -8,9 +8,9 @@ use native.Mathlib.Omega.{arith}
 use lib.ListN.{length, length-append}
 use lib.Bits.{bitOr}
 use Rattle.octets.specs.Bytes.{AreBytes, Has}
-use Rattle.cbor_item.specs.Head.{spanOf}
+use Rattle.octets.specs.Span.{spanOf}
 use Rattle.octets.proofs.BytesLaws.{has-length}
-use Rattle.cbor_item.proofs.ItemLaws.{inside-fits}
+use Rattle.octets.proofs.SpanLaws.{inside-fits}
 use Rattle.descriptor.specs.declared.DescriptorNumbers.{DescriptorNumbers}
 use Rattle.descriptor.specs.Model.{Pair, Grant, Descriptor, encodePayload, encode}
 use Rattle.descriptor.specs.Allowed.{Allowed}

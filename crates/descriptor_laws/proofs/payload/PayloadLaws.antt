@@ -16,7 +16,7 @@ use Rattle.descriptor.specs.Model.{Payload, size, encText, encGrants, encodePay
 use Rattle.descriptor.specs.Allowed.{PayloadOk}
 use Rattle.descriptor.specs.Reader.{PayloadSeen, payloadFits, payloadAt}
 use Rattle.descriptor.specs.View.{keysOf, payloadView}
-use Rattle.descriptor.proofs.Truth.{eqb-test, leb-test, ltb-test, same-test, and-test}
+use Rattle.octets.proofs.TruthLaws.{eqb-test, leb-test, ltb-test, same-test, and-test}
 use Rattle.descriptor_laws.proofs.values.OptionLaws.{size-small, size-view}
 use Rattle.descriptor.proofs.WordLaws.{terminal-length}
 use Rattle.descriptor_laws.proofs.grants.GrantsLaws.{owner, first-at, together-own, own-together}

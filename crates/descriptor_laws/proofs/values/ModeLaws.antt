@@ -18,7 +18,7 @@ use Rattle.descriptor.specs.Model.{encMode, encModes}
 use Rattle.descriptor.specs.Allowed.{isIn, ModeOk, seenWith, ModesOk}
 use Rattle.descriptor.specs.Reader.{hasMode, modeAt, modesAt}
 use Rattle.descriptor.specs.View.{maskFrom, maskOf}
-use Rattle.descriptor.proofs.Truth.{T-false}
+use Rattle.octets.proofs.TruthLaws.{T-false}
 use Rattle.descriptor_laws.proofs.values.ValueLaws.{Apart, count-exact, one-exact}
 
 -- no two names of modes can stand at one place

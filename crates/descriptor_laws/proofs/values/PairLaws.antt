@@ -9,14 +9,15 @@ use lib.Dec.{lit<}
 use Rattle.octets.specs.Bytes.{AreBytes, part, Has}
 use Rattle.exact.specs.Reads.{Reads, encAll}
 use Rattle.cbor_item.specs.Encoding.{head}
-use Rattle.cbor_item.specs.Head.{Span, spanOf}
+use Rattle.octets.specs.Span.{Span, spanOf}
 use Rattle.octets.proofs.BytesLaws.{has-left, has-part, part-back}
 use Rattle.exact.proofs.ReadsLaws.{recast, seq, mapped, checked}
 use Rattle.exact.proofs.CountedLaws.{counted}
 use Rattle.descriptor.specs.Model.{Pair, encText, encPair, encPairs}
-use Rattle.descriptor.specs.Allowed.{before, PairOk, keyOf, PairsOk}
+use Rattle.octets.specs.Order.{before}
+use Rattle.descriptor.specs.Allowed.{PairOk, keyOf, PairsOk}
 use Rattle.descriptor.specs.Reader.{pairAt, pairsAt}
-use Rattle.descriptor.proofs.Truth.{T-true}
+use Rattle.octets.proofs.TruthLaws.{T-true}
 use Rattle.descriptor_laws.proofs.values.ValueLaws.{count-exact, text-exact}
 
 -- where the encoding of a pair's key stands, when the pair stands at a place

@@ -13,17 +13,17 @@ use Rattle.octets.specs.Bytes.{AreBytes, part, Has, hasAt, clash}
 use Rattle.exact.specs.Reads.{got, Reads, found, lacks, bind, guard}
 use Rattle.cbor_item.specs.Encoding.{head}
 use Rattle.cbor_item.specs.Utf8.{isUtf8}
-use Rattle.cbor_item.specs.Head.{Span, headOf, spanAt, encodeString}
+use Rattle.octets.specs.Span.{Span}
+use Rattle.cbor_item.specs.Head.{headOf, spanAt, encodeString}
 use Rattle.octets.proofs.BytesLaws.{has-right, has-part, has-clash, hasAt-yes, yes-hasAt}
 use Rattle.exact.proofs.ReadsLaws.{recast, refine}
-use Rattle.cbor_item.proofs.HeadLaws.{heads-exact, spans-exact}
-use Rattle.cbor_item.proofs.Promises.{utf8-exact}
+use Rattle.cbor_item.proofs.Promises.{heads-exact, spans-exact, utf8-exact}
 use Rattle.descriptor.specs.Keys.{ed25519, ecdsaP256Sha256, algorithms}
 use Rattle.descriptor.specs.Model.{encText, encBytes}
 use Rattle.descriptor.specs.Allowed.{TextOk}
 use Rattle.descriptor.specs.Value.{within, countAt, textAt, wordAt, bytesAt, oneOf}
 use Rattle.descriptor.specs.View.{contentSpan}
-use Rattle.descriptor.proofs.Truth.{T-true}
+use Rattle.octets.proofs.TruthLaws.{T-true}
 use Rattle.descriptor.proofs.ValueSteps.{within-test, count-test}
 
 -- ---- tests

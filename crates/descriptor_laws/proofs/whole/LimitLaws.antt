@@ -14,7 +14,8 @@ use Rattle.octets.proofs.Tests.{by-cond}
 use Rattle.resource.specs.Text.{isPattern, longest, patternOk}
 use Rattle.resource.proofs.Flags.{and-left, and-right, and-both}
 use Rattle.descriptor.specs.Model.{Pair, Grant, Descriptor}
-use Rattle.descriptor.specs.Allowed.{before, TextOk, PairOk, keyOf, PairsOk, isIn, ModeOk, seenWith, ModesOk, GrantOk, All, Formed}
+use Rattle.octets.specs.Order.{before}
+use Rattle.descriptor.specs.Allowed.{TextOk, PairOk, keyOf, PairsOk, isIn, ModeOk, seenWith, ModesOk, GrantOk, All, Formed}
 use Rattle.descriptor_laws.specs.Promises.{text, Each, EachTwo, TextWithin, PairsWithin, ModesWithin, GrantWithin, Within, AllowedExactly}
 use Rattle.descriptor_laws.proofs.encoding.OrderLaws.{empty-before, two-ascend}
 use Rattle.descriptor_laws.proofs.places.SeenLaws.{all-get}

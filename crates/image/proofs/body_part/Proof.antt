@@ -9,8 +9,8 @@ use Rattle.image.proofs.body_part.Tie as tie
 enum-known-finding : tie.Need-enum-known-finding
 enum-known-finding c = search needs
 
-content-requires : tie.Need-content-requires
-content-requires c κs = search needs
+part-at-requires : tie.Need-part-at-requires
+part-at-requires c κs = search needs
 
 enum-told : tie.Need-enum-told
 enum-told c = search needs
@@ -31,7 +31,7 @@ slice-aggregate-result-3 : tie.Need-slice-aggregate-result-3
 slice-aggregate-result-3 c = search needs
 
 returns : tie.Need-returns
-returns c = rw (c .before .before .finding .given .1) (c .content .ensures)
+returns c = rw (c .before .before .finding .given .1) (c .part-at .ensures)
 
 returns-2 : tie.Need-returns-2
 unfolding part
@@ -50,7 +50,7 @@ body-part-spec =
     tie.close
     (tie.spec
     enum-known-finding
-    content-requires
+    part-at-requires
     enum-told
     slice-aggregate-result
     enum-told-2

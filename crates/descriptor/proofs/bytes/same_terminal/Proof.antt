@@ -5,7 +5,7 @@ use native.Mathlib.Omega.{arith}
 use lib.ListN.{take}
 use borrow.Author.Needs.{needs}
 use Rattle.octets.specs.Bytes.{same}
-use Rattle.descriptor.proofs.LoopLaws.{same-more}
+use Rattle.octets.proofs.SameLaws.{same-last}
 use Rattle.descriptor.proofs.bytes.same_terminal.Statement.{statement}
 use Rattle.descriptor.proofs.bytes.same_terminal.Tie as tie
 
@@ -35,7 +35,7 @@ loop-again : tie.Need-loop-again Inv-loop μ-loop
 loop-again c =
     let l = c .before .before .before in
     let a = l .before .args in
-    (omega arith, rw (l .loop .inv .1) (sym (same-more (a .a .now) (a .b .now) (l .loop .i) (omega arith) (omega arith))))
+    (omega arith, rw (l .loop .inv .1) (sym (same-last (a .a .now) (a .b .now) (l .loop .i) (omega arith) (omega arith))))
 
 returns : tie.Need-returns Inv-loop μ-loop
 returns c =

@@ -6,7 +6,7 @@ use Rattle.octets.proofs.BytesLaws.{T-of}
 use Rattle.exact.proofs.ReadsLaws.{took, stopped, passed, failed}
 use Rattle.descriptor.specs.Keys.{kResourcePattern}
 use Rattle.descriptor.specs.Answer.{grantEnd}
-use Rattle.descriptor.proofs.Truth.{T-false}
+use Rattle.octets.proofs.TruthLaws.{T-false}
 use Rattle.descriptor.proofs.GrantBounds.{word-ends}
 use borrow.Author.Needs.{needs}
 use Rattle.descriptor.proofs.grants.grant_end.Statement.{statement}

@@ -7,7 +7,7 @@ use Rattle.octets.proofs.BytesLaws.{T-of}
 use Rattle.exact.proofs.ReadsLaws.{took, stopped, passed, failed}
 use Rattle.descriptor.specs.Answer.{grantRead}
 use Rattle.descriptor.specs.Reader.{moreAt}
-use Rattle.descriptor.proofs.Truth.{T-false}
+use Rattle.octets.proofs.TruthLaws.{T-false}
 use Rattle.descriptor.proofs.GrantBounds.{grant-room, tail-long, same-tails}
 use borrow.Author.Needs.{needs}
 use Rattle.descriptor.proofs.grants.more_at.Statement.{statement}

@@ -5,7 +5,7 @@ use native.Mathlib.Omega.{arith}
 use lib.ListN.{length}
 use borrow.Author.Needs.{needs}
 use Rattle.exact.specs.Reads.{got, many}
-use Rattle.cbor_item.specs.Head.{spanOf}
+use Rattle.octets.specs.Span.{spanOf}
 use Rattle.exact.proofs.ReadsLaws.{stopped}
 use Rattle.exact.proofs.CountedLaws.{many-got}
 use Rattle.descriptor.specs.Value.{countAt}

@@ -4,7 +4,7 @@ use Rattle.octets.proofs.BytesLaws.{T-of}
 use Rattle.exact.proofs.ReadsLaws.{took, stopped, passed, failed}
 use Rattle.descriptor.specs.Answer.{openingRead, middleRead, closingRead}
 use Rattle.descriptor.specs.Reader.{payloadAt}
-use Rattle.descriptor.proofs.Truth.{T-false}
+use Rattle.octets.proofs.TruthLaws.{T-false}
 use Rattle.descriptor.proofs.PayloadBounds.{opening-room, closing-room}
 use borrow.Author.Needs.{needs}
 use Rattle.descriptor.proofs.payload.payload_at.Statement.{statement}

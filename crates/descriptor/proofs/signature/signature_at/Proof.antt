@@ -7,8 +7,10 @@ use Rattle.exact.proofs.ReadsLaws.{took, stopped, passed, failed}
 use Rattle.descriptor.specs.Keys.{kSignatureValue}
 use Rattle.descriptor.specs.Answer.{countRead}
 use Rattle.descriptor.specs.Reader.{signatureAt}
-use Rattle.descriptor.proofs.Truth.{T-false}
-use Rattle.descriptor.proofs.GrantBounds.{held, SpanTo, text-bounds, bytes-ends}
+use Rattle.octets.proofs.TruthLaws.{T-false}
+use Rattle.exact.proofs.HoldsLaws.{held}
+use Rattle.cbor_item.specs.Laws.{SpanTo}
+use Rattle.descriptor.proofs.GrantBounds.{text-bounds, bytes-ends}
 use borrow.Author.Needs.{needs}
 use Rattle.descriptor.proofs.signature.signature_at.Statement.{statement}
 use Rattle.descriptor.proofs.signature.signature_at.Tie as tie

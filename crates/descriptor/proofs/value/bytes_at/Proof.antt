@@ -3,7 +3,8 @@ use mathlib.Core.Path.{_≡_, sym, ap, _∙_}
 use Prim.Native.Nat.{_+_}
 use native.Mathlib.Omega.{arith}
 use Rattle.exact.specs.Reads.{got}
-use Rattle.cbor_item.specs.Head.{spanOf, spanRead, spanAt}
+use Rattle.octets.specs.Span.{spanOf}
+use Rattle.cbor_item.specs.Head.{spanRead, spanAt}
 use Rattle.exact.proofs.ReadsLaws.{stopped}
 use Rattle.descriptor.specs.Value.{bytesAt}
 use Rattle.descriptor.proofs.ValueSteps.{bytes-yes, bytes-no}

@@ -4,7 +4,8 @@ use Prim.Native.Nat.{_+_, _≤_}
 use native.Mathlib.Omega.{arith}
 use lib.ListN.{length}
 use Rattle.exact.specs.Reads.{got}
-use Rattle.cbor_item.specs.Head.{spanOf, spanRead, spanAt}
+use Rattle.octets.specs.Span.{spanOf}
+use Rattle.cbor_item.specs.Head.{spanRead, spanAt}
 use Rattle.exact.proofs.ReadsLaws.{stopped}
 use Rattle.descriptor.specs.Value.{textAt}
 use Rattle.descriptor.proofs.ValueSteps.{text-yes, text-long, text-no, span-bound}

@@ -4,10 +4,10 @@ use Prim.Native.Nat.{_-_, _≤_}
 use native.Mathlib.Omega.{arith}
 use lib.ListN.{length, drop}
 use borrow.Author.Needs.{needs}
-use Rattle.descriptor.specs.Allowed.{before}
-use Rattle.descriptor.proofs.LoopLaws.{before-short, before-end, before-less, before-more, before-same}
-use Rattle.descriptor.proofs.bytes.before.Statement.{statement}
-use Rattle.descriptor.proofs.bytes.before.Tie as tie
+use Rattle.octets.specs.Order.{before}
+use Rattle.octets.proofs.OrderLaws.{before-short, before-end, before-less, before-more, before-same}
+use Rattle.octets.proofs.order.before.Statement.{statement}
+use Rattle.octets.proofs.order.before.Tie as tie
 
 abbrev Inv-loop : tie.InvT-loop
 Inv-loop x y i₀ i = (i ≤ length x) × (i ≤ length y) × (before x y ≡ before (drop i x) (drop i y))

@@ -4,11 +4,10 @@ use Prim.Native.Nat.{_+_, _-_, _≤_}
 use native.Mathlib.Omega.{arith}
 use lib.ListN.{length, drop}
 use borrow.Author.Needs.{needs}
 use Rattle.octets.specs.Bytes.{hasAt}
-use Rattle.octets.proofs.BytesLaws.{hasAt-begin, hasAt-alike, hasAt-differs, hasAt-done, hasAt-short}
-use Rattle.descriptor.proofs.LoopLaws.{hasAt-none}
-use Rattle.descriptor.proofs.bytes.has_at.Statement.{statement}
-use Rattle.descriptor.proofs.bytes.has_at.Tie as tie
+use Rattle.octets.proofs.BytesLaws.{hasAt-begin, hasAt-alike, hasAt-differs, hasAt-done, hasAt-short, hasAt-none}
+use Rattle.octets.proofs.order.has_at.Statement.{statement}
+use Rattle.octets.proofs.order.has_at.Tie as tie
 
 abbrev Inv-loop : tie.InvT-loop
 Inv-loop s at k i₀ i = (i ≤ length k) × (at + length k ≤ length s) × (hasAt s (at + i) (drop i k) ≡ hasAt s at k)

@@ -1,34 +1,15 @@
--- Laws for the loops that compare bytes. Assumes nothing.
-use mathlib.Core.Path.{_≡_, sym, ap, _∙_}
-use mathlib.Core.Bool.{true, false, _&&_, _||_, and-assoc, and-true}
-use mathlib.Core.List.{List, [], _∷_}
-use Prim.Native.Nat.{ℕ, zero, suc, _+_, _≤_, _<_}
-use native.Mathlib.Nat.{add-zero}
+-- Laws of a loop that compares two lists of bytes by their order, the first byte first. Assumes nothing.
+use mathlib.Core.Path.{_≡_, _∙_}
+use mathlib.Core.Bool.{true, false, _&&_, _||_}
+use mathlib.Core.List.{List}
+use Prim.Native.Nat.{ℕ, _+_, _≤_, _<_}
 use native.Mathlib.Numerals.{add-one}
 use native.Mathlib.Omega.{arith}
-use lib.ListN.{length, take, drop, getD, drop-of-length-le}
+use lib.ListN.{length, drop, getD, drop-of-length-le}
 use lib.Seq.{drop-cons}
 use lib.Dec.{ltb, eqb}
 use borrow.Author.Tests.{lt-ltb, le-ltb, eq-eqb, ne-eqb}
-use Rattle.octets.specs.Bytes.{same, hasAt}
-use Rattle.octets.proofs.BytesLaws.{hasAt-done}
-use Rattle.descriptor.specs.Allowed.{before}
-
--- no bytes stand at any place
-pub hasAt-none : (s : List ℕ) (at : ℕ) (k : List ℕ) → length k ≡ 0 → hasAt s at k ≡ true
-hasAt-none s at k e = ap (λ (p : ℕ). hasAt s p k) (sym (add-zero at)) ∙ hasAt-done s at k 0 (omega arith)
-
--- two lists are equal for one byte more
-pub same-more : (a b : List ℕ) (i : ℕ) → i < length a → i < length b
-    → same (take (i + 1) a) (take (i + 1) b) ≡ (same (take i a) (take i b) && eqb (getD a i 0) (getD b i 0))
-unfolding same
-same-more [] b i h k = absurd (omega arith)
-same-more (x ∷ a) [] i h k = absurd (omega arith)
-same-more (x ∷ a) (y ∷ b) zero h k = and-true (eqb x y)
-same-more (x ∷ a) (y ∷ b) (suc i) h k =
-    let sum : suc i + 1 ≡ suc (i + 1) = omega arith in
-    rw (sum, same-more a b i (omega arith) (omega arith))
-    (sym (and-assoc (eqb x y) (same (take i a) (take i b)) (eqb (getD a i 0) (getD b i 0))))
+use Rattle.octets.specs.Order.{before}
 
 -- one byte decides, or what follows it
 before-next : (x y : List ℕ) (i : ℕ) → i < length x → i < length y

@@ -26,6 +26,7 @@ use Rattle.descriptor.proofs.GrantBounds.{CountTo, count-bounds, WordTo, word-b
 use Rattle.descriptor.proofs.ModeSteps.{mode-small}
 use Rattle.descriptor.proofs.WordLaws.{terminal-length, fay-length}
 use Rattle.image.specs.Image.{reading}
+use Rattle.image.specs.Laws.{BodyIn, ReadIn}
 
 -- ---- the mask is below 16
 
@@ -143,15 +144,6 @@ descriptor-fits s at =
 
 -- ---- a body that reads
 
--- what is known of a body and of what was read of it
-pub record BodyIn (b : List ℕ) (f : Fields) : Type 0 where
-  pub short : length b ≤ 32768
-  pub some : 0 < length b
-  pub id : f .id + 16 ≤ length b
-  pub fay : f .fay + 40 ≤ length b
-  pub terminal : f .terminal + 45 ≤ length b
-  pub mask : f .mask < 16
-
 -- it is known of an answer that is a reading
 abbrev AnswerIn : List ℕ → Answer → Type 0
 AnswerIn b (read v) = BodyIn b (fieldsOf v)
@@ -163,7 +155,7 @@ whole-in b refused l h = tt
 whole-in b (got v n) l h =
     by-cond (AnswerIn b) (eqb n (length b))
     (λ e. by-cond (AnswerIn b) (leb (v .payload .middle .notAfter - v .payload .middle .notBefore) longestPeriod)
-    (λ f. record { short = l; some = omega (arith, h .1 .id); id = h .1 .id; fay = h .1 .fay; terminal = h .1 .terminal; mask = h .0 })
+    (λ f. record { short = l; filled = omega (arith, h .1 .id); id = h .1 .id; fay = h .1 .fay; terminal = h .1 .terminal; mask = h .0 })
     (λ f. tt))
     (λ e. tt)
 
@@ -175,7 +167,8 @@ answer-in b = by-cond (AnswerIn b) (leb (length b) longest) (λ e. whole-in b (d
 read-same : (f g : Fields) → Read f ≡ Read g → f ≡ g
 read-same f g e = cc
 
-pub read-in : (b : List ℕ) (f : Fields) → reading b ≡ Read f → BodyIn b f
+-- `ReadIn`.
+pub read-in : ReadIn
 unfolding reading
 read-in b f e = go (readOf b) (answer-in b) e
   where

@@ -18,10 +18,12 @@ use Rattle.descriptor.specs.declared.Reading.the-variants.{Read}
 use Rattle.image.specs.Layout.{idSize, rowPlace}
 use Rattle.image.specs.Image.{reading, idOf, row, hasId}
 use Rattle.image.specs.Check.{rowId, rowOffset, rowLength, idAmong, rowFits, rowAt}
-use Rattle.image.proofs.BodyLaws.{BodyIn, read-in}
+use Rattle.image.specs.Laws.{BodyIn}
+use Rattle.image.proofs.BodyLaws.{read-in}
 use Rattle.image.proofs.StepLaws.{RowOk, row-is, among-suc, hit-suc}
-use Rattle.image.proofs.RowLaws.{id-read, modes-read, part-part, RowSays, row-says, says-row}
-use Rattle.image.proofs.ListLaws.{same-true, true-same, or-true, has-snoc}
+use Rattle.image.proofs.RowLaws.{id-read, modes-read, RowSays, row-says, says-row}
+use Rattle.octets.proofs.ListLaws.{part-part, same-true, true-same, or-true}
+use Rattle.image.proofs.ListLaws.{has-snoc}
 
 -- ---- the bodies before
 
@@ -135,7 +137,7 @@ row-complete s seen i at b f small p h =
     let q : RowSays s r at b = stands-says s seen i at b f small h in
     let w : BodyIn b f = read-in b f (h .reads) in
     let body : part s at (length b) ≡ b = has-part s at b (h .has-body) in
-    let inside : at + length b ≤ length s = has-fits s at b (w .some) (h .has-body) in
+    let inside : at + length b ≤ length s = has-fits s at b (w .filled) (h .has-body) in
     let mine : idOf b ≡ part s (at + f .id) idSize
     = id-read b f (h .reads) ∙ ap (λ (x : List ℕ). part x (f .id) idSize) (sym body) ∙ part-part s at (length b) (f .id) idSize (w .id) in
     let fits : rowFits s r at f ≡ true

@@ -4,7 +4,6 @@ use mathlib.Core.Logic.{_⊎_, inl, inr}
 use mathlib.Core.Bool.{Bool, true, false, not, _&&_, and-assoc}
 use mathlib.Core.List.{List}
 use Prim.Native.Nat.{ℕ, _+_, _-_, _*_, _≤_, _<_}
-use native.Mathlib.Nat.{add-sub-cancel-left}
 use native.Mathlib.Omega.{arith}
 use lib.ListN.{length, take, drop}
 use lib.Dec.{leb, eqb}
@@ -18,6 +17,7 @@ use Rattle.exact.proofs.ReadsLaws.{guard-yes, guard-no, guard-leb, passed, fail
 use Rattle.octets.specs.Write.{over, putAt}
 use Rattle.octets.proofs.NumberLaws.{number-in}
 use Rattle.octets.proofs.OverLaws.{put-fits}
+use Rattle.octets.proofs.ListLaws.{lent-part}
 use Rattle.descriptor.specs.declared.Fields.{Fields}
 use Rattle.descriptor.specs.declared.Reading.{Reading}
 use Rattle.descriptor.specs.declared.Reading.the-variants.{Read, Structure, Validity}
@@ -68,11 +68,6 @@ header-is s a b c d h ea eb ec ed =
     ∙ ap₂ (λ (x y : ℕ). eqb (numberAt s 0 2) imageEdition && (eqb (numberAt s 2 2) modeEdition && (leb x mostRows && eqb y 0))) fc fd
 
 -- ---- one row
-
--- The part that the code lends, from a place up to n places on, is that part.
-pub lent-part : (s : List ℕ) (at n : ℕ) → take (at + n - at) (drop at s) ≡ part s at n
-unfolding part
-lent-part s at n = ap (λ (k : ℕ). take k (drop at s)) (add-sub-cancel-left at n)
 
 -- The two ids that the code compares are those of the row and of the body.
 ids-are : (s : List ℕ) (r id : ℕ) (b : Bool) → b ≡ same (take (r + 16 - r) (drop r s)) (take (id + 16 - id) (drop id s)) → b ≡ same (part s r 16) (part s id 16)

@@ -2,8 +2,8 @@
 use mathlib.Core.Path.{_≡_, refl, sym, ap, _∙_, subst}
 use mathlib.Core.Bool.{Bool, true, false}
 use mathlib.Core.List.{List, [], _∷_, _++_}
-use mathlib.Core.Option.{none, some}
-use Prim.Native.Nat.{ℕ, _+_, _≤_}
+use mathlib.Core.Option.{some}
+use Prim.Native.Nat.{ℕ, _+_}
 use lib.ListN.{length}
 use Rattle.octets.specs.Bytes.{part, Has, same}
 use Rattle.exact.specs.Reads.{AllFrom}
@@ -16,8 +16,10 @@ use Rattle.image.specs.declared.Held.the-variants.{Missing, Body}
 use Rattle.image.specs.Layout.{rowPlace}
 use Rattle.image.specs.Image.{reading, idOf, joined, hasId, BodyOk, seenWith, bodyWith}
 use Rattle.image.specs.Check.{noted}
+use Rattle.image.specs.Laws.{HeldBody, HeldIs}
 use Rattle.image.proofs.BodyLaws.{read-in}
-use Rattle.image.proofs.ListLaws.{or-true, or-no-left, or-no-right, read-is, has-snoc, rest-new, with-first, with-rest}
+use Rattle.octets.proofs.ListLaws.{or-true, or-no-left, or-no-right}
+use Rattle.image.proofs.ListLaws.{read-is, has-snoc, rest-new, with-first, with-rest}
 
 -- ---- what is held
 
@@ -37,19 +39,6 @@ unfoldable pub heldIn : List ℕ → List (List ℕ) → Held
 heldIn id bs = heldFrom id (rowPlace (length bs)) Missing bs
 
 -- ---- it is the body with the id
-
--- The body of `len` bytes at `at` in s, of which f was read, is the one with the id.
-pub record HeldBody (s id : List ℕ) (bs : List (List ℕ)) (at len : ℕ) (f : Fields) : Type 0 where
-  pub which : bodyWith id bs ≡ some (part s at len)
-  pub mine : hasId id bs ≡ true
-  pub inside : at + len ≤ length s
-  pub reads : reading (part s at len) ≡ Read f
-  pub named : same (idOf (part s at len)) id ≡ true
-
--- What is held is the body with the id, or none has it.
-abbrev pub HeldIs : List ℕ → List ℕ → List (List ℕ) → Held → Type 0
-HeldIs s id bs Missing = (bodyWith id bs ≡ none) × (hasId id bs ≡ false)
-HeldIs s id bs (Body at len f) = HeldBody s id bs at len f
 
 -- After a body that reads, with the id or not.
 held-hit : (id : List ℕ) (at : ℕ) (h : Held) (b : List ℕ) (bs : List (List ℕ)) (f : Fields) (t : Bool) → reading b ≡ Read f → same (idOf b) id ≡ t
@@ -74,30 +63,25 @@ held-none id at h (b ∷ bs) i =
 
 -- Where the first body has another id, what is held of the rest is held of all.
 held-rest : (s id b : List ℕ) (bs : List (List ℕ)) (h : Held) → same (idOf b) id ≡ false → HeldIs s id bs h → HeldIs s id (b ∷ bs) h
-held-rest s id b bs Missing e k = let w = with-rest id b bs e in (w .0 ∙ k .0, w .1 ∙ k .1)
-held-rest s id b bs (Body at len f) e k =
-    let w = with-rest id b bs e in
-    record { which = w .0 ∙ k .which; mine = w .1 ∙ k .mine; inside = k .inside; reads = k .reads; named = k .named }
+held-rest s id b bs Missing e k = with-rest id b bs e .0 ∙ k
+held-rest s id b bs (Body at len f) e k = record { which = with-rest id b bs e .0 ∙ k .which; inside = k .inside; reads = k .reads }
 
 -- A first body with the id is held.
 held-first : (s id : List ℕ) (at : ℕ) (b : List ℕ) (bs : List (List ℕ)) (f : Fields) → Has s at b → reading b ≡ Read f → same (idOf b) id ≡ true
     → HeldBody s id (b ∷ bs) at (length b) f
 held-first s id at b bs f h e i =
     let p : part s at (length b) ≡ b = has-part s at b h in
-    let w = with-first id b bs i in
     record {
-      which = w .0 ∙ ap some (sym p);
-      mine = w .1;
-      inside = has-fits s at b (read-in b f e .some) h;
+      which = with-first id b bs i .0 ∙ ap some (sym p);
+      inside = has-fits s at b (read-in b f e .filled) h;
       reads = ap reading p ∙ e;
-      named = ap (λ (x : List ℕ). same (idOf x) id) p ∙ i;
     }
 
 -- What is held of bodies that stand back to back from a place on is the one with the id.
 pub held-is : (s id : List ℕ) (at : ℕ) (seen bs : List (List ℕ)) → AllFrom BodyOk seenWith seen bs → Has s at (joined bs)
     → HeldIs s id bs (heldFrom id at Missing bs)
-unfolding heldFrom joined bodyWith hasId
-held-is s id at seen [] a h = (refl, refl)
+unfolding heldFrom joined bodyWith
+held-is s id at seen [] a h = refl
 held-is s id at seen (b ∷ bs) a h =
     let r = read-is b (a .0 .reads) in
     go (same (idOf b) id) refl (r .0) (r .1) (held-is s id (at + length b) (seen ++ (b ∷ [])) bs (a .1) (has-right s at b (joined bs) h))

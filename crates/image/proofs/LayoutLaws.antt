@@ -1,6 +1,6 @@
 -- The layout of an image in document 01's numbers, and which bodies a buffer holds (specs/Image.antt). Assumes nothing.
 use mathlib.Core.Path.{_≡_, refl, sym, ap, ap₂, _∙_}
-use mathlib.Core.Bool.{Bool, true, false, false≢true}
+use mathlib.Core.Bool.{true, false, false≢true}
 use mathlib.Core.List.{List, [], _∷_, _++_}
 use Prim.Native.Nat.{ℕ, _<_}
 use native.Mathlib.Omega.{arith}
@@ -11,7 +11,8 @@ use Rattle.exact.specs.Reads.{AllFrom}
 use Rattle.image.specs.Image.{idOf, modesOf, header, row, rowsOf, joined, imageOf, hasId, BodyOk, seenWith, bodyWith}
 use Rattle.image.specs.Promises.{four, LayoutFixed, answerOf, Every, IdsDiffer, HoldsExactly, BodyOfId}
 use Rattle.image.proofs.RowLaws.{id-length, modes-small}
-use Rattle.image.proofs.ListLaws.{same-true, true-same, or-no-left, or-no-right, or-true, rest-new, has-snoc, with-first, with-rest}
+use Rattle.octets.proofs.ListLaws.{true-same, or-no-left, or-no-right, or-true, other-same}
+use Rattle.image.proofs.ListLaws.{rest-new, has-snoc, with-first, with-rest}
 use Rattle.image.proofs.ReadLaws.{read-zero, zero-read}
 
 -- ---- the layout
@@ -49,14 +50,6 @@ layout-fixed = (
 )
 
 -- ---- which bodies a buffer holds
-
--- Lists of bytes that differ fail the test.
-pub other-same : (x y : List ℕ) → (x ≡ y → ⊥) → same x y ≡ false
-other-same x y n = go (same x y) refl
-  where
-    go : (t : Bool) → same x y ≡ t → t ≡ false
-    go true e = absurd (n (same-true x y e))
-    go false e = refl
 
 -- Bodies of which none has the id have other ids.
 has-none : (id : List ℕ) (bs : List (List ℕ)) → hasId id bs ≡ false → Every (λ c. idOf c ≡ id → ⊥) bs

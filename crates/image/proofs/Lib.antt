@@ -11,6 +11,8 @@ pub mod FreshLaws
 pub mod ReadLaws
 pub mod LayoutLaws
 pub mod LookupLaws
+pub mod PlaceLaws
+pub mod MoreLaws
 pub mod Laws
 pub mod Promises
 pub mod CodeLaws

@@ -2,49 +2,18 @@
 use mathlib.Core.Path.{_≡_, refl, sym, ap, _∙_, subst}
 use mathlib.Core.Bool.{Bool, true, false, _||_, false≢true, or-false}
 use mathlib.Core.List.{List, [], _∷_, _++_, append-assoc, append-nil}
-use mathlib.Core.Option.{Option, some}
+use mathlib.Core.Option.{Option, none, some}
 use Prim.Native.Nat.{ℕ, _*_, _≤_}
 use native.Mathlib.Omega.{arith}
 use lib.ListN.{length, length-append}
 use Rattle.octets.specs.Bytes.{same}
 use Rattle.exact.specs.Reads.{AllFrom}
-use Rattle.octets.proofs.BytesLaws.{same-eq, same-refl, T-of}
+use Rattle.octets.proofs.ListLaws.{or-assoc, none-some, same-true}
 use Rattle.descriptor.specs.declared.Fields.{Fields}
 use Rattle.descriptor.specs.declared.Reading.{Reading}
 use Rattle.descriptor.specs.declared.Reading.the-variants.{Read, Structure, Validity}
-use Rattle.octets.proofs.TruthLaws.{T-true}
 use Rattle.image.specs.Image.{reading, isRead, idOf, joined, hasId, BodyOk, seenWith, bodyWith}
 use Rattle.image.proofs.BodyLaws.{read-in}
-
--- ---- tests
-
--- Lists of bytes of which the test says so are equal.
-pub same-true : (x y : List ℕ) → same x y ≡ true → x ≡ y
-same-true x y e = same-eq x y (T-of refl e)
-
--- Equal lists of bytes pass the test.
-pub true-same : (x y : List ℕ) → x ≡ y → same x y ≡ true
-true-same x y e = T-true (same x y) .0 (rw e (same-refl y))
-
--- Three tests of which one holds.
-pub or-assoc : (a b c : Bool) → (a || (b || c)) ≡ ((a || b) || c)
-or-assoc true b c = refl
-or-assoc false b c = refl
-
--- A test or true is true.
-pub or-true : (a : Bool) → (a || true) ≡ true
-or-true true = refl
-or-true false = refl
-
--- Of two tests of which none holds the first does not.
-pub or-no-left : (a b : Bool) → (a || b) ≡ false → a ≡ false
-or-no-left true b e = e
-or-no-left false b e = refl
-
--- Nor does the second.
-pub or-no-right : (a b : Bool) → (a || b) ≡ false → b ≡ false
-or-no-right true b e = absurd (false≢true (sym e))
-or-no-right false b e = e
 
 -- ---- a body that reads
 
@@ -97,15 +66,16 @@ each-snoc seen (x ∷ bs) b a o =
 
 -- ---- the body with an id
 
--- After one more body its id finds it, where none of the others has it.
-pub with-new : (id : List ℕ) (bs : List (List ℕ)) (b : List ℕ) → hasId id bs ≡ false → same (idOf b) id ≡ true → bodyWith id (bs ++ (b ∷ [])) ≡ some b
-unfolding bodyWith hasId
+-- After one more body its id finds it, where it found none before.
+pub with-new : (id : List ℕ) (bs : List (List ℕ)) (b : List ℕ) → bodyWith id bs ≡ none → same (idOf b) id ≡ true → bodyWith id (bs ++ (b ∷ [])) ≡ some b
+unfolding bodyWith
 with-new id [] b h e = rw (e, bodyWith)
 with-new id (x ∷ bs) b h e = go (same (idOf x) id) h (with-new id bs b)
   where
-    go : (t : Bool) → (t || hasId id bs) ≡ false → (hasId id bs ≡ false → same (idOf b) id ≡ true → bodyWith id (bs ++ (b ∷ [])) ≡ some b)
+    go : (t : Bool) → _≡_ {A = Option (List ℕ)} (elim t as (λ t. Option (List ℕ)) [ true ↦ some x | false ↦ bodyWith id bs ]) none
+        → (bodyWith id bs ≡ none → same (idOf b) id ≡ true → bodyWith id (bs ++ (b ∷ [])) ≡ some b)
         → elim t as (λ t. Option (List ℕ)) [ true ↦ some x | false ↦ bodyWith id (bs ++ (b ∷ [])) ] ≡ some b
-    go true h r = absurd (false≢true (sym h))
+    go true h r = absurd (none-some x (sym h))
     go false h r = r h e
 
 -- Any other id finds what it found before.

@@ -1,15 +1,15 @@
 -- Laws of rows and of images (specs/Image.antt): their lengths, the fields of a row, and one body more. Assumes nothing.
 use mathlib.Core.Path.{_≡_, refl, sym, ap, _∙_, subst}
 use mathlib.Core.List.{List, [], _∷_, _++_, append-assoc, append-nil}
-use Prim.Native.Nat.{ℕ, zero, suc, _+_, _*_, _≤_, _<_}
+use Prim.Native.Nat.{ℕ, _+_, _*_, _≤_, _<_}
 use native.Mathlib.Omega.{arith}
 use native.Mathlib.Nat.{add-zero}
-use lib.ListN.{length, take, drop, length-append}
-use lib.Seq.{take-take, drop-drop}
+use lib.ListN.{length, length-append}
 use Rattle.octets.specs.Bytes.{AreBytes, part, Has}
 use Rattle.octets.specs.Number.{bigEndian, numberAt}
-use Rattle.octets.proofs.BytesLaws.{part-has, has-left, has-right, has-join, has-part, has-fits}
+use Rattle.octets.proofs.BytesLaws.{part-has, has-left, has-part, has-fits}
 use Rattle.octets.proofs.NumberLaws.{length-bigEndian, number-of-has, has-of-number}
+use Rattle.octets.proofs.ListLaws.{has-after, has-both}
 use Rattle.descriptor.specs.declared.Fields.{Fields}
 use Rattle.descriptor.specs.declared.Reading.{Reading}
 use Rattle.descriptor.specs.declared.Reading.the-variants.{Read, Structure, Validity}
@@ -17,6 +17,7 @@ use Rattle.image.specs.Layout.{idSize, rowPlace}
 use Rattle.image.specs.Image.{reading, idIn, maskIn, idOf, modesOf, header, row, rowsOf, joined, imageOf}
 use Rattle.image.specs.Check.{rowId, rowOffset, rowLength}
 use Rattle.image.proofs.BodyLaws.{read-in}
+use Rattle.image.specs.Laws.{RowParts}
 
 -- ---- what reading says of a body
 
@@ -98,39 +99,9 @@ rows-snoc at (x ∷ bs) b =
     ap (λ (l : List ℕ). row at x ++ l) (rows-snoc (at + length x) bs b ∙ ap (λ (n : ℕ). rowsOf (at + length x) bs ++ row n b) e)
     ∙ sym (append-assoc (row at x) (rowsOf (at + length x) bs) (row (at + length (x ++ joined bs)) b))
 
--- ---- bytes at a place
-
--- Bytes within the first n do not depend on what follows these.
-take-within : (p k n : ℕ) (l : List ℕ) → p + k ≤ n → take k (drop p (take n l)) ≡ take k (drop p l)
-take-within zero k n l h = take-take k n l (omega arith)
-take-within (suc p) k zero l h = absurd (omega arith)
-take-within (suc p) k (suc n) [] h = refl
-take-within (suc p) k (suc n) (x ∷ l) h = take-within p k n l (omega arith)
-
--- A part of a part is a part.
-pub part-part : (s : List ℕ) (at n p k : ℕ) → p + k ≤ n → part (part s at n) p k ≡ part s (at + p) k
-unfolding part
-part-part s at n p k h = take-within p k n (drop at s) h ∙ ap (take k) (drop-drop p at s)
-
--- What stands after n bytes.
-pub has-after : (s : List ℕ) (r n p : ℕ) (a b : List ℕ) → length a ≡ n → r + n ≡ p → Has s r (a ++ b) → Has s p b
-has-after s r n p a b e f h = subst (λ (q : ℕ). Has s q b) (ap (λ (k : ℕ). r + k) e ∙ f) (has-right s r a b h)
-
--- What stands after n bytes, with them.
-pub has-both : (s : List ℕ) (r n p : ℕ) (a b : List ℕ) → length a ≡ n → r + n ≡ p → Has s r a → Has s p b → Has s r (a ++ b)
-has-both s r n p a b e f h k = has-join s r a b h (subst (λ (q : ℕ). Has s q b) (sym (ap (λ (m : ℕ). r + m) e ∙ f)) k)
-
 -- ---- the fields of a row
 
--- The five fields stand in the row at r one after the other.
-pub record RowParts (s : List ℕ) (r at : ℕ) (b : List ℕ) : Type 0 where
-  pub id : Has s r (idOf b)
-  pub offset : Has s (r + 16) (bigEndian 4 at)
-  pub size : Has s (r + 20) (bigEndian 4 (length b))
-  pub mask : Has s (r + 24) (bigEndian 1 (modesOf b))
-  pub zeros : Has s (r + 25) (bigEndian 7 0)
-
--- They do so where the row stands.
+-- The five fields of a row stand one after the other.
 pub row-parts : (s : List ℕ) (r at : ℕ) (b : List ℕ) → Has s r (row at b) → RowParts s r at b
 unfolding row
 row-parts s r at b h =

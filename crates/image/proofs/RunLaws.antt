@@ -15,7 +15,8 @@ use Rattle.image.specs.Layout.{rowPlace}
 use Rattle.image.specs.Image.{reading, idOf, row, rowsOf, joined, BodyOk, seenWith}
 use Rattle.image.specs.Check.{rowId, rowOffset, rowLength, rowAt, noted, rowsFrom, bodiesFrom}
 use Rattle.image.proofs.BodyLaws.{read-in}
-use Rattle.image.proofs.RowLaws.{id-length, row-length, has-after, has-both, row-parts, RowSays}
+use Rattle.image.proofs.RowLaws.{id-length, row-length, row-parts, RowSays}
+use Rattle.octets.proofs.ListLaws.{has-after, has-both}
 use Rattle.image.proofs.ListLaws.{read-is, is-read}
 use Rattle.image.proofs.HeldLaws.{heldAfter, heldFrom}
 use Rattle.image.proofs.CheckLaws.{Past, past-more, Stands, row-sound, stands-says, row-complete}

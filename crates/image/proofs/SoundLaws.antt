@@ -4,11 +4,10 @@ use mathlib.Core.Bool.{Bool, true, _&&_}
 use mathlib.Core.List.{List, [], _++_}
 use Prim.Native.Nat.{ℕ, _+_, _≤_, _<_}
 use native.Mathlib.Omega.{arith}
-use lib.ListN.{length, take, drop}
-use lib.Seq.{take-at}
+use lib.ListN.{length, drop}
 use lib.Dec.{leb, eqb}
 use borrow.Author.Tests.{leb-true, eqb-true, eq-eqb, le-leb}
-use Rattle.octets.specs.Bytes.{AreBytes, part, Has}
+use Rattle.octets.specs.Bytes.{AreBytes, Has}
 use Rattle.octets.specs.Number.{bigEndian, numberAt}
 use Rattle.exact.specs.Reads.{got, guard}
 use Rattle.octets.proofs.Tests.{and-left, and-right}
@@ -20,8 +19,10 @@ use Rattle.image.specs.declared.Held.the-variants.{Missing}
 use Rattle.image.specs.Layout.{imageEdition, modeEdition, headerSize, mostRows, rowPlace}
 use Rattle.image.specs.Image.{header, rowsOf, joined, imageOf, BodiesOk, Holds}
 use Rattle.image.specs.Check.{rowCount, headerFits, rowsFrom, checked, bodiesFrom, bodiesOf}
+use Rattle.image.specs.Laws.{ImageParts, ImageStands}
 use Rattle.image.proofs.StepLaws.{guard-got}
-use Rattle.image.proofs.RowLaws.{header-length, rows-length, image-length, has-after, has-both}
+use Rattle.image.proofs.RowLaws.{header-length, rows-length, image-length}
+use Rattle.octets.proofs.ListLaws.{has-after, has-both, front-has}
 use Rattle.image.proofs.HeldLaws.{heldFrom, heldIn}
 use Rattle.image.proofs.CheckLaws.{past-none}
 use Rattle.image.proofs.RunLaws.{Run, rows-sound, rows-complete, rows-bodies}
@@ -102,27 +103,20 @@ fits-says s l e =
 
 -- An image that s begins with stands at its beginning.
 pub holds-has : (s : List ℕ) (bs : List (List ℕ)) → Holds s bs → Has s 0 (imageOf bs)
-unfolding Has part
-holds-has s bs h = ap (take (length (imageOf bs))) (h .whole) ∙ take-at (imageOf bs) (h .rest) (length (imageOf bs)) refl
+holds-has s bs h = front-has s (imageOf bs) (h .rest) (h .whole)
 
 -- The image of allowed bodies that stands at the beginning is what s begins with.
 pub has-holds : (s : List ℕ) (bs : List (List ℕ)) → BodiesOk bs → Has s 0 (imageOf bs) → Holds s bs
 has-holds s bs o h = record { bodies = o; rest = drop (length (imageOf bs)) s; whole = has-front s (imageOf bs) h }
 
--- The header, the rows and the bodies of an image stand one after the other.
-pub record Whole (s : List ℕ) (bs : List (List ℕ)) : Type 0 where
-  pub has-header : Has s 0 (header (length bs))
-  pub has-rows : Has s 8 (rowsOf (rowPlace (length bs)) bs)
-  pub has-bodies : Has s (rowPlace (length bs)) (joined bs)
-
 -- The rows end where the bodies begin.
 pub rows-end : (bs : List (List ℕ)) → 8 + length (rowsOf (rowPlace (length bs)) bs) ≡ rowPlace (length bs)
 rows-end bs = omega (arith, rows-length (rowPlace (length bs)) bs)
 
--- They do so in an image that s begins with.
-pub whole-run : (s : List ℕ) (bs : List (List ℕ)) → Holds s bs → Whole s bs
+-- `ImageStands`.
+pub image-stands : ImageStands
 unfolding imageOf
-whole-run s bs h =
+image-stands s bs h =
     let n : ℕ = length bs in
     let rows : List ℕ = rowsOf (rowPlace n) bs in
     let w : Has s 0 (header n ++ (rows ++ joined bs)) = holds-has s bs h in
@@ -133,8 +127,8 @@ whole-run s bs h =
       has-bodies = has-after s 8 (length rows) (rowPlace n) rows (joined bs) refl (rows-end bs) r;
     }
 
--- Where they do so the image stands.
-pub run-whole : (s : List ℕ) (bs : List (List ℕ)) → Whole s bs → Has s 0 (imageOf bs)
+-- Where the header, the rows and the bodies of an image stand one after the other, it stands.
+pub run-whole : (s : List ℕ) (bs : List (List ℕ)) → ImageParts s bs → Has s 0 (imageOf bs)
 unfolding imageOf
 run-whole s bs w =
     let n : ℕ = length bs in
@@ -144,7 +138,7 @@ run-whole s bs w =
 
 -- The rows and the bodies of an image that s begins with stand.
 pub holds-run : (s : List ℕ) (bs : List (List ℕ)) → Holds s bs → Run s [] 0 (rowPlace (length bs)) bs
-holds-run s bs h = let w = whole-run s bs h in record { each = h .bodies .each; has-rows = w .has-rows; has-bodies = w .has-bodies }
+holds-run s bs h = let w = image-stands s bs h in record { each = h .bodies .each; has-rows = w .has-rows; has-bodies = w .has-bodies }
 
 -- An image that s begins with lies within s.
 pub holds-room : (s : List ℕ) (bs : List (List ℕ)) → Holds s bs → length (imageOf bs) ≤ length s
@@ -152,7 +146,7 @@ holds-room s bs h = omega (arith, has-fits s 0 (imageOf bs) (omega (arith, image
 
 -- Its header says how many bodies it has.
 pub holds-says : (s : List ℕ) (bs : List (List ℕ)) → Holds s bs → HeaderSays s (length bs)
-holds-says s bs h = header-says s (length bs) (omega (arith, h .bodies .few)) (whole-run s bs h .has-header)
+holds-says s bs h = header-says s (length bs) (omega (arith, h .bodies .few)) (image-stands s bs h .has-header)
 
 -- The row count is the number of bodies.
 pub count-of : (s : List ℕ) (bs : List (List ℕ)) → Holds s bs → rowCount s ≡ length bs
@@ -204,7 +198,7 @@ check-sound s id bytes h end e =
     let bs : List (List ℕ) = y .0 in
     let c : length bs ≡ n = y .1 in
     let g : Run s [] 0 (rowPlace (length bs)) bs = subst (λ (m : ℕ). Run s [] 0 (rowPlace m) bs) (sym c) (y .2) in
-    let w : Whole s bs = record {
+    let w : ImageParts s bs = record {
       has-header = subst (λ (m : ℕ). Has s 0 (header m)) (sym c) (says-header s n bytes (q .0));
       has-rows = g .has-rows;
       has-bodies = g .has-bodies;

@@ -1,7 +1,6 @@
 -- The check of an image and the lookup of an id, in one pass over the rows: what the code answers. A reader of the promises does not need this page.
 use mathlib.Core.Bool.{Bool, true, false, not, _&&_, _||_}
 use mathlib.Core.List.{List, [], _∷_}
-use mathlib.Core.Option.{Option, none, some}
 use Prim.Native.Nat.{ℕ, zero, suc, _+_}
 use lib.ListN.{length}
 use lib.Dec.{leb, eqb}
@@ -148,13 +147,6 @@ bodySpan s (Found at n) = inside s at n
 bodySpan s BadId = spanOf 0 0
 bodySpan s BadImage = spanOf 0 0
 bodySpan s NotHeld = spanOf 0 0
-
--- the bytes of the body that was found
-abbrev pub bodyFound : List ℕ → Finding → Option (List ℕ)
-bodyFound s (Found at n) = some (part s at n)
-bodyFound s BadId = none
-bodyFound s BadImage = none
-bodyFound s NotHeld = none
 
 -- ---- the bodies that the rows name
 

@@ -21,6 +21,26 @@ rowSize = 32
 abbrev pub idSize : ℕ
 idSize = 16
 
+-- where the row count stands in the header
+abbrev pub countPlace : ℕ
+countPlace = 4
+
+-- where the body's offset stands in a row
+abbrev pub offsetPlace : ℕ
+offsetPlace = 16
+
+-- where the body's length stands in a row
+abbrev pub lengthPlace : ℕ
+lengthPlace = 20
+
+-- where the mask stands in a row
+abbrev pub maskPlace : ℕ
+maskPlace = 24
+
+-- where zero stands in a row
+abbrev pub zeroPlace : ℕ
+zeroPlace = 25
+
 -- the most rows
 abbrev pub mostRows : ℕ
 mostRows = 64

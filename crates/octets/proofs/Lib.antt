@@ -7,3 +7,4 @@ pub mod OrderLaws
 pub mod OverLaws
 pub mod NumberLaws
 pub mod BitLaws
+pub mod ListLaws

@@ -7,7 +7,8 @@ use Prim.Native.Nat.{ℕ, _≤_, _<_}
 use native.Mathlib.Omega.{arith}
 use borrow.Author.Tests.{le-leb, lt-leb, lt-ltb, le-ltb}
 use Rattle.descriptor.specs.Model.{Descriptor}
-use Rattle.steps.proofs.OrderLaws.{passes, fails, decided}
+use Rattle.steps.specs.Laws.{passes, fails}
+use Rattle.steps.proofs.Laws.{decided}
 use Rattle.request.specs.Asked.{Asked, isListed}
 use Rattle.request.specs.Decision.{decisionOf, numbersOf}
 use Rattle.request.specs.Promises.{held, Under, refusal, formed, stepsFor, grantedFor, BeginBoundary, EndBoundary}

@@ -11,12 +11,13 @@ use Rattle.descriptor.specs.declared.Fields.{Fields}
 use Rattle.steps.specs.declared.Window.{Window}
 use Rattle.steps.specs.Order.{step, orElse, inOrder}
 use Rattle.steps.specs.Key.{bad, noKey, isThat, keyOpen}
-use Rattle.steps.proofs.OrderLaws.{Decides, ends, passes, fails, decided}
+use Rattle.steps.specs.Laws.{Decides, ends, passes, fails}
+use Rattle.steps.proofs.Laws.{decided}
 use Rattle.image.specs.declared.Held.the-variants.{Missing, Body}
 use Rattle.image.specs.declared.Survey.{Survey}
 use Rattle.image.specs.declared.Survey.the-variants.{Sound, Unsound}
 use Rattle.image.specs.Check.{surveyOf, isSound, isHeld}
-use Rattle.image.proofs.CodeLaws.{lent-part}
+use Rattle.octets.proofs.ListLaws.{lent-part}
 use Rattle.request.specs.declared.Decision.{Decision}
 use Rattle.request.specs.declared.Decision.the-variants as answers
 use Rattle.request.specs.declared.search.Matched.{Matched}

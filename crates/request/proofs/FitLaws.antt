@@ -18,7 +18,7 @@ use Rattle.image.specs.Layout.{rowPlace}
 use Rattle.image.specs.Image.{reading}
 use Rattle.image.specs.Check.{rowId, rowLength, rowCount, rowAt, noted, rowsFrom, checked, surveyed, surveyOf}
 use Rattle.image.proofs.BodyLaws.{read-in}
-use Rattle.image.proofs.CodeLaws.{lent-part}
+use Rattle.octets.proofs.ListLaws.{lent-part}
 use Rattle.image.proofs.StepLaws.{RowOk, row-is}
 use Rattle.request.specs.Stages.{BodyFits}
 

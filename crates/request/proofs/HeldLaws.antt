@@ -16,7 +16,7 @@ use Rattle.image.specs.declared.Survey.{Survey}
 use Rattle.image.specs.declared.Survey.the-variants.{Sound}
 use Rattle.image.specs.Image.{reading, imageOf, Holds, bodyWith}
 use Rattle.image.specs.Check.{surveyOf, isSound, isHeld}
-use Rattle.image.proofs.HeldLaws.{HeldIs}
+use Rattle.image.specs.Laws.{HeldIs}
 use Rattle.image.proofs.SurveyLaws.{survey-complete}
 use Rattle.request.specs.declared.Decision.{Decision}
 use Rattle.request.specs.declared.Decision.the-variants as answers
@@ -48,14 +48,6 @@ unfolding stepsBy inOrder orElse
 malformed-first q sound held x m r e = rw e
 
 -- ---- the body that is held
-
--- What two equal options hold is equal.
-pub some-same : (x y : List ℕ) → some x ≡ some y → x ≡ y
-some-same x y e = cc
-
--- An option that holds something is not empty.
-pub none-some : (x : List ℕ) → none ≡ some x → ⊥
-none-some x e = let z : _≡_ {A = ℕ} 0 1 = cc in omega arith
 
 -- The fields of equal readings are equal.
 fields-same : (f g : Fields) → Read f ≡ Read g → f ≡ g

@@ -8,7 +8,7 @@ use native.Mathlib.Decide.{decLe}
 use lib.ListN.{length}
 use Rattle.octets.specs.Bytes.{part, same}
 use Rattle.image.specs.Layout.{idSize}
-use Rattle.image.proofs.ListLaws.{same-true, true-same}
+use Rattle.octets.proofs.ListLaws.{same-true, true-same}
 use Rattle.request.specs.Asked.{listedAmong, isListed}
 use Rattle.request.specs.Promises.{ListedExactly}
 

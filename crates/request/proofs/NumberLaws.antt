@@ -11,7 +11,8 @@ use Rattle.descriptor.specs.Model.{Grant, Descriptor}
 use Rattle.descriptor.specs.Allowed.{Allowed}
 use Rattle.steps.specs.Order.{Step, orElse, inOrder}
 use Rattle.steps.specs.Key.{isVerdict, isThat, keyOpen}
-use Rattle.steps.proofs.OrderLaws.{mapped, order-mapped}
+use Rattle.steps.specs.Laws.{mapped}
+use Rattle.steps.proofs.Laws.{order-mapped}
 use Rattle.steps.proofs.Promises as order
 use Rattle.image.specs.declared.Survey.the-variants.{Unsound}
 use Rattle.image.specs.Check.{surveyOf}

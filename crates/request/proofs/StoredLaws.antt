@@ -14,8 +14,9 @@ use Rattle.image.specs.declared.Held.{Held}
 use Rattle.image.specs.declared.Held.the-variants.{Missing, Body}
 use Rattle.image.specs.Image.{idOf, hasId, Holds, bodyWith}
 use Rattle.image.specs.Check.{surveyOf, isHeld}
-use Rattle.image.proofs.HeldLaws.{HeldIs}
-use Rattle.image.proofs.ListLaws.{same-true, with-other}
+use Rattle.image.specs.Laws.{HeldIs}
+use Rattle.octets.proofs.ListLaws.{same-true}
+use Rattle.image.proofs.ListLaws.{with-other}
 use Rattle.image.proofs.RowLaws.{id-length}
 use Rattle.image.proofs.SurveyLaws.{survey-complete}
 use Rattle.image.proofs.Laws.{survey-exactly, body-found, body-read}

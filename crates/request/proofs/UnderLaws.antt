@@ -12,18 +12,23 @@ use Rattle.exact.specs.Reads.{AllFrom}
 use Rattle.descriptor.specs.declared.Fields.{Fields}
 use Rattle.descriptor.specs.Model.{Descriptor, encode}
 use Rattle.descriptor.specs.Allowed.{Allowed}
+use Rattle.descriptor.specs.View.{descriptorView}
+use Rattle.descriptor.specs.Answer.{fieldsOf}
+use Rattle.descriptor_laws.proofs.places.PlaceLaws.{id-part}
 use Rattle.image.specs.declared.Held.{Held}
 use Rattle.image.specs.declared.Held.the-variants.{Missing, Body}
 use Rattle.image.specs.declared.Survey.{Survey}
 use Rattle.image.specs.declared.Survey.the-variants.{Sound, Unsound}
 use Rattle.image.specs.Image.{idOf, hasId, BodyOk, seenWith, Holds, bodyWith}
 use Rattle.image.specs.Check.{surveyOf, isSound, bodiesOf}
-use Rattle.image.proofs.HeldLaws.{HeldBody, HeldIs}
-use Rattle.image.proofs.ListLaws.{same-true, true-same, or-true, is-read, has-snoc, rest-new, with-first, with-rest}
+use Rattle.image.specs.Laws.{HeldBody, HeldIs}
+use Rattle.octets.proofs.ListLaws.{same-true, true-same, or-true, some-same, none-some}
+use Rattle.image.proofs.ListLaws.{is-read, has-snoc, rest-new, with-first, with-rest}
+use Rattle.image.proofs.RowLaws.{id-read}
 use Rattle.image.proofs.SurveyLaws.{survey-complete, survey-sound, survey-held}
-use Rattle.image.proofs.Laws.{survey-exactly, body-read, encoding-read}
+use Rattle.image.proofs.Laws.{survey-exactly, body-read}
 use Rattle.request.specs.Promises.{Stored, badImage, notHeld, held, Among, Under, AllStored}
-use Rattle.request.proofs.HeldLaws.{some-same, none-some}
+use Rattle.request.proofs.MeaningLaws.{reading-encode}
 
 -- ---- parts of bytes
 
@@ -74,11 +79,15 @@ with-place id (x ∷ bs) b e = go (same (idOf x) id) e (with-place id bs b)
 
 -- ---- what is held
 
+-- The id of the encoding of an allowed descriptor is the descriptor's.
+id-encode : (d : Descriptor) → AreBytes (encode d) → Allowed d → idOf (encode d) ≡ d .payload .id
+id-encode d b a = id-read (encode d) (fieldsOf (descriptorView 0 d)) (reading-encode d b a) ∙ id-part d (a .formed)
+
 -- The body with the id of a descriptor that is held is its encoding.
 pub held-found : (s id : List ℕ) (d : Descriptor) (u : Under s id (held d)) → bodyWith id (u .0) ≡ some (encode d)
 held-found s id d u =
     let a : Among (u .0) id d = u .2 in
-    ap (λ (x : List ℕ). bodyWith x (u .0)) (sym (a .named) ∙ sym (encoding-read d (a .bytes) (a .allowed) .3))
+    ap (λ (x : List ℕ). bodyWith x (u .0)) (sym (a .named) ∙ sym (id-encode d (a .bytes) (a .allowed)))
     ∙ place-with [] (u .0) (a .place) (encode d) (u .1 .bodies .each) (a .inside) (a .there)
 
 -- A descriptor whose encoding is the body with its id is held.

@@ -1,49 +1,10 @@
--- Laws of steps in order (specs/Order.antt). Assumes nothing.
-use mathlib.Core.Path.{_≡_, refl, sym, ap, _∙_, subst}
+-- The two promises of steps in order (specs/Promises.antt). Assumes nothing.
+use mathlib.Core.Path.{_≡_, refl, sym, _∙_, subst}
 use mathlib.Core.Logic.{_↔_}
 use mathlib.Core.Bool.{Bool, true, false, not}
-use mathlib.Core.List.{List, [], _∷_, _++_}
-use native.Mathlib.Omega.{arith}
+use mathlib.Core.List.{List, [], _∷_}
 use lib.Dec.{T}
-use Rattle.steps.specs.Order.{Step, step, orElse, inOrder, AllPass, FirstFails, here, later, NoneIs}
-
--- ---- for code: how an answer comes about, step by step
-
--- x is what the steps come to: each passes up to one that fails, or all do
-pub data Decides {R : Type 0} : List (Step R) → R → R → Type 0 where
-  ends : {r : R} → Decides [] r r
-  passes : {s : Step R} {steps : List (Step R)} {r x : R} → s .passes ≡ true → Decides steps r x → Decides (s ∷ steps) r x
-  fails : {s : Step R} {steps : List (Step R)} {r : R} → s .passes ≡ false → Decides (s ∷ steps) r (s .refusal)
-
--- what the steps come to is the answer
-pub decided : {R : Type 0} {steps : List (Step R)} {r x : R} → Decides steps r x → x ≡ inOrder steps r
-unfolding inOrder orElse
-decided ends = refl
-decided (passes e d) = rw e (decided d)
-decided (fails e) = rw e
-
--- ---- the answer through a function
-
--- The steps with their refusals through a function.
-abbrev pub mapped : {R S : Type 0} → (R → S) → List (Step R) → List (Step S)
-mapped f [] = []
-mapped f (s ∷ steps) = step (s .passes) (f (s .refusal)) ∷ mapped f steps
-
--- A function of the answer is the answer of the steps with their refusals through it.
-pub order-mapped : {R S : Type 0} (f : R → S) (steps : List (Step R)) (r : R) → f (inOrder steps r) ≡ inOrder (mapped f steps) (f r)
-unfolding inOrder orElse
-order-mapped f [] r = refl
-order-mapped f (s ∷ steps) r = go (s .passes) (order-mapped f steps r)
-  where
-    go : (t : Bool) → f (inOrder steps r) ≡ inOrder (mapped f steps) (f r) → f (orElse t (s .refusal) (inOrder steps r)) ≡ orElse t (f (s .refusal)) (inOrder (mapped f steps) (f r))
-    go true e = e
-    go false e = refl
-
--- Steps that pass alike and have the same refusal, before steps that do so.
-pub alike : {R : Type 0} {t u : Bool} {a b : R} {ss us : List (Step R)} → t ≡ u → a ≡ b → ss ≡ us → (step t a ∷ ss) ≡ (step u b ∷ us)
-alike e f g = rw (e, f, g)
-
--- ---- the two promises
+use Rattle.steps.specs.Order.{Step, orElse, inOrder, AllPass, FirstFails, here, later, NoneIs}
 
 no-way : {X : Type 0} {b : Bool} → b ≡ true → b ≡ false → X
 no-way e f = absurd (subst (λ (c : Bool). T (not c)) (sym f ∙ e) tt)

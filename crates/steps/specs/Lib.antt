@@ -1,3 +1,4 @@
 pub mod Order
 pub mod Key
 pub mod Promises
+pub mod Laws

@@ -16,7 +16,8 @@ use Rattle.descriptor.specs.declared.Reading.the-variants.{Read, Structure, Val
 use Rattle.steps.specs.declared.Window.{Window}
 use Rattle.steps.specs.Order.{inOrder}
 use Rattle.steps.specs.Key.{bad, noKey, isVerdict, isThat, keyOpen}
-use Rattle.steps.proofs.OrderLaws.{Decides, ends, passes, fails, decided}
+use Rattle.steps.specs.Laws.{Decides, ends, passes, fails}
+use Rattle.steps.proofs.Laws.{decided}
 use Rattle.image.specs.declared.Held.{Held}
 use Rattle.image.specs.declared.Held.the-variants.{Missing, Body}
 use Rattle.image.specs.declared.Survey.{Survey}

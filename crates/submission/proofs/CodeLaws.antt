@@ -23,7 +23,7 @@ use Rattle.image.specs.declared.Survey.the-variants.{Sound, Unsound}
 use Rattle.image.specs.Image.{reading, idIn, idOf}
 use Rattle.image.specs.Check.{surveyOf}
 use Rattle.image.proofs.BodyLaws.{read-in}
-use Rattle.image.proofs.CodeLaws.{lent-part}
+use Rattle.octets.proofs.ListLaws.{lent-part}
 use Rattle.submission.specs.declared.Submission.{Submission}
 use Rattle.submission.specs.declared.Submission.the-variants as answers
 use Rattle.submission.specs.declared.choose.Choice.{Choice}

@@ -15,7 +15,8 @@ use Rattle.descriptor.specs.declared.Fields.{Fields}
 use Rattle.descriptor.specs.declared.Reading.the-variants.{Read}
 use Rattle.image.specs.Layout.{rowPlace, rowSize}
 use Rattle.image.specs.Image.{reading, isRead, idOf, header, row, rowsOf, joined, imageOf, hasId, BodiesOk, Holds}
-use Rattle.image.proofs.RowLaws.{header-length, row-length, rows-length, image-length, joined-snoc, rows-snoc, has-both}
+use Rattle.image.proofs.RowLaws.{header-length, row-length, rows-length, image-length, joined-snoc, rows-snoc}
+use Rattle.octets.proofs.ListLaws.{has-both}
 use Rattle.image.proofs.ListLaws.{joined-short, each-snoc}
 use Rattle.image.proofs.SoundLaws.{Whole, whole-run, run-whole}
 use Rattle.submission.specs.Stages.{raised, withRow, grown}

@@ -13,7 +13,8 @@ use Rattle.octets.specs.Bytes.{part}
 use Rattle.descriptor.specs.Model.{Descriptor, encode}
 use Rattle.steps.specs.declared.Window.{Window}
 use Rattle.steps.specs.Order.{Step, step}
-use Rattle.steps.proofs.OrderLaws.{Decides, ends, passes, fails, decided}
+use Rattle.steps.specs.Laws.{Decides, ends, passes, fails}
+use Rattle.steps.proofs.Laws.{decided}
 use Rattle.image.specs.declared.Held.{Held}
 use Rattle.image.specs.declared.Held.the-variants.{Missing, Body}
 use Rattle.image.specs.declared.StoredNumbers.{StoredNumbers}
@@ -22,11 +23,10 @@ use Rattle.image.specs.Check.{surveyOf, findOf, numbersOf}
 use Rattle.image.specs.Check as survey
 use Rattle.image.specs.Promises.{refusal}
 use Rattle.image.proofs.RowLaws.{id-length}
-use Rattle.image.proofs.ListLaws.{true-same, with-other}
-use Rattle.image.proofs.LayoutLaws.{other-same}
-use Rattle.image.proofs.HeldLaws.{HeldIs}
+use Rattle.octets.proofs.ListLaws.{true-same, other-same, none-some}
+use Rattle.image.proofs.ListLaws.{with-other}
+use Rattle.image.specs.Laws.{HeldIs}
 use Rattle.image.proofs.SurveyLaws.{survey-complete}
-use Rattle.image.proofs.LookupLaws.{none-some}
 use Rattle.image.proofs.Laws.{body-found, encoding-read}
 use Rattle.image.proofs.Promises.{lookup-exactly}
 use Rattle.submission.specs.declared.Submission.{Submission}

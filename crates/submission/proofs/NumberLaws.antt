@@ -21,7 +21,8 @@ use Rattle.descriptor.specs.Answer.{readingOf}
 use Rattle.steps.specs.declared.Window.{Window}
 use Rattle.steps.specs.Order.{Step, orElse, inOrder, NoneIs}
 use Rattle.steps.specs.Key.{isVerdict, isThat, keyOpen}
-use Rattle.steps.proofs.OrderLaws.{mapped, order-mapped, alike}
+use Rattle.steps.specs.Laws.{mapped}
+use Rattle.steps.proofs.Laws.{order-mapped, alike}
 use Rattle.steps.proofs.Promises as order
 use Rattle.image.specs.declared.Held.{Held}
 use Rattle.image.specs.declared.Held.the-variants.{Missing, Body}
@@ -30,7 +31,7 @@ use Rattle.image.specs.declared.Survey.the-variants.{Sound, Unsound}
 use Rattle.image.specs.Image.{reading, isRead, idOf, imageOf, Holds}
 use Rattle.image.specs.Check.{surveyOf, isSound}
 use Rattle.image.specs.Promises.{answerOf}
-use Rattle.image.proofs.HeldLaws.{HeldIs}
+use Rattle.image.specs.Laws.{HeldIs}
 use Rattle.image.proofs.SurveyLaws.{survey-complete}
 use Rattle.image.proofs.Laws.{survey-exactly, body-read, encoding-read}
 use Rattle.submission.specs.declared.Submission.the-variants as answers

@@ -14,7 +14,9 @@ use Rattle.descriptor.specs.declared.Fields.{Fields}
 use Rattle.descriptor.specs.declared.Reading.the-variants.{Read}
 use Rattle.image.specs.Layout.{imageEdition, modeEdition, rowSize, rowPlace}
 use Rattle.image.specs.Image.{reading, idOf, modesOf, header, row, rowsOf, joined}
-use Rattle.image.proofs.RowLaws.{id-read, modes-read, id-length, row-length, has-after, has-both, RowParts, row-parts, parts-row}
+use Rattle.image.proofs.RowLaws.{id-read, modes-read, id-length, row-length, row-parts, parts-row}
+use Rattle.octets.proofs.ListLaws.{has-after, has-both}
+use Rattle.image.specs.Laws.{RowParts}
 use Rattle.submission.specs.Stages.{raised, withRow}
 
 -- ---- offsets

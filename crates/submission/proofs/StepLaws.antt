@@ -12,7 +12,8 @@ use Rattle.descriptor.specs.declared.Reading.the-variants.{Read, Structure, Val
 use Rattle.steps.specs.declared.Window.{Window}
 use Rattle.steps.specs.Key.{isVerdict}
 use Rattle.steps.specs.Order.{Step, AllPass, NoneIs}
-use Rattle.steps.proofs.OrderLaws.{passes, fails, decided}
+use Rattle.steps.specs.Laws.{passes, fails}
+use Rattle.steps.proofs.Laws.{decided}
 use Rattle.steps.proofs.Promises as order
 use Rattle.image.specs.declared.Survey.the-variants.{Unsound}
 use Rattle.image.specs.Image.{reading, isRead, idOf}

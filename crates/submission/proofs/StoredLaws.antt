@@ -20,8 +20,9 @@ use Rattle.image.specs.Layout.{rowSize, mostRows}
 use Rattle.image.specs.Image.{idOf, imageOf, hasId, Holds}
 use Rattle.image.specs.Check.{surveyOf, findOf, bodyFound, isHeld}
 use Rattle.image.proofs.RowLaws.{id-length}
-use Rattle.image.proofs.ListLaws.{same-true, true-same, with-new}
-use Rattle.image.proofs.HeldLaws.{HeldBody, HeldIs}
+use Rattle.octets.proofs.ListLaws.{same-true, true-same}
+use Rattle.image.proofs.ListLaws.{with-new}
+use Rattle.image.specs.Laws.{HeldBody, HeldIs}
 use Rattle.image.proofs.SurveyLaws.{survey-complete}
 use Rattle.image.proofs.Laws.{bodies-named, body-found, editions-surveyed}
 use Rattle.submission.specs.declared.Submission.the-variants as answers

@@ -22,7 +22,8 @@ use Rattle.image.specs.declared.Survey.{Survey}
 use Rattle.image.specs.declared.Survey.the-variants.{Sound, Unsound}
 use Rattle.image.specs.Image.{reading, idIn, idOf}
 use Rattle.image.specs.Check.{surveyOf}
-use Rattle.image.proofs.BodyLaws.{read-in}
+use Rattle.image.specs.Laws.{HeldFits}
+use Rattle.image.proofs.Laws.{read-in}
 use Rattle.octets.proofs.ListLaws.{lent-part}
 use Rattle.submission.specs.declared.Submission.{Submission}
 use Rattle.submission.specs.declared.Submission.the-variants as answers
@@ -31,7 +32,6 @@ use Rattle.submission.specs.declared.choose.Choice.the-variants.{Answer,
 use Rattle.submission.specs.declared.choose.Admission.{Admission}
 use Rattle.submission.specs.declared.choose.Admission.the-variants.{Refused, Admitted}
 use Rattle.submission.specs.Submission.{longestLead}
-use Rattle.submission.specs.Places.{HeldFits}
 use Rattle.submission.specs.Stages.{admitted, placed, whenAdmitted, chosenRead, chosenUnread, chosenBy, choiceOf, raised, withRow, grown}
 
 -- ---- the beginning, the issuer, the key and the signature
@@ -67,7 +67,7 @@ module _ (before clock verdict : ℕ) (window : Window) (h : before ≤ clock + 
 
 -- The body that is held lies in the image.
 pub held-room : (d : List ℕ) (h : Held) (at len : ℕ) (g : Fields) → HeldFits d h → h ≡ Body at len g → at + len ≤ length d
-held-room d h at len g k e = subst (HeldFits d) e k
+held-room d h at len g k e = subst (HeldFits d) e k .0
 
 module _ (d b : List ℕ) (n end : ℕ) (h : Held) (f : Fields) where
   module _ (at len : ℕ) (g : Fields) (e : h ≡ Body at len g) (t : Bool) (k : t ≡ same (take (at + len - at) (drop at d)) b) where

@@ -1,10 +1,9 @@
 -- The writes of a submission, in the code's order, come to the image with one body more (specs/Stages.antt). Assumes nothing.
-use mathlib.Core.Path.{_≡_, refl, sym, ap, _∙_, subst}
-use mathlib.Core.Bool.{true, false}
+use mathlib.Core.Path.{_≡_, ap, _∙_}
 use mathlib.Core.List.{List, [], _∷_, _++_}
-use Prim.Native.Nat.{ℕ, _+_, _-_, _*_, _≤_, _<_}
+use Prim.Native.Nat.{ℕ, _+_, _-_, _*_, _≤_}
 use native.Mathlib.Omega.{arith}
-use lib.ListN.{length, drop, length-append}
+use lib.ListN.{length, drop}
 use Rattle.octets.specs.Bytes.{part, Has}
 use Rattle.octets.specs.Number.{bigEndian}
 use Rattle.octets.proofs.BytesLaws.{has-part}
@@ -14,52 +13,11 @@ use Rattle.octets.proofs.OverLaws.{over-has, has-front, Kept, kept-over, kept-h
 use Rattle.descriptor.specs.declared.Fields.{Fields}
 use Rattle.descriptor.specs.declared.Reading.the-variants.{Read}
 use Rattle.image.specs.Layout.{rowPlace, rowSize}
-use Rattle.image.specs.Image.{reading, isRead, idOf, header, row, rowsOf, joined, imageOf, hasId, BodiesOk, Holds}
-use Rattle.image.proofs.RowLaws.{header-length, row-length, rows-length, image-length, joined-snoc, rows-snoc}
-use Rattle.octets.proofs.ListLaws.{has-both}
-use Rattle.image.proofs.ListLaws.{joined-short, each-snoc}
-use Rattle.image.proofs.SoundLaws.{Whole, whole-run, run-whole}
+use Rattle.image.specs.Image.{reading, header, row, rowsOf, joined, imageOf, Holds}
+use Rattle.image.specs.Laws.{ImageParts}
+use Rattle.image.proofs.Laws.{lengths, image-stands, one-more}
 use Rattle.submission.specs.Stages.{raised, withRow, grown}
 use Rattle.submission.proofs.RaiseLaws.{rows-raised, with-row, header-counted}
-
--- ---- one body more
-
--- The image of one body more is longer by a row and the body.
-pub length-more : (bs : List (List ℕ)) (b : List ℕ) → length (imageOf (bs ++ (b ∷ []))) ≡ length (imageOf bs) + 32 + length b
-length-more bs b =
-    omega (arith, image-length bs, image-length (bs ++ (b ∷ [])), length-append bs (b ∷ []), ap length (joined-snoc bs b), length-append (joined bs) b)
-
--- Fewer than 64 bodies and one more that reads, whose id none of them has, are allowed.
-pub bodies-more : (bs : List (List ℕ)) (b : List ℕ) → BodiesOk bs → length bs < 64 → isRead (reading b) ≡ true → hasId (idOf b) bs ≡ false → BodiesOk (bs ++ (b ∷ []))
-bodies-more bs b o few reads new = record {
-  few = omega (arith, length-append bs (b ∷ []));
-  each = each-snoc [] bs b (o .each) (record { reads = reads; new = new });
-}
-
--- Where the pieces of the larger image stand, it stands.
-pieces : (d : List ℕ) (bs : List (List ℕ)) (b : List ℕ) → Has d 0 (header (length bs + 1)) → Has d 8 (rowsOf (rowPlace (length bs) + 32) bs)
-    → Has d (rowPlace (length bs)) (row (length (imageOf bs) + 32) b) → Has d (rowPlace (length bs) + 32) (joined bs) → Has d (length (imageOf bs) + 32) b
-    → Has d 0 (imageOf (bs ++ (b ∷ [])))
-pieces d bs b h₁ h₂ h₃ h₄ h₅ =
-    let n : ℕ = length bs in
-    let more : List (List ℕ) = bs ++ (b ∷ []) in
-    let m : length more ≡ n + 1 = length-append bs (b ∷ []) in
-    let start : rowPlace n + 32 ≡ rowPlace (length more) = omega arith in
-    let at : length (imageOf bs) + 32 ≡ (rowPlace n + 32) + length (joined bs) = omega (arith, image-length bs) in
-    let last : Has d (rowPlace n) (row ((rowPlace n + 32) + length (joined bs)) b) = subst (λ (q : ℕ). Has d (rowPlace n) (row q b)) at h₃ in
-    let rows : Has d 8 (rowsOf (rowPlace n + 32) more)
-    = subst (Has d 8) (sym (rows-snoc (rowPlace n + 32) bs b))
-    (has-both d 8 (32 * n) (rowPlace n) (rowsOf (rowPlace n + 32) bs) (row ((rowPlace n + 32) + length (joined bs)) b) (rows-length (rowPlace n + 32) bs) refl h₂ last) in
-    let bodies : Has d (rowPlace n + 32) (joined more)
-    = subst (Has d (rowPlace n + 32)) (sym (joined-snoc bs b))
-    (has-both d (rowPlace n + 32) (length (joined bs)) (length (imageOf bs) + 32) (joined bs) b refl (sym at) h₄ h₅) in
-    run-whole d more (record {
-      has-header = subst (λ (k : ℕ). Has d 0 (header k)) (sym m) h₁;
-      has-rows = subst (λ (k : ℕ). Has d 8 (rowsOf k more)) start rows;
-      has-bodies = subst (λ (k : ℕ). Has d k (joined more)) start bodies;
-    })
-
--- ---- the writes
 
 -- What is written, from what each write leaves.
 writes : (d : List ℕ) (n end : ℕ) (b : List ℕ) (id mask : ℕ) (d₁ d₃ d₄ d₅ : List ℕ) → movedUp d (rowPlace n) end rowSize ≡ d₁
@@ -78,14 +36,14 @@ grown-image d bs b f h e room =
     let start : ℕ = rowPlace n in
     let r : List ℕ = row (end + 32) b in
     let count : List ℕ = bigEndian 2 (n + 1) in
-    let w : Whole d bs = whole-run d bs h in
-    let il : end ≡ start + length (joined bs) = image-length bs in
-    let rl : length r ≡ 32 = row-length (end + 32) b in
+    let w : ImageParts d bs = image-stands d bs h in
+    let il : end ≡ start + length (joined bs) = lengths .of-image bs in
+    let rl : length r ≡ 32 = lengths .of-row (end + 32) b in
     let few : n ≤ 64 = h .bodies .few in
-    let short : length (joined bs) ≤ 32768 * n = joined-short [] bs (h .bodies .each) in
-    let low : length (rowsOf start bs) ≡ 32 * n = rows-length start bs in
-    let up : length (rowsOf (start + 32) bs) ≡ 32 * n = rows-length (start + 32) bs in
-    let hl : length (header n) ≡ 8 = header-length n in
+    let short : length (joined bs) ≤ 32768 * n = lengths .of-bodies bs (h .bodies) in
+    let low : length (rowsOf start bs) ≡ 32 * n = lengths .of-rows start bs in
+    let up : length (rowsOf (start + 32) bs) ≡ 32 * n = lengths .of-rows (start + 32) bs in
+    let hl : length (header n) ≡ 8 = lengths .of-header n in
     -- the bodies, moved
     let sub : end - start ≡ length (joined bs) = omega arith in
     let js : part d start (end - start) ≡ joined bs = ap (part d start) sub ∙ has-part d start (joined bs) (w .has-bodies) in
@@ -129,14 +87,14 @@ grown-image d bs b f h e room =
     let e₅ : putAt d₄ 4 count ≡ d₅ = put-fits d₄ 4 count f₅ in
     let k₅ : Kept d₄ d₅ 4 (4 + length count) = kept-over d₄ 4 count f₅ in
     let has : Has d₅ 0 (imageOf (bs ++ (b ∷ []))) =
-    pieces d₅ bs b
+    one-more .stands d₅ bs b
     (header-counted d₄ n (n + 1) head₄)
     (kept-has d₄ d₅ 4 (4 + length count) 8 _ k₅ (omega arith) rows₄)
     (kept-has d₄ d₅ 4 (4 + length count) start r k₅ (omega arith) row₄)
     (kept-has d₄ d₅ 4 (4 + length count) (start + 32) (joined bs) k₅ (omega arith) bod₄)
     (kept-has d₄ d₅ 4 (4 + length count) (end + 32) b k₅ (omega arith) new₄) in
     let m : ℕ = length (imageOf (bs ++ (b ∷ []))) in
-    let ml : m ≡ end + 32 + length b = length-more bs b in
+    let ml : m ≡ end + 32 + length b = one-more .of-image bs b in
     let rest : drop m d₅ ≡ drop m d
     = k₅ .after m (omega arith) ∙ k₄ .after m (omega arith) ∙ k₃ .after m (omega arith) ∙ k₂ .after m (omega arith) ∙ k₁ .after m (omega arith) in
     writes d n end b (f .id) (f .mask) d₁ d₃ d₄ d₅ e₁ e₃ e₄ e₅

@@ -1,5 +1,5 @@
 -- The last two steps, what they leave in the buffer and what a lookup then finds, in document 01's numbers (specs/Promises.antt). Assumes nothing.
-use mathlib.Core.Path.{_≡_, refl, sym, ap, _∙_, subst}
+use mathlib.Core.Path.{_≡_, refl, sym, ap, _∙_}
 use mathlib.Core.Logic.{_⊎_, inl, ⊎-elim}
 use mathlib.Core.Bool.{Bool, true, false, not, _&&_, _||_}
 use mathlib.Core.List.{List, [], _∷_, _++_}
@@ -15,63 +15,18 @@ use Rattle.steps.specs.declared.Window.{Window}
 use Rattle.steps.specs.Order.{Step, step}
 use Rattle.steps.specs.Laws.{Decides, ends, passes, fails}
 use Rattle.steps.proofs.Laws.{decided}
-use Rattle.image.specs.declared.Held.{Held}
-use Rattle.image.specs.declared.Held.the-variants.{Missing, Body}
 use Rattle.image.specs.declared.StoredNumbers.{StoredNumbers}
-use Rattle.image.specs.Image.{idOf, imageOf, hasId, Holds, bodyWith}
-use Rattle.image.specs.Check.{surveyOf, findOf, numbersOf}
-use Rattle.image.specs.Check as survey
+use Rattle.image.specs.Image.{idOf, imageOf, Holds, bodyWith}
+use Rattle.image.specs.Check.{findOf, numbersOf}
 use Rattle.image.specs.Promises.{refusal}
-use Rattle.image.proofs.RowLaws.{id-length}
-use Rattle.octets.proofs.ListLaws.{true-same, other-same, none-some}
-use Rattle.image.proofs.ListLaws.{with-other}
-use Rattle.image.specs.Laws.{HeldIs}
-use Rattle.image.proofs.SurveyLaws.{survey-complete}
-use Rattle.image.proofs.Laws.{body-found, encoding-read}
-use Rattle.image.proofs.Promises.{lookup-exactly}
-use Rattle.submission.specs.declared.Submission.{Submission}
+use Rattle.octets.proofs.ListLaws.{true-same, other-same}
+use Rattle.image.proofs.Promises.{layout-fixed, lookup-exactly}
+use Rattle.image.proofs.Laws.{encoding-read}
 use Rattle.submission.specs.declared.Submission.the-variants as answers
 use Rattle.submission.specs.Submission.{submitted, afterOf, numberOf}
-use Rattle.submission.specs.Promises.{isSame, isHeld, Gives, larger, Ready, RepeatKeeps, LastSteps, StoredFound, OthersFound, LeadBoundary, RowBoundary}
-use Rattle.submission.proofs.ChoiceLaws.{kept-or-done}
+use Rattle.submission.specs.Promises.{isSame, isHeld, Gives, larger, Ready, LastSteps, StoredFound, OthersFound, LeadBoundary, RowBoundary}
 use Rattle.submission.proofs.NumberLaws.{number-descriptor}
-use Rattle.submission.proofs.StoredLaws.{refusal-keeps, held-keeps, stored-last, body-stored}
-
--- ---- the answer 0, and which bodies have an id
-
--- The answer with the number 0.
-pub zero-done : (a : Submission) → numberOf a ≡ 0 → a ≡ answers.Done
-zero-done answers.Done e = refl
-zero-done answers.Structure e = absurd (omega arith)
-zero-done answers.Validity e = absurd (omega arith)
-zero-done answers.UnknownIssuer e = absurd (omega arith)
-zero-done answers.BadSignature e = absurd (omega arith)
-zero-done answers.Duplicate e = absurd (omega arith)
-zero-done answers.Full e = absurd (omega arith)
-zero-done answers.KeyInvalid e = absurd (omega arith)
-zero-done answers.Malformed e = absurd (omega arith)
-zero-done answers.BadImage e = absurd (omega arith)
-
-module _ (d id : List ℕ) (bs : List (List ℕ)) (h : Holds d bs) where
-  -- Where there is no body with the id, none of the bodies has it.
-  none-new : bodyWith id bs ≡ none → hasId id bs ≡ false
-  none-new e = let w = survey-complete d id bs h in go (w .0) (w .2)
-    where
-      go : (x : Held) → HeldIs d id bs x → hasId id bs ≡ false
-      go Missing k = k .1
-      go (Body at len f) k = absurd (none-some (part d at len) (sym e ∙ k .which))
-
-  -- Where there is one, one of the bodies has it.
-  some-held : (c : List ℕ) → bodyWith id bs ≡ some c → hasId id bs ≡ true
-  some-held c e = let w = survey-complete d id bs h in go (w .0) (w .2)
-    where
-      go : (x : Held) → HeldIs d id bs x → hasId id bs ≡ true
-      go Missing k = absurd (none-some c (sym (k .0) ∙ e))
-      go (Body at len f) k = k .mine
-
--- `RepeatKeeps`.
-pub repeat-keeps : RepeatKeeps
-repeat-keeps d b clock verdict window bs c h e = held-keeps d b clock verdict window bs h (some-held d (idOf b) bs h c e)
+use Rattle.submission.proofs.StoredLaws.{refusal-keeps, repeat-keeps, stored-last, after-holds}
 
 -- ---- the last two steps
 
@@ -146,8 +101,7 @@ module _ (d : List ℕ) (bs : List (List ℕ)) (c : Descriptor) (clock : ℕ) (w
       stores few room =
           let q : numberOf (submitted d (encode c) clock 0 window) ≡ 0
           = last-number 0 (passes (ap (λ (y : Option (List ℕ)). isSame y (encode c)) e) (passes (rw (e, lt-ltb (length bs) 64 few, le-leb (length (imageOf (larger bs c))) (length d) room)) ends)) in
-          let new : hasId (idOf (encode c)) bs ≡ false = none-new d (idOf (encode c)) bs (r .holds) (ap (λ (id : List ℕ). bodyWith id bs) id-of ∙ e) in
-          let k = stored-last d (encode c) clock 0 window bs (r .holds) (zero-done (submitted d (encode c) clock 0 window) q) new in
+          let k = stored-last d (encode c) clock 0 window bs (r .holds) q (ap (λ (id : List ℕ). bodyWith id bs) id-of ∙ e) in
           ((q, k .1), k .0)
 
 -- `LastSteps`.
@@ -175,41 +129,11 @@ row-boundary d bs c clock window r l e room = (
 
 -- ---- what a lookup then finds
 
-module _ (d b : List ℕ) (clock verdict : ℕ) (window : Window) (bs : List (List ℕ)) (h : Holds d bs) where
-  -- The buffer after.
-  abbrev after : List ℕ
-  after = afterOf d b clock verdict window
-
-  -- It is as it was, or holds one body more, whose id is new.
-  data After : Type 0 where
-    kept : after ≡ d → After
-    added : hasId (idOf b) bs ≡ false → Holds after (bs ++ (b ∷ [])) → After
-
-  -- One of the two.
-  after-is : After
-  unfolding afterOf
-  after-is = ⊎-elim kept (λ e. go e (hasId (idOf b) bs) refl) (kept-or-done d b (survey.isHeld (surveyOf d (idOf b))) (submitted d b clock verdict window))
-    where
-      go : submitted d b clock verdict window ≡ answers.Done → (t : Bool) → hasId (idOf b) bs ≡ t → After
-      go e true k = kept (held-keeps d b clock verdict window bs h k)
-      go e false k = added k (stored-last d b clock verdict window bs h e k .0)
-
-  -- It holds a list of bodies.
-  after-holds : (cs : List (List ℕ)) × Holds after cs
-  after-holds = go after-is
-    where
-      go : After → (cs : List (List ℕ)) × Holds after cs
-      go (kept e) = (bs, subst (λ (x : List ℕ). Holds x bs) (sym e) h)
-      go (added k a) = (bs ++ (b ∷ []), a)
-
 -- `StoredFound`.
 pub stored-found : StoredFound
 stored-found d b clock verdict window bs h e =
     let w = after-holds d b clock verdict window bs h in
-    let s : List ℕ = afterOf d b clock verdict window in
-    let which : bodyWith (idOf b) (w .0) ≡ some b
-    = sym (body-found s (idOf b) (w .0) (w .1) (id-length b)) ∙ body-stored d b clock verdict window bs h (zero-done (submitted d b clock verdict window) e) in
-    lookup-exactly .held s (idOf b) (w .0) b (id-length b) (w .1) which
+    lookup-exactly .held (afterOf d b clock verdict window) (idOf b) (w .0) b (layout-fixed .1 b) (w .1) (w .2 e)
 
 -- A lookup of the id in s is answered what it is in d, with the same bytes.
 abbrev Alike : List ℕ → List ℕ → List ℕ → Type 0
@@ -237,8 +161,6 @@ same-body s d id cs bs k h l e = go (bodyWith id bs) refl
 
 -- `OthersFound`.
 pub others-found : OthersFound
-others-found d b clock verdict window bs id h l other = go (after-is d b clock verdict window bs h)
-  where
-    go : After d b clock verdict window bs h → Alike (afterOf d b clock verdict window) d id
-    go (kept e) = subst (λ (s : List ℕ). Alike s d id) (sym e) (refl, refl)
-    go (added k a) = same-body (afterOf d b clock verdict window) d id (bs ++ (b ∷ [])) bs a h l (with-other id bs b (other-same (idOf b) id other))
+others-found d b clock verdict window bs id h l other =
+    let w = after-holds d b clock verdict window bs h in
+    same-body (afterOf d b clock verdict window) d id (w .0) bs (w .1) h l (w .3 id other)

@@ -1,4 +1,3 @@
-pub mod FitLaws
 pub mod CodeLaws
 pub mod ChoiceLaws
 pub mod StepLaws

@@ -1,15 +1,12 @@
 -- The number of a submission is that of the first failing step of specs/Promises.antt. Assumes nothing.
 use mathlib.Core.Path.{_≡_, refl, sym, ap, ap₂, _∙_, subst}
-use mathlib.Core.Bool.{Bool, true, _&&_, false≢true}
-use mathlib.Core.List.{List, [], _∷_}
+use mathlib.Core.List.{List, []}
 use mathlib.Core.Option.{Option}
-use Prim.Native.Nat.{ℕ, _+_, _<_}
+use Prim.Native.Nat.{ℕ, _+_}
 use native.Mathlib.Omega.{arith}
 use lib.ListN.{length}
-use lib.Dec.{leb, ltb}
-use borrow.Author.Tests.{ltb-true}
+use lib.Dec.{leb}
 use Rattle.octets.specs.Bytes.{AreBytes}
-use Rattle.octets.proofs.Tests.{and-left, and-right}
 use Rattle.descriptor.specs.declared.Fields.{Fields}
 use Rattle.descriptor.specs.declared.Reading.{Reading}
 use Rattle.descriptor.specs.declared.Reading.the-variants.{Read, Structure, Validity}
@@ -22,23 +19,21 @@ use Rattle.steps.specs.declared.Window.{Window}
 use Rattle.steps.specs.Order.{Step, orElse, inOrder, NoneIs}
 use Rattle.steps.specs.Key.{isVerdict, isThat, keyOpen}
 use Rattle.steps.specs.Laws.{mapped}
-use Rattle.steps.proofs.Laws.{order-mapped, alike}
+use Rattle.steps.proofs.Laws.{order-mapped, alike, none-is}
 use Rattle.steps.proofs.Promises as order
 use Rattle.image.specs.declared.Held.{Held}
 use Rattle.image.specs.declared.Held.the-variants.{Missing, Body}
 use Rattle.image.specs.declared.Survey.{Survey}
 use Rattle.image.specs.declared.Survey.the-variants.{Sound, Unsound}
 use Rattle.image.specs.Image.{reading, isRead, idOf, imageOf, Holds}
-use Rattle.image.specs.Check.{surveyOf, isSound}
+use Rattle.image.specs.Check.{surveyOf, bodiesOf}
 use Rattle.image.specs.Promises.{answerOf}
 use Rattle.image.specs.Laws.{HeldIs}
-use Rattle.image.proofs.SurveyLaws.{survey-complete}
-use Rattle.image.proofs.Laws.{survey-exactly, body-read, encoding-read}
+use Rattle.image.proofs.Laws.{body-read, encoding-read, survey-tells, survey-says, survey-unsound, one-more}
 use Rattle.submission.specs.declared.Submission.the-variants as answers
 use Rattle.submission.specs.Submission.{stepsBy, steps, submitted, numberOf}
 use Rattle.submission.specs.Promises.{Stored, unsound, bodies, structure, validity, descriptor as encoding, IsStored, IsBody, AlwaysMeets, isSame, stepsFor, SubmittedExactly, DoneExactly, RefusedExactly}
 use Rattle.submission.specs.Promises as promised
-use Rattle.submission.proofs.GrowLaws.{length-more}
 
 -- ---- the number, by what reading answers and what the survey finds
 
@@ -87,8 +82,8 @@ by-descriptor d clock verdict window bs c f Missing e k =
     (alike refl refl
     (alike refl refl
     (alike refl refl
-    (alike (sym (ap (λ (o : Option (List ℕ)). isSame o (encode c)) (k .0))) refl
-    (alike (rw (k .0, length-more bs (encode c))) refl refl))))))))))
+    (alike (sym (ap (λ (o : Option (List ℕ)). isSame o (encode c)) k)) refl
+    (alike (rw (k, one-more .of-image bs (encode c))) refl refl))))))))))
 by-descriptor d clock verdict window bs c f (Body at len g) e k =
     ap (λ (l : List (Step ℕ)). inOrder l 0)
     (alike refl refl
@@ -109,7 +104,7 @@ pub number-descriptor : (d : List ℕ) (clock verdict : ℕ) (window : Window) (
     → numberOf (submitted d (encode c) clock verdict window) ≡ inOrder (stepsFor (bodies bs) (encoding c) (length d) clock verdict window) 0
 number-descriptor d clock verdict window bs c h bytes a =
     let r = encoding-read c bytes a in
-    let w = survey-complete d (idOf (encode c)) bs h in
+    let w = survey-tells d (idOf (encode c)) bs h in
     number-by d (encode c) clock verdict window (Read (r .0)) (Sound (length bs) (length (imageOf bs)) (w .0)) (r .1) (w .1)
     ∙ by-descriptor d clock verdict window bs c (r .0) (w .0) (r .2) (subst (λ (id : List ℕ). HeldIs d id bs (w .0)) (r .3) (w .2))
 
@@ -135,48 +130,32 @@ validity-read b e = go (readingOf (readOf b)) e
     go Structure e = absurd (omega arith)
     go Validity e = refl
 
--- A buffer that holds no list of bodies is not sound.
-unsound-survey : (d id : List ℕ) → AreBytes d → ((bs : List (List ℕ)) → Holds d bs → ⊥) → surveyOf d id ≡ Unsound
-unsound-survey d id bytes n = go (surveyOf d id) refl
-  where
-    go : (v : Survey) → surveyOf d id ≡ v → v ≡ Unsound
-    go (Sound k end h) e = let w = survey-exactly d id bytes .0 (ap isSound e) in absurd (n (w .0) (w .1))
-    go Unsound e = refl
-
 -- `SubmittedExactly`.
 pub submitted-exactly : SubmittedExactly
 submitted-exactly d b clock verdict window unsound x m =
-    number-by d b clock verdict window (reading b) Unsound refl (unsound-survey d (idOf b) (m .buffer-bytes) (m .stored)) ∙ by-unsound d b clock verdict window (reading b) x
+    number-by d b clock verdict window (reading b) Unsound refl (survey-unsound d (idOf b) (m .buffer-bytes) .1 (m .stored)) ∙ by-unsound d b clock verdict window (reading b) x
 submitted-exactly d b clock verdict window (bodies bs) structure m =
-    let w = survey-complete d (idOf b) bs (m .stored) in
+    let w = survey-tells d (idOf b) bs (m .stored) in
     number-by d b clock verdict window Structure (Sound (length bs) (length (imageOf bs)) (w .0)) (structure-read b (m .body)) (w .1)
     ∙ by-structure d b clock verdict window bs (length bs) (length (imageOf bs)) (w .0)
 submitted-exactly d b clock verdict window (bodies bs) validity m =
-    let w = survey-complete d (idOf b) bs (m .stored) in
+    let w = survey-tells d (idOf b) bs (m .stored) in
     number-by d b clock verdict window Validity (Sound (length bs) (length (imageOf bs)) (w .0)) (validity-read b (m .body)) (w .1)
     ∙ by-validity d b clock verdict window bs (length bs) (length (imageOf bs)) (w .0)
 submitted-exactly d b clock verdict window (bodies bs) (encoding c) m =
     ap (λ (y : List ℕ). numberOf (submitted d y clock verdict window)) (m .body .1)
     ∙ number-descriptor d clock verdict window bs c (m .stored) (subst AreBytes (m .body .1) (m .body-bytes)) (m .body .0)
 
--- Each step's number is above 0.
-abbrev allAbove : List (Step ℕ) → Bool
-allAbove [] = true
-allAbove (s ∷ rest) = ltb 0 (s .refusal) && allAbove rest
-
--- Then none is 0.
-none-zero : (ss : List (Step ℕ)) → allAbove ss ≡ true → NoneIs 0 ss
-none-zero [] e = tt
-none-zero (s ∷ rest) e =
-    let l : 0 < s .refusal = ltb-true 0 (s .refusal) (and-left (ltb 0 (s .refusal)) (allAbove rest) e) in
-    (λ z. omega arith, none-zero rest (and-right (ltb 0 (s .refusal)) (allAbove rest) e))
+-- The number of a step.
+abbrev itself : ℕ → ℕ
+itself n = n
 
 -- No step's number is 0.
 never-zero : (s : Stored) (x : promised.Body) (room clock verdict : ℕ) (window : Window) → NoneIs 0 (stepsFor s x room clock verdict window)
-never-zero unsound x room clock verdict window = none-zero (stepsFor unsound x room clock verdict window) refl
-never-zero (bodies bs) structure room clock verdict window = none-zero (stepsFor (bodies bs) structure room clock verdict window) refl
-never-zero (bodies bs) validity room clock verdict window = none-zero (stepsFor (bodies bs) validity room clock verdict window) refl
-never-zero (bodies bs) (encoding c) room clock verdict window = none-zero (stepsFor (bodies bs) (encoding c) room clock verdict window) refl
+never-zero unsound x room clock verdict window = none-is itself 0 (stepsFor unsound x room clock verdict window) refl
+never-zero (bodies bs) structure room clock verdict window = none-is itself 0 (stepsFor (bodies bs) structure room clock verdict window) refl
+never-zero (bodies bs) validity room clock verdict window = none-is itself 0 (stepsFor (bodies bs) validity room clock verdict window) refl
+never-zero (bodies bs) (encoding c) room clock verdict window = none-is itself 0 (stepsFor (bodies bs) (encoding c) room clock verdict window) refl
 
 -- `DoneExactly`.
 pub done-exactly : DoneExactly
@@ -197,8 +176,8 @@ stored-of : (d : List ℕ) → AreBytes d → (s : Stored) × IsStored d s
 stored-of d bytes = go (surveyOf d []) refl
   where
     go : (v : Survey) → surveyOf d [] ≡ v → (s : Stored) × IsStored d s
-    go (Sound n end h) e = let w = survey-exactly d [] bytes .0 (ap isSound e) in (bodies (w .0), w .1)
-    go Unsound e = (unsound, λ bs h. false≢true (ap isSound (sym e) ∙ survey-exactly d [] bytes .1 (bs, h)))
+    go (Sound n end h) e = (bodies (bodiesOf d), survey-says d [] bytes n end h e .holds)
+    go Unsound e = (unsound, survey-unsound d [] bytes .0 e)
 
 -- What every body is.
 body-of : (b : List ℕ) → AreBytes b → (x : promised.Body) × IsBody b x

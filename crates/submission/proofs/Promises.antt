@@ -27,7 +27,7 @@ pub refusal-keeps : RefusalKeeps
 refusal-keeps = stored.refusal-keeps
 
 pub repeat-keeps : RepeatKeeps
-repeat-keeps = last.repeat-keeps
+repeat-keeps = stored.repeat-keeps
 
 pub last-steps : LastSteps
 last-steps = last.last-steps

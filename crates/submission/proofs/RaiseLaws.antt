@@ -14,9 +14,10 @@ use Rattle.descriptor.specs.declared.Fields.{Fields}
 use Rattle.descriptor.specs.declared.Reading.the-variants.{Read}
 use Rattle.image.specs.Layout.{imageEdition, modeEdition, rowSize, rowPlace}
 use Rattle.image.specs.Image.{reading, idOf, modesOf, header, row, rowsOf, joined}
-use Rattle.image.proofs.RowLaws.{id-read, modes-read, id-length, row-length, row-parts, parts-row}
 use Rattle.octets.proofs.ListLaws.{has-after, has-both}
 use Rattle.image.specs.Laws.{RowParts}
+use Rattle.image.proofs.Promises.{layout-fixed}
+use Rattle.image.proofs.Laws.{read-named, lengths, row-exactly}
 use Rattle.submission.specs.Stages.{raised, withRow}
 
 -- ---- offsets
@@ -30,8 +31,8 @@ pub row-raised : (d : List ℕ) (r at : ℕ) (b : List ℕ) → at < 4294967296 
     → Has (putAt d (r + 16) (bigEndian 4 (numberIn d (r + 16) 4 + rowSize))) r (row (at + 32) b)
     × Kept d (putAt d (r + 16) (bigEndian 4 (numberIn d (r + 16) 4 + rowSize))) r (r + 32)
 row-raised d r at b small h =
-    let p : RowParts d r at b = row-parts d r at b h in
-    let l : length (row at b) ≡ 32 = row-length at b in
+    let p : RowParts d r at b = row-exactly d r at b .0 h in
+    let l : length (row at b) ≡ 32 = lengths .of-row at b in
     let i : r + 32 ≤ length d = omega (arith, has-fits d r (row at b) (omega arith) h) in
     let v : numberIn d (r + 16) 4 ≡ at = number-in d (r + 16) 4 (omega arith) (omega arith) ∙ number-of-has d (r + 16) 4 at small (omega arith) (p .offset) in
     let new : List ℕ = bigEndian 4 (at + 32) in
@@ -40,7 +41,7 @@ row-raised d r at b small h =
     let d′ : List ℕ = over d (r + 16) new in
     let k : Kept d d′ (r + 16) ((r + 16) + length new) = kept-over d (r + 16) new fit in
     let q : RowParts d′ r (at + 32) b = record {
-      id = k .before r (idOf b) (omega (arith, id-length b)) (p .id);
+      id = k .before r (idOf b) (omega (arith, layout-fixed .1 b)) (p .id);
       offset = over-has d (r + 16) new fit;
       size = kept-has d d′ _ _ (r + 20) _ k (omega arith) (p .size);
       mask = kept-has d d′ _ _ (r + 24) _ k (omega arith) (p .mask);
@@ -49,7 +50,7 @@ row-raised d r at b small h =
     let e : putAt d (r + 16) (bigEndian 4 (numberIn d (r + 16) 4 + 32)) ≡ d′
     = ap (λ (n : ℕ). putAt d (r + 16) (bigEndian 4 (n + 32))) v ∙ put-fits d (r + 16) new fit in
     subst (λ (x : List ℕ). Has x r (row (at + 32) b) × Kept d x r (r + 32)) (sym e)
-    (parts-row d′ r (at + 32) b q, kept-wide d d′ (r + 16) ((r + 16) + length new) r (r + 32) k (omega arith) (omega arith))
+    (row-exactly d′ r (at + 32) b .1 q, kept-wide d d′ (r + 16) ((r + 16) + length new) r (r + 32) k (omega arith) (omega arith))
 
 -- The offsets of all rows raised: the rows of the bodies that lie so much higher, and no other byte is changed.
 pub rows-raised : (d : List ℕ) (i at : ℕ) (bs : List (List ℕ)) → at + length (joined bs) < 4294967296 → Has d (rowPlace i) (rowsOf at bs)
@@ -64,12 +65,12 @@ rows-raised d i at (b ∷ bs) small h =
     let short : at + (length b + length (joined bs)) < 4294967296 = omega (arith, length-append b (joined bs)) in
     let d′ : List ℕ = putAt d (r + 16) (bigEndian 4 (numberIn d (r + 16) 4 + rowSize)) in
     let x = row-raised d r at b (omega arith) (has-left d r (row at b) rest h) in
-    let g : Has d′ next rest = kept-has d d′ r (r + 32) next rest (x .1) (omega arith) (has-after d r 32 next (row at b) rest (row-length at b) step h) in
+    let g : Has d′ next rest = kept-has d d′ r (r + 32) next rest (x .1) (omega arith) (has-after d r 32 next (row at b) rest (lengths .of-row at b) step h) in
     let y = rows-raised d′ (i + 1) (at + length b) bs (omega arith) g in
     let d″ : List ℕ = raised d′ (length bs) (i + 1) in
     let s : (at + length b) + 32 ≡ (at + 32) + length b = omega arith in
-    let first : Has d″ r (row (at + 32) b) = y .1 .before r (row (at + 32) b) (omega (arith, row-length (at + 32) b)) (x .0) in (
-      has-both d″ r 32 next (row (at + 32) b) (rowsOf ((at + 32) + length b) bs) (row-length (at + 32) b) step first (subst (λ (n : ℕ). Has d″ next (rowsOf n bs)) s (y .0)),
+    let first : Has d″ r (row (at + 32) b) = y .1 .before r (row (at + 32) b) (omega (arith, lengths .of-row (at + 32) b)) (x .0) in (
+      has-both d″ r 32 next (row (at + 32) b) (rowsOf ((at + 32) + length b) bs) (lengths .of-row (at + 32) b) step first (subst (λ (n : ℕ). Has d″ next (rowsOf n bs)) s (y .0)),
       kept-join d d′ d″ r (r + 32) next (next + 32 * length bs) r (r + 32 * suc (length bs)) (x .1) (y .1) (omega arith) (omega arith) (omega arith) (omega arith),
     )
 
@@ -94,7 +95,7 @@ with-row d r at b f e room =
     let n : List ℕ = bigEndian 4 (length b) in
     let m : List ℕ = bigEndian 1 (modesOf b) in
     let z : List ℕ = bigEndian 7 0 in
-    let li : length i ≡ 16 = id-length b in
+    let li : length i ≡ 16 = layout-fixed .1 b in
     let lo : length o ≡ 4 = length-bigEndian 4 at in
     let ln : length n ≡ 4 = length-bigEndian 4 (length b) in
     let lm : length m ≡ 1 = length-bigEndian 1 (modesOf b) in
@@ -102,13 +103,13 @@ with-row d r at b f e room =
     let l₂ : length (i ++ o) ≡ 20 = omega (arith, length-append i o) in
     let l₃ : length ((i ++ o) ++ n) ≡ 24 = omega (arith, length-append (i ++ o) n) in
     let l₄ : length (((i ++ o) ++ n) ++ m) ≡ 25 = omega (arith, length-append ((i ++ o) ++ n) m) in
-    let e₁ : putAt d r (part b (f .id) 16) ≡ over d r i = ap (putAt d r) (sym (id-read b f e)) ∙ put-fits d r i (omega arith) in
+    let e₁ : putAt d r (part b (f .id) 16) ≡ over d r i = ap (putAt d r) (sym (read-named b f e .0)) ∙ put-fits d r i (omega arith) in
     let e₂ : putAt (over d r i) (r + 16) o ≡ over d r (i ++ o) = put-next d r i o (r + 16) (omega arith) (omega arith) in
     let e₃ : putAt (over d r (i ++ o)) (r + 20) n ≡ over d r ((i ++ o) ++ n) = put-next d r (i ++ o) n (r + 20) (omega arith) (omega arith) in
     let e₄ : putAt (over d r ((i ++ o) ++ n)) (r + 24) m ≡ over d r (((i ++ o) ++ n) ++ m) = put-next d r ((i ++ o) ++ n) m (r + 24) (omega arith) (omega arith) in
     let e₅ : putAt (over d r (((i ++ o) ++ n) ++ m)) (r + 25) z ≡ over d r ((((i ++ o) ++ n) ++ m) ++ z)
     = put-next d r (((i ++ o) ++ n) ++ m) z (r + 25) (omega arith) (omega arith) in
-    rw (e₁, e₂, e₃, ← modes-read b f e, e₄, e₅) (ap (over d r) (five i o n m z))
+    rw (e₁, e₂, e₃, ← read-named b f e .1, e₄, e₅) (ap (over d r) (five i o n m z))
 
 -- ---- the row count
 

@@ -1,19 +1,19 @@
 -- Which steps have passed, said of the answer: what the answers 0 and 16 say (specs/Submission.antt). Assumes nothing.
 use mathlib.Core.Path.{_≡_, refl, sym, ap}
 use mathlib.Core.Logic.{_↔_}
-use mathlib.Core.Bool.{Bool, true, false, not, _&&_, _||_}
-use mathlib.Core.List.{List, [], _∷_}
+use mathlib.Core.Bool.{true, not, _||_}
+use mathlib.Core.List.{List}
 use Prim.Native.Nat.{ℕ, _≤_}
-use lib.Dec.{eqb}
-use borrow.Author.Tests.{le-leb, eqb-false, not-true}
-use Rattle.octets.proofs.Tests.{and-left, and-right}
+use native.Mathlib.Omega.{arith}
+use borrow.Author.Tests.{le-leb}
+use Rattle.octets.proofs.Tests.{and-left}
 use Rattle.descriptor.specs.declared.Reading.{Reading}
 use Rattle.descriptor.specs.declared.Reading.the-variants.{Read, Structure, Validity}
 use Rattle.steps.specs.declared.Window.{Window}
 use Rattle.steps.specs.Key.{isVerdict}
-use Rattle.steps.specs.Order.{Step, AllPass, NoneIs}
-use Rattle.steps.specs.Laws.{passes, fails}
-use Rattle.steps.proofs.Laws.{decided}
+use Rattle.steps.specs.Order.{AllPass}
+use Rattle.steps.specs.Laws.{passes, fails, passesBy}
+use Rattle.steps.proofs.Laws.{decided, none-is, passed-by}
 use Rattle.steps.proofs.Promises as order
 use Rattle.image.specs.declared.Survey.the-variants.{Unsound}
 use Rattle.image.specs.Image.{reading, isRead, idOf}
@@ -24,28 +24,25 @@ use Rattle.submission.specs.Submission.{isStructure, isValidity, agrees,
 
 -- ---- the steps and the answer 0
 
--- Answers with different numbers differ.
-apart : (x y : Submission) → eqb (numberOf x) (numberOf y) ≡ false → x ≡ y → ⊥
-apart x y e f = eqb-false (numberOf x) (numberOf y) e (ap numberOf f)
-
--- No step's refusal has the number 0.
-abbrev allRefuse : List (Step Submission) → Bool
-allRefuse [] = true
-allRefuse (s ∷ rest) = not (eqb (numberOf (s .refusal)) 0) && allRefuse rest
-
--- Then none of the refusals is the answer 0.
-none-done : (ss : List (Step Submission)) → allRefuse ss ≡ true → NoneIs answers.Done ss
-none-done [] e = tt
-none-done (s ∷ rest) e =
-    let here : Bool = not (eqb (numberOf (s .refusal)) 0) in
-    (apart (s .refusal) answers.Done (not-true (eqb (numberOf (s .refusal)) 0) (and-left here (allRefuse rest) e)), none-done rest (and-right here (allRefuse rest) e))
+-- The answer with the number 0.
+pub zero-done : (a : Submission) → numberOf a ≡ 0 → a ≡ answers.Done
+zero-done answers.Done e = refl
+zero-done answers.Structure e = absurd (omega arith)
+zero-done answers.Validity e = absurd (omega arith)
+zero-done answers.UnknownIssuer e = absurd (omega arith)
+zero-done answers.BadSignature e = absurd (omega arith)
+zero-done answers.Duplicate e = absurd (omega arith)
+zero-done answers.Full e = absurd (omega arith)
+zero-done answers.KeyInvalid e = absurd (omega arith)
+zero-done answers.Malformed e = absurd (omega arith)
+zero-done answers.BadImage e = absurd (omega arith)
 
 -- The answer is 0 exactly when every step passes.
 pub done-exactly : (d b : List ℕ) (clock verdict : ℕ) (window : Window)
     → (submitted d b clock verdict window ≡ answers.Done) ↔ AllPass (steps d b clock verdict window)
 unfolding submitted steps stepsBy
 done-exactly d b clock verdict window =
-    order.pass-exactly Submission (steps d b clock verdict window) answers.Done (none-done (steps d b clock verdict window) refl)
+    order.pass-exactly Submission (steps d b clock verdict window) answers.Done (none-is numberOf answers.Done (steps d b clock verdict window) refl)
 
 -- ---- what an answer says
 
@@ -67,11 +64,12 @@ pub done-passed : (d b : List ℕ) (clock verdict : ℕ) (window : Window) → s
 unfolding steps stepsBy
 done-passed d b clock verdict window e =
     let p : AllPass (steps d b clock verdict window) = done-exactly d b clock verdict window .0 e in
+    let by : (n : ℕ) → passesBy numberOf n (steps d b clock verdict window) ≡ true = λ n. passed-by numberOf n (steps d b clock verdict window) p in
     record {
-      sound = p .1 .0;
-      reads = read-passes (reading b) (p .1 .1 .0) (p .1 .1 .1 .0);
-      same-bytes = p .1 .1 .1 .1 .1 .1 .1 .1 .0;
-      room = p .1 .1 .1 .1 .1 .1 .1 .1 .1 .0;
+      sound = and-left _ true (by 16);
+      reads = read-passes (reading b) (and-left _ true (by 1)) (and-left (not (isValidity (reading b))) _ (by 2));
+      same-bytes = and-left _ true (by 5);
+      room = and-left _ true (by 6);
     }
 
 -- An image that is not sound is answered with 16, where the verdict is one of the three.

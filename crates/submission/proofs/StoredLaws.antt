@@ -2,63 +2,59 @@
 use mathlib.Core.Path.{_≡_, refl, sym, ap, _∙_, subst}
 use mathlib.Core.Bool.{Bool, true, false, _&&_, _||_, false≢true}
 use mathlib.Core.List.{List, [], _∷_, _++_}
-use mathlib.Core.Option.{some}
-use Prim.Native.Nat.{ℕ, _+_, _≤_, _<_}
+use mathlib.Core.Option.{Option, none, some}
+use Prim.Native.Nat.{ℕ, _+_, _<_}
 use native.Mathlib.Omega.{arith}
 use lib.ListN.{length, drop}
-use lib.Dec.{leb, ltb}
-use borrow.Author.Tests.{ltb-true, leb-true}
+use lib.Dec.{leb, ltb, eqb}
+use borrow.Author.Tests.{ltb-true, eqb-true, eqb-false}
 use Rattle.octets.specs.Bytes.{part, same}
-use Rattle.octets.proofs.Tests.{and-left, and-right}
+use Rattle.octets.proofs.Tests.{and-left}
 use Rattle.descriptor.specs.declared.Fields.{Fields}
 use Rattle.steps.specs.declared.Window.{Window}
 use Rattle.image.specs.declared.Held.{Held}
 use Rattle.image.specs.declared.Held.the-variants.{Missing, Body}
 use Rattle.image.specs.declared.Survey.{Survey}
-use Rattle.image.specs.declared.Survey.the-variants.{Sound}
+use Rattle.image.specs.declared.Survey.the-variants.{Sound, Unsound}
 use Rattle.image.specs.Layout.{rowSize, mostRows}
-use Rattle.image.specs.Image.{idOf, imageOf, hasId, Holds}
-use Rattle.image.specs.Check.{surveyOf, findOf, bodyFound, isHeld}
-use Rattle.image.proofs.RowLaws.{id-length}
-use Rattle.octets.proofs.ListLaws.{same-true, true-same}
-use Rattle.image.proofs.ListLaws.{with-new}
-use Rattle.image.specs.Laws.{HeldBody, HeldIs}
-use Rattle.image.proofs.SurveyLaws.{survey-complete}
-use Rattle.image.proofs.Laws.{bodies-named, body-found, editions-surveyed}
+use Rattle.image.specs.Image.{idOf, imageOf, Holds, bodyWith}
+use Rattle.image.specs.Check.{surveyOf, isSound, isHeld, bodiesOf}
+use Rattle.octets.proofs.ListLaws.{same-true, some-same, none-some}
+use Rattle.image.specs.Laws.{HeldIs}
+use Rattle.image.proofs.Laws.{body-read, bodies-named, survey-tells, survey-says, editions-surveyed, one-more}
 use Rattle.submission.specs.declared.Submission.the-variants as answers
 use Rattle.submission.specs.Submission.{agrees, hasRoom, submitted, numberOf, afterOf}
-use Rattle.submission.specs.Promises.{RefusalKeeps, EditionsRefused}
-use Rattle.submission.specs.Laws.{HeldKeeps, StoredLast, BodyStored}
+use Rattle.submission.specs.Promises.{RefusalKeeps, RepeatKeeps, EditionsRefused}
+use Rattle.submission.specs.Laws.{DoneMeans, AfterHolds}
 use Rattle.submission.proofs.ChoiceLaws.{refused-keeps}
-use Rattle.submission.proofs.GrowLaws.{bodies-more}
 use Rattle.submission.proofs.SubmitLaws.{after-held, after-new}
-use Rattle.submission.proofs.StepLaws.{done-passed, unsound-refused}
+use Rattle.submission.proofs.StepLaws.{zero-done, done-passed, unsound-refused}
 
 -- ---- what the survey finds
 
--- The survey for an id that none of the bodies has.
-pub survey-new : (d id : List ℕ) (bs : List (List ℕ)) → Holds d bs → hasId id bs ≡ false → surveyOf d id ≡ Sound (length bs) (length (imageOf bs)) Missing
-survey-new d id bs h new = let w = survey-complete d id bs h in go (w .0) (w .1) (w .2)
+-- The survey for an id that no body has.
+survey-new : (d id : List ℕ) (bs : List (List ℕ)) → Holds d bs → bodyWith id bs ≡ none → surveyOf d id ≡ Sound (length bs) (length (imageOf bs)) Missing
+survey-new d id bs h new = let w = survey-tells d id bs h in w .1 ∙ ap (Sound (length bs) (length (imageOf bs))) (go (w .0) (w .2))
   where
-    go : (x : Held) → surveyOf d id ≡ Sound (length bs) (length (imageOf bs)) x → HeldIs d id bs x → surveyOf d id ≡ Sound (length bs) (length (imageOf bs)) Missing
-    go Missing e k = e
-    go (Body at len f) e k = absurd (false≢true (sym new ∙ k .mine))
+    go : (x : Held) → HeldIs d id bs x → x ≡ Missing
+    go Missing k = refl
+    go (Body at len f) k = absurd (none-some (part d at len) (sym new ∙ k .which))
 
 -- The body that is held under an id, and where the survey found it.
-pub record Repeat (d id : List ℕ) (bs : List (List ℕ)) : Type 0 where
-  pub at : ℕ
-  pub len : ℕ
-  pub fields : Fields
-  pub found : surveyOf d id ≡ Sound (length bs) (length (imageOf bs)) (Body at len fields)
-  pub body : HeldBody d id bs at len fields
+record Repeat (d id : List ℕ) (bs : List (List ℕ)) (c : List ℕ) : Type 0 where
+  at : ℕ
+  len : ℕ
+  fields : Fields
+  found : surveyOf d id ≡ Sound (length bs) (length (imageOf bs)) (Body at len fields)
+  body : part d at len ≡ c
 
--- The survey for an id that one of the bodies has.
-pub survey-repeat : (d id : List ℕ) (bs : List (List ℕ)) → Holds d bs → hasId id bs ≡ true → Repeat d id bs
-survey-repeat d id bs h held = let w = survey-complete d id bs h in go (w .0) (w .1) (w .2)
+-- The survey for an id that a body has.
+survey-repeat : (d id : List ℕ) (bs : List (List ℕ)) (c : List ℕ) → Holds d bs → bodyWith id bs ≡ some c → Repeat d id bs c
+survey-repeat d id bs c h held = let w = survey-tells d id bs h in go (w .0) (w .1) (w .2)
   where
-    go : (x : Held) → surveyOf d id ≡ Sound (length bs) (length (imageOf bs)) x → HeldIs d id bs x → Repeat d id bs
-    go Missing e k = absurd (false≢true (sym (k .1) ∙ held))
-    go (Body at len f) e k = record { at = at; len = len; fields = f; found = e; body = k }
+    go : (x : Held) → surveyOf d id ≡ Sound (length bs) (length (imageOf bs)) x → HeldIs d id bs x → Repeat d id bs c
+    go Missing e k = absurd (none-some c (sym k ∙ held))
+    go (Body at len f) e k = record { at = at; len = len; fields = f; found = e; body = some-same (part d at len) c (sym (k .which) ∙ held) }
 
 -- ---- what is kept
 
@@ -67,10 +63,9 @@ pub refusal-keeps : RefusalKeeps
 unfolding afterOf
 refusal-keeps d b clock verdict window other = refused-keeps d b (isHeld (surveyOf d (idOf b))) (submitted d b clock verdict window) (λ e. other (ap numberOf e))
 
--- `HeldKeeps`.
-pub held-keeps : HeldKeeps
-held-keeps d b clock verdict window bs h held =
-    after-held d b clock verdict window (ap isHeld (survey-repeat d (idOf b) bs h held .found))
+-- `RepeatKeeps`.
+pub repeat-keeps : RepeatKeeps
+repeat-keeps d b clock verdict window bs c h held = after-held d b clock verdict window (ap isHeld (survey-repeat d (idOf b) bs c h held .found))
 
 -- `EditionsRefused`.
 pub editions-refused : EditionsRefused
@@ -78,50 +73,80 @@ editions-refused d b clock verdict window h other =
     let e : submitted d b clock verdict window ≡ answers.BadImage = unsound-refused d b clock verdict window h (editions-surveyed d (idOf b) other) in
     (ap numberOf e, refusal-keeps d b clock verdict window (λ f. omega (arith, ap numberOf e, f)))
 
--- ---- what is stored
+-- ---- what an answer of 0 says
 
--- The answer 0 under a new id says that fewer than 64 bodies are held and that the larger image fits.
-pub new-room : (d b : List ℕ) (clock verdict : ℕ) (window : Window) (bs : List (List ℕ)) → Holds d bs → submitted d b clock verdict window ≡ answers.Done
-    → hasId (idOf b) bs ≡ false → (length bs < 64) × (length (imageOf bs) + 32 + length b ≤ length d)
-new-room d b clock verdict window bs h e new =
-    let n : ℕ = length bs in
-    let end : ℕ = length (imageOf bs) in
-    let t : (ltb n mostRows && leb (end + rowSize + length b) (length d)) ≡ true
-    = subst (λ (v : Survey). (isHeld v || hasRoom d b v) ≡ true) (survey-new d (idOf b) bs h new) (done-passed d b clock verdict window e .room) in (
-      ltb-true n mostRows (and-left (ltb n mostRows) (leb (end + rowSize + length b) (length d)) t),
-      leb-true (end + rowSize + length b) (length d) (and-right (ltb n mostRows) (leb (end + rowSize + length b) (length d)) t),
-    )
-
--- `StoredLast`.
-pub stored-last : StoredLast
-stored-last d b clock verdict window bs h e new =
-    let more : List (List ℕ) = bs ++ (b ∷ []) in
-    let whole : afterOf d b clock verdict window ≡ imageOf more ++ drop (length (imageOf more)) d
-    = after-new d b clock verdict window (ap isHeld (survey-new d (idOf b) bs h new)) e
-    ∙ ap (λ (l : List (List ℕ)). imageOf (l ++ (b ∷ [])) ++ drop (length (imageOf (l ++ (b ∷ [])))) d) (bodies-named d bs h) in (
-      record {
-        bodies = bodies-more bs b (h .bodies) (new-room d b clock verdict window bs h e new .0) (done-passed d b clock verdict window e .reads) new;
-        rest = drop (length (imageOf more)) d;
-        whole = whole;
-      },
-      whole,
-    )
-
--- ---- what a lookup then finds
-
--- `BodyStored`.
-pub body-stored : BodyStored
-body-stored d b clock verdict window bs h e = go (hasId (idOf b) bs) refl
+-- `DoneMeans`.
+pub done-means : DoneMeans
+done-means d b clock verdict window bytes a z =
+    let p = done-passed d b clock verdict window (zero-done (submitted d b clock verdict window) z) in
+    let r = body-read b a (p .reads) in
+    (go (surveyOf d (idOf b)) refl (p .sound), (r .0, r .1, r .2, r .3))
   where
-    go : (t : Bool) → hasId (idOf b) bs ≡ t → bodyFound (afterOf d b clock verdict window) (findOf (afterOf d b clock verdict window) (idOf b)) ≡ some b
-    go true held =
-        let r : Repeat d (idOf b) bs = survey-repeat d (idOf b) bs h held in
-        let s : same (part d (r .at) (r .len)) b ≡ true
-        = subst (λ (v : Survey). agrees d b v ≡ true) (r .found) (done-passed d b clock verdict window e .same-bytes) in
-        ap (λ (x : List ℕ). bodyFound x (findOf x (idOf b))) (held-keeps d b clock verdict window bs h held)
-        ∙ body-found d (idOf b) bs h (id-length b)
-        ∙ r .body .which
-        ∙ ap some (same-true (part d (r .at) (r .len)) b s)
-    go false new =
-        body-found (afterOf d b clock verdict window) (idOf b) (bs ++ (b ∷ [])) (stored-last d b clock verdict window bs h e new .0) (id-length b)
-        ∙ with-new (idOf b) bs b new (true-same (idOf b) (idOf b) refl)
+    go : (v : Survey) → surveyOf d (idOf b) ≡ v → isSound (surveyOf d (idOf b)) ≡ true → (bs : List (List ℕ)) × Holds d bs
+    go (Sound n end h) e t = (bodiesOf d, survey-says d (idOf b) bytes n end h e .holds)
+    go Unsound e t = absurd (false≢true (sym (ap isSound e) ∙ t))
+
+module _ (d b : List ℕ) (clock verdict : ℕ) (window : Window) (bs : List (List ℕ)) (h : Holds d bs) (z : numberOf (submitted d b clock verdict window) ≡ 0) where
+  -- The answer is 0.
+  done : submitted d b clock verdict window ≡ answers.Done
+  done = zero-done (submitted d b clock verdict window) z
+
+  -- Under an id that is held, it says that the same bytes are held.
+  repeat-same : (c : List ℕ) → bodyWith (idOf b) bs ≡ some c → c ≡ b
+  repeat-same c held =
+      let r : Repeat d (idOf b) bs c = survey-repeat d (idOf b) bs c h held in
+      let s : same (part d (r .at) (r .len)) b ≡ true
+      = subst (λ (v : Survey). agrees d b v ≡ true) (r .found) (done-passed d b clock verdict window done .same-bytes) in
+      sym (r .body) ∙ same-true (part d (r .at) (r .len)) b s
+
+  module _ (new : bodyWith (idOf b) bs ≡ none) where
+    -- Under a new id, it says that fewer than 64 bodies are held.
+    few : length bs < mostRows
+    few =
+        let n : ℕ = length bs in
+        let end : ℕ = length (imageOf bs) in
+        let t : (ltb n mostRows && leb (end + rowSize + length b) (length d)) ≡ true
+        = subst (λ (v : Survey). (isHeld v || hasRoom d b v) ≡ true) (survey-new d (idOf b) bs h new) (done-passed d b clock verdict window done .room) in
+        ltb-true n mostRows (and-left (ltb n mostRows) (leb (end + rowSize + length b) (length d)) t)
+
+    -- It leaves the image of the bodies and the new one, and the old bytes beyond its end.
+    pub stored-last : Holds (afterOf d b clock verdict window) (bs ++ (b ∷ []))
+        × (afterOf d b clock verdict window ≡ imageOf (bs ++ (b ∷ [])) ++ drop (length (imageOf (bs ++ (b ∷ [])))) d)
+    stored-last =
+        let more : List (List ℕ) = bs ++ (b ∷ []) in
+        let whole : afterOf d b clock verdict window ≡ imageOf more ++ drop (length (imageOf more)) d
+        = after-new d b clock verdict window (ap isHeld (survey-new d (idOf b) bs h new)) done
+        ∙ ap (λ (l : List (List ℕ)). imageOf (l ++ (b ∷ [])) ++ drop (length (imageOf (l ++ (b ∷ [])))) d) (bodies-named d bs h) in (
+          record {
+            bodies = one-more .allowed bs b (h .bodies) few (done-passed d b clock verdict window done .reads) new;
+            rest = drop (length (imageOf more)) d;
+            whole = whole;
+          },
+          whole,
+        )
+
+-- ---- the bodies after
+
+-- What the buffer holds after.
+abbrev After : List ℕ → List ℕ → ℕ → ℕ → Window → List (List ℕ) → Type 0
+After d b clock verdict window bs = (cs : List (List ℕ)) × Holds (afterOf d b clock verdict window) cs
+    × (numberOf (submitted d b clock verdict window) ≡ 0 → bodyWith (idOf b) cs ≡ some b)
+    × ((id : List ℕ) → (idOf b ≡ id → ⊥) → bodyWith id cs ≡ bodyWith id bs)
+
+-- `AfterHolds`.
+pub after-holds : AfterHolds
+after-holds d b clock verdict window bs h = go (bodyWith (idOf b) bs) (eqb (numberOf (submitted d b clock verdict window)) 0) refl refl
+  where
+    kept : afterOf d b clock verdict window ≡ d → (numberOf (submitted d b clock verdict window) ≡ 0 → bodyWith (idOf b) bs ≡ some b)
+        → After d b clock verdict window bs
+    kept e k = (bs, subst (λ (x : List ℕ). Holds x bs) (sym e) h, k, λ id o. refl)
+
+    go : (o : Option (List ℕ)) (t : Bool) → bodyWith (idOf b) bs ≡ o → eqb (numberOf (submitted d b clock verdict window)) 0 ≡ t
+        → After d b clock verdict window bs
+    go (some c) t e f = kept (repeat-keeps d b clock verdict window bs c h e) (λ z. e ∙ ap some (repeat-same d b clock verdict window bs h z c e))
+    go none true e f =
+        let z : numberOf (submitted d b clock verdict window) ≡ 0 = eqb-true (numberOf (submitted d b clock verdict window)) 0 f in
+        (bs ++ (b ∷ []), stored-last d b clock verdict window bs h z e .0, λ i. one-more .mine bs b e, λ id o. one-more .others id bs b o)
+    go none false e f =
+        let n = eqb-false (numberOf (submitted d b clock verdict window)) 0 f in
+        kept (refusal-keeps d b clock verdict window n) (λ z. absurd (n z))

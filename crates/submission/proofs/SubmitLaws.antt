@@ -13,9 +13,7 @@ use Rattle.image.specs.declared.Held.the-variants.{Missing}
 use Rattle.image.specs.declared.Survey.{Survey}
 use Rattle.image.specs.Image.{reading, idOf, joined, imageOf}
 use Rattle.image.specs.Check.{surveyOf, bodiesOf, isHeld}
-use Rattle.image.proofs.BodyLaws.{read-in}
-use Rattle.image.proofs.RowLaws.{image-length}
-use Rattle.image.proofs.SurveyLaws.{survey-sound}
+use Rattle.image.proofs.Laws.{read-in, survey-says, lengths}
 use Rattle.submission.specs.declared.Submission.{Submission}
 use Rattle.submission.specs.declared.Submission.the-variants as answers
 use Rattle.submission.specs.declared.choose.Choice.the-variants.{Answer, Store}
@@ -67,16 +65,16 @@ choice-store d b clock verdict window n end id mask bytes e =
     = subst (ChoiceIs d b clock verdict window (reading b) v) e (choice-is d b clock verdict window) in
     let f : Fields = k .fields in
     let bs : List (List ℕ) = bodiesOf d in
-    let s = survey-sound d (idOf b) bytes n end Missing (k .found) in
-    let many : n ≡ length bs = s .1 in
-    let last : end ≡ length (imageOf bs) = s .2 in
-    let size : length (imageOf bs) ≡ 8 + 32 * length bs + length (joined bs) = image-length bs in
+    let s = survey-says d (idOf b) bytes n end Missing (k .found) in
+    let many : n ≡ length bs = s .rows in
+    let last : end ≡ length (imageOf bs) = s .ends in
+    let size : length (imageOf bs) ≡ 8 + 32 * length bs + length (joined bs) = lengths .of-image bs in
     let room : end + 32 + length b ≤ length d = k .room in
     let writes : grown d n end b id mask ≡ grown d (length bs) (length (imageOf bs)) b (f .id) (f .mask)
     = ap₂ (λ (x y : ℕ). grown d x y b id mask) many last ∙ ap₂ (grown d (length bs) (length (imageOf bs)) b) (k .named) (k .modes) in
     record {
       done = k .done;
-      after = writes ∙ grown-image d bs b f (s .0) (k .reads) (omega arith) ∙ sym (after-new d b clock verdict window (ap isHeld (k .found)) (sym (k .done)));
+      after = writes ∙ grown-image d bs b f (s .holds) (k .reads) (omega arith) ∙ sym (after-new d b clock verdict window (ap isHeld (k .found)) (sym (k .done)));
       few = k .few;
       start = omega arith;
       room = room;

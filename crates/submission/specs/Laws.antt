@@ -1,29 +1,24 @@
--- What the crates above stand on, in the code's own answers. A reader of the promises does not need this page.
+-- What the crates above stand on. A reader of the promises does not need this page.
 use mathlib.Core.Path.{_≡_}
-use mathlib.Core.Bool.{true, false}
-use mathlib.Core.List.{List, [], _∷_, _++_}
+use mathlib.Core.List.{List}
 use mathlib.Core.Option.{some}
 use Prim.Native.Nat.{ℕ}
-use lib.ListN.{length, drop}
+use Rattle.octets.specs.Bytes.{AreBytes}
+use Rattle.descriptor.specs.Model.{Descriptor, encode}
+use Rattle.descriptor.specs.Allowed.{Allowed}
 use Rattle.steps.specs.declared.Window.{Window}
-use Rattle.image.specs.Image.{idOf, imageOf, hasId, Holds}
-use Rattle.image.specs.Check.{findOf, bodyFound}
-use Rattle.submission.specs.declared.Submission.the-variants as answers
-use Rattle.submission.specs.Submission.{submitted, afterOf}
+use Rattle.image.specs.Image.{idOf, Holds, bodyWith}
+use Rattle.submission.specs.Submission.{submitted, afterOf, numberOf}
 
--- where the id is held every byte is as it was
-abbrev pub HeldKeeps : Type 0
-HeldKeeps = (d b : List ℕ) (clock verdict : ℕ) (window : Window) (bs : List (List ℕ)) → Holds d bs → hasId (idOf b) bs ≡ true
-    → afterOf d b clock verdict window ≡ d
+-- an answer of 0 says that the buffer holds a list of bodies, and that what was submitted is the encoding of an allowed descriptor and has its id
+abbrev pub DoneMeans : Type 0
+DoneMeans = (d b : List ℕ) (clock verdict : ℕ) (window : Window) → AreBytes d → AreBytes b → numberOf (submitted d b clock verdict window) ≡ 0
+    → ((bs : List (List ℕ)) × Holds d bs) × ((c : Descriptor) × Allowed c × (b ≡ encode c) × (idOf b ≡ c .payload .id))
 
--- in the image of the bodies bs, an answer 0 under a new id leaves the image of those bodies and the new one, and the old bytes beyond its end
-abbrev pub StoredLast : Type 0
-StoredLast = (d b : List ℕ) (clock verdict : ℕ) (window : Window) (bs : List (List ℕ)) → Holds d bs
-    → submitted d b clock verdict window ≡ answers.Done → hasId (idOf b) bs ≡ false
-    → Holds (afterOf d b clock verdict window) (bs ++ (b ∷ []))
-    × (afterOf d b clock verdict window ≡ imageOf (bs ++ (b ∷ [])) ++ drop (length (imageOf (bs ++ (b ∷ [])))) d)
-
--- what was stored is the body that a lookup then finds
-abbrev pub BodyStored : Type 0
-BodyStored = (d b : List ℕ) (clock verdict : ℕ) (window : Window) (bs : List (List ℕ)) → Holds d bs
-    → submitted d b clock verdict window ≡ answers.Done → bodyFound (afterOf d b clock verdict window) (findOf (afterOf d b clock verdict window) (idOf b)) ≡ some b
+-- after a submission to a buffer that holds bodies, whatever it answered, the buffer holds a list of bodies: where the answer is 0 the id of what was submitted has
+-- that very body, and every other id has what it had
+abbrev pub AfterHolds : Type 0
+AfterHolds = (d b : List ℕ) (clock verdict : ℕ) (window : Window) (bs : List (List ℕ)) → Holds d bs
+    → (cs : List (List ℕ)) × Holds (afterOf d b clock verdict window) cs
+    × (numberOf (submitted d b clock verdict window) ≡ 0 → bodyWith (idOf b) cs ≡ some b)
+    × ((id : List ℕ) → (idOf b ≡ id → ⊥) → bodyWith id cs ≡ bodyWith id bs)

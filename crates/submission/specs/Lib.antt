@@ -1,5 +1,4 @@
 pub mod Submission
-pub mod Places
 pub mod Stages
 pub mod Promises
 pub mod Laws

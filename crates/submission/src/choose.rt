@@ -9,9 +9,9 @@ ghost use mathlib.Core.Path.{_≡_};
 ghost use Prim.Native.Nat.{_+_, _≤_};
 ghost use lib.ListN.{length, replicate};
 ghost use Rattle.image.specs.Check.{surveyOf};
+ghost use Rattle.image.specs.Laws.{HeldFits, SurveyFits};
 ghost use Rattle.octets.specs.Bytes.{AreBytes};
 ghost use Rattle.submission.specs.Stages.{admitted, placed, chosenRead, chosenUnread, choiceOf};
-ghost use Rattle.submission.specs.Places.{HeldFits, SurveyFits};
 
 // What is to be done: the answer alone, or the body is to be stored under its id and mask after the rows, which end at `end`.
 pub(crate) enum Choice {

@@ -2,8 +2,8 @@
 use mathlib.Core.Path.{sym, subst}
 use native.Mathlib.Omega.{arith}
 use Rattle.octets.specs.Bytes.{AreBytes}
-use Rattle.submission.specs.Places.{SurveyFits}
-use Rattle.submission.proofs.FitLaws.{survey-fits}
+use Rattle.image.specs.Laws.{SurveyFits}
+use Rattle.image.proofs.Laws.{survey-inside}
 use Rattle.octets.proofs.BytesLaws.{are-bytes}
 use Rattle.submission.proofs.CodeLaws.{id-room, choice-malformed, choice-read, choice-structure, choice-validity}
 use borrow.Author.Needs.{needs}
@@ -41,7 +41,7 @@ check-requires c κs = search needs
 choose-read-requires : tie.Need-choose-read-requires
 choose-read-requires c κs =
     let o = c .before .before .before .before .before in
-    subst (SurveyFits (o .before .before .before .before .args .image .now)) (sym (c .check .ensures)) (survey-fits _ _)
+    subst (SurveyFits (o .before .before .before .before .args .image .now)) (sym (c .check .ensures)) (survey-inside _ _ (bytes (o .before .before .before)))
 
 enum-told : tie.Need-enum-told
 enum-told c = search needs

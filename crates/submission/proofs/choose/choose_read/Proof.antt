@@ -1,6 +1,6 @@
 -- `choose_read` meets its contract. Assumes nothing.
 use mathlib.Core.Path.{subst}
-use Rattle.submission.specs.Places.{SurveyFits}
+use Rattle.image.specs.Laws.{SurveyFits}
 use Rattle.submission.proofs.CodeLaws.{read-unsound, read-refused, read-placed}
 use borrow.Author.Needs.{needs}
 use Rattle.submission.proofs.choose.choose_read.Statement.{statement}

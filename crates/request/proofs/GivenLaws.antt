@@ -1,18 +1,19 @@
 -- What is granted (specs/Promises.antt). Assumes nothing.
 use mathlib.Core.Path.{_≡_, refl, sym, _∙_, subst}
-use mathlib.Core.Bool.{false≢true}
+use mathlib.Core.Bool.{true, false≢true}
 use mathlib.Core.List.{List, [], _∷_}
 use Prim.Native.Nat.{ℕ, _+_, min}
+use Rattle.octets.proofs.Tests.{and-left}
 use Rattle.resource.specs.Text.{pathOf}
 use Rattle.descriptor.specs.Model.{Grant, Descriptor}
 use Rattle.descriptor.specs.Modes.{unionOf}
 use Rattle.steps.specs.Order.{AllPass}
+use Rattle.steps.proofs.Laws.{passed-end, passed-by}
 use Rattle.request.specs.declared.DecisionNumbers.{DecisionNumbers}
 use Rattle.request.specs.Asked.{Asked}
 use Rattle.request.specs.Promises.{Stored, badImage, notHeld, held, Under, stepsFor, grantedFor, FirstServes, GrantedGives}
-use Rattle.request.proofs.StepLaws.{passed-end}
 use Rattle.request.proofs.ServingLaws.{first-serves}
-use Rattle.request.proofs.NumberLaws.{decided-exactly, granted-exactly}
+use Rattle.request.proofs.NumberLaws.{answerOf, decided-exactly, granted-exactly}
 use Rattle.request.proofs.UnderLaws.{all-stored}
 
 -- What the numbers n grant to q, on a descriptor that is held.
@@ -22,10 +23,10 @@ Given s q n = (d : Descriptor) × Under s (q .id) (held d) × ((g : Grant) × Fi
 
 -- Where every step passes, what follows them is given.
 given : (s : List ℕ) (q : Asked) (x : Stored) → Under s (q .id) x → AllPass (stepsFor q x) → Given s q (grantedFor q x)
-given s q badImage u a = absurd (false≢true (a .1 .0))
-given s q notHeld u a = absurd (false≢true (a .1 .1 .0))
+given s q badImage u a = absurd (false≢true (passed-by answerOf 16 (stepsFor q badImage) a))
+given s q notHeld u a = absurd (false≢true (passed-by answerOf 7 (stepsFor q notHeld) a))
 given s q (held d) u a =
-    let w = first-serves (d .payload .grants) (q .mode) (pathOf (q .resource)) (a .1 .1 .1 .1 .1 .1 .1 .1 .0) in
+    let w = first-serves (d .payload .grants) (q .mode) (pathOf (q .resource)) (and-left _ true (passed-by answerOf 13 (stepsFor q (held d)) a)) in
     (d, u, (w .grant, record { place = w .place; there = w .there; serves = w .serves; first = w .first }, w .mine), refl)
 
 -- `GrantedGives`.

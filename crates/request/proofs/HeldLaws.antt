@@ -4,9 +4,9 @@ use mathlib.Core.Bool.{Bool, true, false}
 use mathlib.Core.List.{List, []}
 use mathlib.Core.Option.{none, some}
 use Prim.Native.Nat.{ℕ}
-use native.Mathlib.Omega.{arith}
 use lib.ListN.{length}
 use Rattle.octets.specs.Bytes.{part}
+use Rattle.octets.proofs.ListLaws.{some-same, none-some}
 use Rattle.descriptor.specs.declared.Fields.{Fields}
 use Rattle.descriptor.specs.declared.Reading.the-variants.{Read}
 use Rattle.steps.specs.Order.{orElse, inOrder}
@@ -17,16 +17,19 @@ use Rattle.image.specs.declared.Survey.the-variants.{Sound}
 use Rattle.image.specs.Image.{reading, imageOf, Holds, bodyWith}
 use Rattle.image.specs.Check.{surveyOf, isSound, isHeld}
 use Rattle.image.specs.Laws.{HeldIs}
-use Rattle.image.proofs.SurveyLaws.{survey-complete}
+use Rattle.image.proofs.Laws.{survey-tells}
 use Rattle.request.specs.declared.Decision.{Decision}
 use Rattle.request.specs.declared.Decision.the-variants as answers
 use Rattle.request.specs.declared.search.Matched.{Matched}
 use Rattle.request.specs.declared.search.Matched.the-variants.{Nothing}
 use Rattle.request.specs.Asked.{Asked, wellFormed}
-use Rattle.request.specs.Decision.{Facts, stepsBy, factsOf, matchedOn, factsIn, matchedIn, stepsOf, decisionOf}
-use Rattle.request.proofs.StepLaws.{decidedBy}
+use Rattle.request.specs.Decision.{Facts, stepsBy, grantedBy, factsOf, matchedOn, factsIn, matchedIn, stepsOf, decisionOf}
 
 -- ---- what is decided on a survey
+
+-- The decision by the steps: whether the image is sound and holds the id, the facts of the descriptor, and the first grant that serves.
+abbrev pub decidedBy : Asked → Bool → Bool → Facts → Matched → Decision
+decidedBy q sound held x m = inOrder (stepsBy q sound held x m) (grantedBy q x m)
 
 -- The decision of a request of which the survey of the image is v.
 abbrev pub decidedIn : List ℕ → Asked → Survey → Decision
@@ -61,11 +64,11 @@ heldBy q b f = decidedBy q true true (factsOf b f) (matchedOn b f (q .resource) 
 pub decided-on-body : (s : List ℕ) (q : Asked) (bs : List (List ℕ)) (b : List ℕ) (f : Fields) → Holds s bs → bodyWith (q .id) bs ≡ some b → reading b ≡ Read f
     → decisionOf s q ≡ heldBy q b f
 decided-on-body s q bs b f h e r =
-    let w = survey-complete s (q .id) bs h in
+    let w = survey-tells s (q .id) bs h in
     decided-in s q (Sound (length bs) (length (imageOf bs)) (w .0)) (w .1) ∙ go (w .0) (w .2)
   where
     go : (k : Held) → HeldIs s (q .id) bs k → decidedIn s q (Sound (length bs) (length (imageOf bs)) k) ≡ heldBy q b f
-    go Missing i = absurd (none-some b (sym (i .0) ∙ e))
+    go Missing i = absurd (none-some b (sym i ∙ e))
     go (Body at len g) i =
         let here : part s at len ≡ b = some-same (part s at len) b (sym (i .which) ∙ e) in
         ap (λ (x : List ℕ). heldBy q x g) here ∙ ap (heldBy q b) (fields-same g f (sym (i .reads) ∙ ap reading here ∙ r))
@@ -79,7 +82,7 @@ missingBy q = decidedBy q true false (record { before = 0; after = 0; fay = []; 
 -- A request for an id that a sound image does not hold is decided without a body.
 pub decided-on-none : (s : List ℕ) (q : Asked) (bs : List (List ℕ)) → Holds s bs → bodyWith (q .id) bs ≡ none → decisionOf s q ≡ missingBy q
 decided-on-none s q bs h e =
-    let w = survey-complete s (q .id) bs h in
+    let w = survey-tells s (q .id) bs h in
     decided-in s q (Sound (length bs) (length (imageOf bs)) (w .0)) (w .1) ∙ go (w .0) (w .2)
   where
     go : (k : Held) → HeldIs s (q .id) bs k → decidedIn s q (Sound (length bs) (length (imageOf bs)) k) ≡ missingBy q

@@ -2,7 +2,6 @@ pub mod SearchLaws
 pub mod AskedLaws
 pub mod DecideLaws
 pub mod FitLaws
-pub mod StepLaws
 pub mod ListedLaws
 pub mod HeldLaws
 pub mod MatchLaws

@@ -26,8 +26,7 @@ use Rattle.request.specs.declared.search.Matched.{Matched}
 use Rattle.request.specs.Asked.{Asked, highestMode, wellFormed}
 use Rattle.request.specs.Decision.{Facts, factsOf, matchedOn, decisionOf}
 use Rattle.request.specs.Meaning.{firstServing, factsOfDescriptor, decidedFor}
-use Rattle.request.proofs.StepLaws.{decidedBy}
-use Rattle.request.proofs.HeldLaws.{isWell, malformed-first, decided-on-body}
+use Rattle.request.proofs.HeldLaws.{decidedBy, isWell, malformed-first, decided-on-body}
 use Rattle.request.proofs.GrantLaws.{matched-agree}
 
 -- What well-formed arguments say of the mode and the resource id.

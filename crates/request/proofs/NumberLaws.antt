@@ -1,18 +1,18 @@
 -- The numbers that a request is answered, by what the image holds under the id (specs/Promises.antt): the order of the steps. Assumes nothing.
 use mathlib.Core.Path.{_≡_, refl, sym, ap, _∙_}
-use mathlib.Core.Logic.{inr}
 use mathlib.Core.Bool.{Bool, true, false, false≢true}
 use mathlib.Core.List.{List, []}
 use Prim.Native.Nat.{ℕ, _+_}
 use native.Mathlib.Omega.{arith}
+use Rattle.octets.proofs.Tests.{and-left}
 use Rattle.resource.specs.Pattern.{Path}
 use Rattle.resource.specs.Text.{resourceOk, pathOf}
 use Rattle.descriptor.specs.Model.{Grant, Descriptor}
 use Rattle.descriptor.specs.Allowed.{Allowed}
 use Rattle.steps.specs.Order.{Step, orElse, inOrder}
 use Rattle.steps.specs.Key.{isVerdict, isThat, keyOpen}
-use Rattle.steps.specs.Laws.{mapped}
-use Rattle.steps.proofs.Laws.{order-mapped}
+use Rattle.steps.specs.Laws.{mapped, passesBy}
+use Rattle.steps.proofs.Laws.{order-mapped, passed-end, same-end, passed-by, not-by}
 use Rattle.steps.proofs.Promises as order
 use Rattle.image.specs.declared.Survey.the-variants.{Unsound}
 use Rattle.image.specs.Check.{surveyOf}
@@ -25,9 +25,8 @@ use Rattle.request.specs.declared.search.Matched.the-variants.{IsAt, Not
 use Rattle.request.specs.Asked.{Asked, wellFormed}
 use Rattle.request.specs.Decision.{Facts, laterSteps, stepsBy, grantedBy, factsIn, decisionOf, numbersOf}
 use Rattle.request.specs.Meaning.{firstServing, factsOfDescriptor, decidedFor}
-use Rattle.request.specs.Promises.{Stored, badImage, notHeld, held, Among, refusal, formed, someServes, firstPlace, firstMask, stepsFor, grantedFor, answerFor, DecidedExactly, GrantedExactly, RefusedExactly, RefusalsZero, EditionsRefused}
-use Rattle.request.proofs.StepLaws.{decidedBy, same-end, passed-end, NotBy, not-by}
-use Rattle.request.proofs.HeldLaws.{decided-in, missingBy, decided-on-none}
+use Rattle.request.specs.Promises.{Stored, badImage, notHeld, held, Among, refusal, someServes, firstPlace, firstMask, stepsFor, grantedFor, answerFor, DecidedExactly, GrantedExactly, RefusedExactly, RefusalsZero, EditionsRefused}
+use Rattle.request.proofs.HeldLaws.{decidedBy, decided-in, missingBy, decided-on-none}
 use Rattle.request.proofs.MeaningLaws.{decided-on-descriptor}
 use Rattle.request.proofs.UnderLaws.{held-found, none-found, unsound}
 use Rattle.request.proofs.ServingLaws.{some-found, found-first}
@@ -78,7 +77,7 @@ held-numbers q d a =
     let r : DecisionNumbers = numbersOf (grantedBy q (factsOfDescriptor d) m) in
     by-numbers q true true (factsOfDescriptor d) m
     ∙ ap (λ (steps : List (Step DecisionNumbers)). inOrder steps r) (held-steps q d)
-    ∙ same-end (stepsFor q (held d)) r (grantedFor q (held d)) (λ p. granted-numbers q d a (p .1 .1 .1 .1 .1 .1 .1 .1 .0))
+    ∙ same-end (stepsFor q (held d)) r (grantedFor q (held d)) (λ p. granted-numbers q d a (and-left _ true (passed-by answerOf 13 (stepsFor q (held d)) p)))
 
 -- `DecidedExactly`.
 pub decided-exactly : DecidedExactly
@@ -91,11 +90,10 @@ decided-exactly s q (held d) u =
 -- ---- the order of the steps
 
 -- No step has the number 0.
-never-zero : (q : Asked) (x : Stored) → NotBy 0 (stepsFor q x)
-never-zero q badImage = (inr refl, (inr refl, tt))
-never-zero q notHeld = (inr refl, (inr refl, (inr refl, tt)))
-never-zero q (held d) =
-    (inr refl, (inr refl, (inr refl, (inr refl, (inr refl, (inr refl, (inr refl, (inr refl, (inr refl, (inr refl, (inr refl, tt)))))))))))
+never-zero : (q : Asked) (x : Stored) → passesBy answerOf 0 (stepsFor q x) ≡ true
+never-zero q badImage = refl
+never-zero q notHeld = refl
+never-zero q (held d) = refl
 
 -- What follows the steps has the number 0.
 pub granted-zero : (q : Asked) (x : Stored) → grantedFor q x .answer ≡ 0
@@ -107,7 +105,7 @@ granted-zero q (held d) = refl
 pub granted-exactly : GrantedExactly
 granted-exactly s q x u =
     let e = ap answerOf (decided-exactly s q x u) in (
-      λ z. not-by 0 (stepsFor q x) (grantedFor q x) (never-zero q x) (sym e ∙ z) .0,
+      λ z. not-by answerOf 0 (stepsFor q x) (grantedFor q x) (never-zero q x) (sym e ∙ z) .0,
       λ a. e ∙ ap answerOf (passed-end (stepsFor q x) (grantedFor q x) a) ∙ granted-zero q x,
     )
 
@@ -144,6 +142,6 @@ pub editions-refused : EditionsRefused
 unfolding inOrder orElse
 editions-refused s q other =
     let e = unsound-numbers s q (editions-surveyed s (q .id) other) in (
-      λ z. false≢true (not-by 0 (stepsFor q badImage) (refusal 0) (never-zero q badImage) (sym (ap answerOf e) ∙ z) .0 .1 .0),
+      λ z. false≢true (passed-by answerOf 16 (stepsFor q badImage) (not-by answerOf 0 (stepsFor q badImage) (refusal 0) (never-zero q badImage) (sym (ap answerOf e) ∙ z) .0)),
       λ f. e ∙ rw f,
     )

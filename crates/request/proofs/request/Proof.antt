@@ -6,19 +6,24 @@ use native.Mathlib.Omega.{arith}
 use lib.ListN.{length}
 use borrow.Author.Tests.{not-true, not-false}
 use borrow.Author.Needs.{needs}
+use Rattle.octets.specs.Bytes.{AreBytes}
+use Rattle.octets.proofs.BytesLaws.{are-bytes}
 use Rattle.image.specs.declared.Held.the-variants.{Body}
 use Rattle.image.specs.declared.Survey.the-variants.{Sound}
 use Rattle.image.specs.Check.{surveyOf}
 use Rattle.request.specs.Asked.{Asked, asked, wellFormed}
 use Rattle.request.proofs.AskedLaws.{formed-mode, formed-resource}
 use Rattle.request.proofs.DecideLaws.{decide-malformed, decide-unsound, decide-missing, decide-body}
-use Rattle.request.proofs.FitLaws.{held-reads, held-fits}
+use Rattle.request.proofs.FitLaws.{held-inside, held-fits}
 use Rattle.request.proofs.request.Statement.{statement}
 use Rattle.request.proofs.request.Tie as tie
 
--- the way back to the start
+-- the way back to where the image is known, and to the start
+abbrev at2 : tie.Else1 → tie.After-shared-slice-known
+at2 c = c .before .before .before .before .before .before .before
+
 abbrev at1 : tie.Else1 → tie.Start
-at1 c = c .before .before .before .before .before .before .before .before
+at1 c = at2 c .before
 
 -- what is asked
 abbrev questions : tie.Start → Asked
@@ -29,6 +34,10 @@ questions s =
 -- the image is no longer than a number holds
 small : (k : tie.After-shared-slice-known) → length (k .before .args .image .now) < 2 ^ 64
 small k = omega arith
+
+-- the image is bytes
+bytes : (k : tie.After-shared-slice-known) → AreBytes (k .before .args .image .now)
+bytes k = are-bytes (k .before .args .image .now) (k .shared-slice-known .given)
 
 -- the arguments are well formed
 formed : (c : tie.Else1)
@@ -52,7 +61,7 @@ surveyed c =
 -- the body lies in the image
 inside : (c : tie.After-held2)
     → c .held2 .given .0 .0 + c .held2 .given .0 .1 .0 ≤ length (at1 (before-match c .before .before .before) .args .image .now)
-inside c = held-reads _ _ _ _ _ _ _ (sym (surveyed c)) .0
+inside c = held-inside _ _ _ _ _ _ _ (bytes (at2 (before-match c .before .before .before))) (surveyed c)
 
 well-formed-requires : tie.Need-well-formed-requires
 well-formed-requires c κs = search needs
@@ -72,7 +81,7 @@ enum-known-held-2 c = search needs
 add-on-body : tie.Need-add-on-body
 add-on-body c =
     let e = before-match (c .before) .before .before .before in
-    omega (arith, inside (c .before), small (e .before .before .before .before .before .before .before))
+    omega (arith, inside (c .before), small (at2 e))
 
 sub-on-body : tie.Need-sub-on-body
 sub-on-body c = search needs
@@ -86,8 +95,9 @@ part-on-body-end c = omega (arith, inside (c .before))
 on-body-requires : tie.Need-on-body-requires
 on-body-requires c κs =
     let h = c .before .before in
-    let w = formed (before-match h .before .before .before) in
-    (formed-resource _ _ _ _ _ _ _ w, formed-mode _ _ _ _ _ _ _ w, held-fits _ _ _ _ _ _ _ (sym (surveyed h)))
+    let e = before-match h .before .before .before in
+    let w = formed e in
+    (formed-resource _ _ _ _ _ _ _ w, formed-mode _ _ _ _ _ _ _ w, held-fits _ _ _ _ _ _ _ (bytes (at2 e)) (surveyed h))
 
 enum-told : tie.Need-enum-told
 enum-told c = search needs

@@ -1,7 +1,7 @@
 -- What the stages that only look answer is what the steps in order come to (specs/Stages.antt, specs/Submission.antt). Assumes nothing.
-use mathlib.Core.Path.{_≡_, refl, ap}
+use mathlib.Core.Path.{_≡_, refl, sym, ap}
 use mathlib.Core.Logic.{_⊎_, inl, inr, ⊎-elim}
-use mathlib.Core.Bool.{Bool, true, false, not, _&&_}
+use mathlib.Core.Bool.{Bool, true, false, _&&_}
 use mathlib.Core.List.{List}
 use Prim.Native.Nat.{ℕ, _+_, _≤_, _<_}
 use native.Mathlib.Omega.{arith}
@@ -14,10 +14,10 @@ use Rattle.descriptor.specs.declared.Fields.{Fields}
 use Rattle.descriptor.specs.declared.Reading.{Reading}
 use Rattle.descriptor.specs.declared.Reading.the-variants.{Read, Structure, Validity}
 use Rattle.steps.specs.declared.Window.{Window}
-use Rattle.steps.specs.Order.{inOrder}
+use Rattle.steps.specs.Order.{Step, inOrder}
 use Rattle.steps.specs.Key.{bad, noKey, isVerdict, isThat, keyOpen}
-use Rattle.steps.specs.Laws.{Decides, ends, passes, fails}
-use Rattle.steps.proofs.Laws.{decided}
+use Rattle.steps.specs.Laws.{allPass, failsBy}
+use Rattle.steps.proofs.Laws.{passed-end, all-pass, failed-by}
 use Rattle.image.specs.declared.Held.{Held}
 use Rattle.image.specs.declared.Held.the-variants.{Missing, Body}
 use Rattle.image.specs.declared.Survey.{Survey}
@@ -32,6 +32,7 @@ use Rattle.submission.specs.declared.choose.Choice.the-variants.{Answer,
 use Rattle.submission.specs.declared.choose.Admission.{Admission}
 use Rattle.submission.specs.Submission.{longestLead, stepsBy, numberOf, afterAnswer}
 use Rattle.submission.specs.Stages.{admitted, placed, whenAdmitted, chosenRead, chosenUnread, chosenBy, choiceOf}
+use Rattle.submission.proofs.StepLaws.{number-is}
 
 -- ---- the buffer after a refusal
 
@@ -71,10 +72,19 @@ abbrev pub ChoiceIs : List ℕ → List ℕ → ℕ → ℕ → Window → Readi
 ChoiceIs d b clock verdict window r v (Answer a) = (a ≡ inOrder (stepsBy d b clock verdict window r v) answers.Done) × (afterAnswer d b (isHeld v) a ≡ d)
 ChoiceIs d b clock verdict window r v (Store n end id mask) = Storing d b clock verdict window r v n end id mask
 
--- A refusal that the steps come to is a choice that says so.
+-- A refusal whose step fails, where those before it pass, is a choice that says so.
 refuses : (d b : List ℕ) (clock verdict : ℕ) (window : Window) (r : Reading) (v : Survey) (a : Submission) → 0 < numberOf a
-    → Decides (stepsBy d b clock verdict window r v) answers.Done a → ChoiceIs d b clock verdict window r v (Answer a)
-refuses d b clock verdict window r v a n w = (decided w, refused-keeps d b (isHeld v) a (λ e. omega (arith, ap numberOf e)))
+    → failsBy numberOf (numberOf a) (stepsBy d b clock verdict window r v) ≡ true → ChoiceIs d b clock verdict window r v (Answer a)
+refuses d b clock verdict window r v a n e =
+    let steps : List (Step Submission) = stepsBy d b clock verdict window r v in
+    (sym (number-is (inOrder steps answers.Done) a (failed-by numberOf (numberOf a) steps answers.Done e)), refused-keeps d b (isHeld v) a (λ z. omega (arith, ap numberOf z)))
+
+-- Where every step passes, the answer is 0.
+all-done : (d b : List ℕ) (clock verdict : ℕ) (window : Window) (r : Reading) (v : Survey) → allPass (stepsBy d b clock verdict window r v) ≡ true
+    → answers.Done ≡ inOrder (stepsBy d b clock verdict window r v) answers.Done
+all-done d b clock verdict window r v e =
+    let steps : List (Step Submission) = stepsBy d b clock verdict window r v in
+    sym (passed-end steps answers.Done (all-pass steps e))
 
 module _ (d b : List ℕ) (clock verdict : ℕ) (window : Window) (known : isVerdict verdict ≡ true) where
   module _ (n end : ℕ) (f : Fields) (early : leb (f .before) (clock + longestLead) ≡ true) (issuer : isThat verdict noKey ≡ false) (key : keyOpen window clock ≡ true) (signed : isThat verdict bad ≡ false) where
@@ -82,19 +92,15 @@ module _ (d b : List ℕ) (clock verdict : ℕ) (window : Window) (known : isVer
     placed-is : (h : Held) → ChoiceIs d b clock verdict window (Read f) (Sound n end h) (placed d b n end h f)
     unfolding stepsBy placed
     placed-is (Body at len g) =
-        by-cond (ChoiceIs d b clock verdict window (Read f) (Sound n end (Body at len g))) (same (part d at len) b)
-        (λ e. (
-          decided (passes known (passes refl (passes refl (passes refl (passes early (passes (ap not issuer) (passes key (passes (ap not signed) (passes e (passes refl ends)))))))))),
-          refl,
-        ))
-        (λ e. (
-          decided (passes known (passes refl (passes refl (passes refl (passes early (passes (ap not issuer) (passes key (passes (ap not signed) (fails e))))))))),
-          refl,
-        ))
+        let v : Survey = Sound n end (Body at len g) in
+        by-cond (ChoiceIs d b clock verdict window (Read f) v) (same (part d at len) b)
+        (λ e. (all-done d b clock verdict window (Read f) v (rw (known, early, issuer, key, signed, e)), refl))
+        (λ e. refuses d b clock verdict window (Read f) v answers.Duplicate (omega arith) (rw (known, early, issuer, key, signed, e)))
     placed-is Missing =
-        by-cond (ChoiceIs d b clock verdict window (Read f) (Sound n end Missing)) (ltb n mostRows && leb (end + rowSize + length b) (length d))
+        let v : Survey = Sound n end Missing in
+        by-cond (ChoiceIs d b clock verdict window (Read f) v) (ltb n mostRows && leb (end + rowSize + length b) (length d))
         (λ e. record {
-          done = decided (passes known (passes refl (passes refl (passes refl (passes early (passes (ap not issuer) (passes key (passes (ap not signed) (passes refl (passes e ends))))))))));
+          done = all-done d b clock verdict window (Read f) v (rw (known, early, issuer, key, signed, e));
           found = refl;
           fields = f;
           reads = refl;
@@ -103,10 +109,7 @@ module _ (d b : List ℕ) (clock verdict : ℕ) (window : Window) (known : isVer
           few = ltb-true n mostRows (and-left (ltb n mostRows) (leb (end + rowSize + length b) (length d)) e);
           room = leb-true (end + rowSize + length b) (length d) (and-right (ltb n mostRows) (leb (end + rowSize + length b) (length d)) e);
         })
-        (λ e. (
-          decided (passes known (passes refl (passes refl (passes refl (passes early (passes (ap not issuer) (passes key (passes (ap not signed) (passes refl (fails e)))))))))),
-          refl,
-        ))
+        (λ e. refuses d b clock verdict window (Read f) v answers.Full (omega arith) (rw (known, early, issuer, key, signed, e)))
 
   -- A body that reads, in an image that is sound: the steps from the beginning to the signature, and then the place.
   read-is : (n end : ℕ) (h : Held) (f : Fields)
@@ -117,25 +120,24 @@ module _ (d b : List ℕ) (clock verdict : ℕ) (window : Window) (known : isVer
       let P : Admission → Type 0 = λ a. ChoiceIs d b clock verdict window (Read f) v (whenAdmitted a (placed d b n end h f)) in
       by-cond P (leb (f .before) (clock + longestLead))
       (λ early. by-cond P (isThat verdict noKey)
-      (λ issuer. refuses d b clock verdict window (Read f) v answers.UnknownIssuer (omega arith) (passes known (passes refl (passes refl (passes refl (passes early (fails (ap not issuer))))))))
+      (λ issuer. refuses d b clock verdict window (Read f) v answers.UnknownIssuer (omega arith) (rw (known, early, issuer)))
       (λ issuer. by-cond P (keyOpen window clock)
       (λ key. by-cond P (isThat verdict bad)
-      (λ signed. refuses d b clock verdict window (Read f) v answers.BadSignature (omega arith)
-      (passes known (passes refl (passes refl (passes refl (passes early (passes (ap not issuer) (passes key (fails (ap not signed))))))))))
+      (λ signed. refuses d b clock verdict window (Read f) v answers.BadSignature (omega arith) (rw (known, early, issuer, key, signed)))
       (λ signed. placed-is n end f early issuer key signed h))
-      (λ key. refuses d b clock verdict window (Read f) v answers.KeyInvalid (omega arith) (passes known (passes refl (passes refl (passes refl (passes early (passes (ap not issuer) (fails key)))))))))
+      (λ key. refuses d b clock verdict window (Read f) v answers.KeyInvalid (omega arith) (rw (known, early, issuer, key))))
       )
-      (λ early. refuses d b clock verdict window (Read f) v answers.Validity (omega arith) (passes known (passes refl (passes refl (passes refl (fails early))))))
+      (λ early. refuses d b clock verdict window (Read f) v answers.Validity (omega arith) (rw (known, early)))
 
   -- A verdict that is known: the image, then what reading the body answered.
   known-is : (r : Reading) (v : Survey) → ChoiceIs d b clock verdict window r v (chosenBy d b clock verdict window r v)
   unfolding stepsBy chosenRead chosenUnread
   known-is (Read f) (Sound n end h) = read-is n end h f
-  known-is (Read f) Unsound = refuses d b clock verdict window (Read f) Unsound answers.BadImage (omega arith) (passes known (fails refl))
-  known-is Structure (Sound n end h) = refuses d b clock verdict window Structure (Sound n end h) answers.Structure (omega arith) (passes known (passes refl (fails refl)))
-  known-is Structure Unsound = refuses d b clock verdict window Structure Unsound answers.BadImage (omega arith) (passes known (fails refl))
-  known-is Validity (Sound n end h) = refuses d b clock verdict window Validity (Sound n end h) answers.Validity (omega arith) (passes known (passes refl (passes refl (fails refl))))
-  known-is Validity Unsound = refuses d b clock verdict window Validity Unsound answers.BadImage (omega arith) (passes known (fails refl))
+  known-is (Read f) Unsound = refuses d b clock verdict window (Read f) Unsound answers.BadImage (omega arith) (rw known)
+  known-is Structure (Sound n end h) = refuses d b clock verdict window Structure (Sound n end h) answers.Structure (omega arith) (rw known)
+  known-is Structure Unsound = refuses d b clock verdict window Structure Unsound answers.BadImage (omega arith) (rw known)
+  known-is Validity (Sound n end h) = refuses d b clock verdict window Validity (Sound n end h) answers.Validity (omega arith) (rw known)
+  known-is Validity Unsound = refuses d b clock verdict window Validity Unsound answers.BadImage (omega arith) (rw known)
 
 -- What the stages choose is what the steps come to.
 pub choice-is : (d b : List ℕ) (clock verdict : ℕ) (window : Window)
@@ -146,4 +148,4 @@ choice-is d b clock verdict window =
     let v : Survey = surveyOf d (idOf b) in
     by-cond (ChoiceIs d b clock verdict window r v) (isVerdict verdict)
     (λ known. known-is d b clock verdict window known r v)
-    (λ unknown. refuses d b clock verdict window r v answers.Malformed (omega arith) (fails unknown))
+    (λ unknown. refuses d b clock verdict window r v answers.Malformed (omega arith) (rw unknown))

@@ -12,9 +12,9 @@ use borrow.Author.Tests.{lt-ltb, le-ltb, le-leb, lt-leb}
 use Rattle.octets.specs.Bytes.{part}
 use Rattle.descriptor.specs.Model.{Descriptor, encode}
 use Rattle.steps.specs.declared.Window.{Window}
-use Rattle.steps.specs.Order.{Step, step}
-use Rattle.steps.specs.Laws.{Decides, ends, passes, fails}
-use Rattle.steps.proofs.Laws.{decided}
+use Rattle.steps.specs.Order.{Step}
+use Rattle.steps.specs.Laws.{allPass, failsBy}
+use Rattle.steps.proofs.Laws.{passed-end, all-pass, failed-by}
 use Rattle.image.specs.declared.StoredNumbers.{StoredNumbers}
 use Rattle.image.specs.Image.{idOf, imageOf, Holds, bodyWith}
 use Rattle.image.specs.Check.{findOf, numbersOf}
@@ -24,8 +24,8 @@ use Rattle.image.proofs.Promises.{layout-fixed, lookup-exactly}
 use Rattle.image.proofs.Laws.{encoding-read}
 use Rattle.submission.specs.declared.Submission.the-variants as answers
 use Rattle.submission.specs.Submission.{submitted, afterOf, numberOf}
-use Rattle.submission.specs.Promises.{isSame, isHeld, Gives, larger, Ready, LastSteps, StoredFound, OthersFound, LeadBoundary, RowBoundary}
-use Rattle.submission.proofs.NumberLaws.{number-descriptor}
+use Rattle.submission.specs.Promises.{bodies, descriptor, stepsFor, Gives, larger, Ready, LastSteps, StoredFound, OthersFound, LeadBoundary, RowBoundary}
+use Rattle.submission.proofs.NumberLaws.{itself, number-descriptor}
 use Rattle.submission.proofs.StoredLaws.{refusal-keeps, repeat-keeps, stored-last, after-holds}
 
 -- ---- the last two steps
@@ -40,12 +40,17 @@ key-opens window clock f u = rw (le-leb (window .from) clock f) (go (window .bou
     go false u = refl
 
 module _ (d : List ℕ) (bs : List (List ℕ)) (c : Descriptor) (clock : ℕ) (window : Window) (r : Ready d bs c clock window) where
-  -- The last two steps.
-  abbrev lastTwo : List (Step ℕ)
-  lastTwo =
-      step (isSame (bodyWith (c .payload .id) bs) (encode c)) 5
-      ∷ step (isHeld (bodyWith (c .payload .id) bs) || (ltb (length bs) 64 && leb (length (imageOf (larger bs c))) (length d))) 6
-      ∷ []
+  -- The steps.
+  abbrev all : List (Step ℕ)
+  all = stepsFor (bodies bs) (descriptor c) (length d) clock 0 window
+
+  -- The number is that of a step that fails, where those before it pass.
+  fails-with : (n : ℕ) → failsBy itself n all ≡ true → numberOf (submitted d (encode c) clock 0 window) ≡ n
+  fails-with n e = number-descriptor d clock 0 window bs c (r .holds) (r .bytes) (r .allowed) ∙ failed-by itself n all 0 e
+
+  -- It is 0 where every step passes.
+  all-passed : allPass all ≡ true → numberOf (submitted d (encode c) clock 0 window) ≡ 0
+  all-passed e = number-descriptor d clock 0 window bs c (r .holds) (r .bytes) (r .allowed) ∙ passed-end all 0 (all-pass all e)
 
   -- The id of the descriptor's encoding.
   id-of : idOf (encode c) ≡ c .payload .id
@@ -54,22 +59,22 @@ module _ (d : List ℕ) (bs : List (List ℕ)) (c : Descriptor) (clock : ℕ) (w
   -- A descriptor that begins too late gives 2.
   late : clock + 86400 < c .payload .notBefore → Gives d (encode c) clock 0 window 2 d
   late l =
-      let e : numberOf (submitted d (encode c) clock 0 window) ≡ 2
-      = number-descriptor d clock 0 window bs c (r .holds) (r .bytes) (r .allowed)
-      ∙ sym (decided (passes refl (passes refl (passes refl (passes refl (fails (lt-leb (c .payload .notBefore) (clock + 86400) l))))))) in
+      let e : numberOf (submitted d (encode c) clock 0 window) ≡ 2 = fails-with 2 (rw (lt-leb (c .payload .notBefore) (clock + 86400) l)) in
       (e, refusal-keeps d (encode c) clock 0 window (λ z. omega arith))
 
   module _ (l : c .payload .notBefore ≤ clock + 86400) where
-    -- The number is what the last two steps come to.
-    last-number : (n : ℕ) → Decides lastTwo 0 n → numberOf (submitted d (encode c) clock 0 window) ≡ n
-    last-number n w =
-        number-descriptor d clock 0 window bs c (r .holds) (r .bytes) (r .allowed)
-        ∙ sym (decided (passes refl (passes refl (passes refl (passes refl (passes (le-leb (c .payload .notBefore) (clock + 86400) l) (passes refl (passes (key-opens window clock (r .opened) (r .lasts)) (passes refl w)))))))))
+    -- The step of the beginning passes.
+    early : leb (c .payload .notBefore) (clock + 86400) ≡ true
+    early = le-leb (c .payload .notBefore) (clock + 86400) l
+
+    -- So does that of the key.
+    open-key : (leb (window .from) clock && (not (window .bounded) || leb clock (window .until))) ≡ true
+    open-key = key-opens window clock (r .opened) (r .lasts)
 
     -- The same bytes are held.
     same-held : bodyWith (c .payload .id) bs ≡ some (encode c) → Gives d (encode c) clock 0 window 0 d
     same-held e = (
-      last-number 0 (passes (ap (λ (o : Option (List ℕ)). isSame o (encode c)) e ∙ true-same (encode c) (encode c) refl) (passes (rw e) ends)),
+      all-passed (rw (early, open-key, e, true-same (encode c) (encode c) refl)),
       repeat-keeps d (encode c) clock 0 window bs (encode c) (r .holds) (ap (λ (id : List ℕ). bodyWith id bs) id-of ∙ e),
     )
 
@@ -77,7 +82,7 @@ module _ (d : List ℕ) (bs : List (List ℕ)) (c : Descriptor) (clock : ℕ) (w
     other-held : (b : List ℕ) → bodyWith (c .payload .id) bs ≡ some b → (b ≡ encode c → ⊥) → Gives d (encode c) clock 0 window 5 d
     other-held b e o =
         let q : numberOf (submitted d (encode c) clock 0 window) ≡ 5
-        = last-number 5 (fails (ap (λ (y : Option (List ℕ)). isSame y (encode c)) e ∙ other-same b (encode c) o)) in
+        = fails-with 5 (rw (early, open-key, e, other-same b (encode c) o)) in
         (q, refusal-keeps d (encode c) clock 0 window (λ z. omega arith))
 
     module _ (e : bodyWith (c .payload .id) bs ≡ none) where
@@ -87,7 +92,7 @@ module _ (d : List ℕ) (bs : List (List ℕ)) (c : Descriptor) (clock : ℕ) (w
           let t : (ltb (length bs) 64 && leb (length (imageOf (larger bs c))) (length d)) ≡ false
           = ⊎-elim (λ x. rw (le-ltb (length bs) 64 (omega arith))) (λ x. rw (lt-leb (length (imageOf (larger bs c))) (length d) x) (and-no (ltb (length bs) 64))) f in
           let q : numberOf (submitted d (encode c) clock 0 window) ≡ 6
-          = last-number 6 (passes (ap (λ (y : Option (List ℕ)). isSame y (encode c)) e) (fails (rw (e, t)))) in
+          = fails-with 6 (rw (early, open-key, e, t)) in
           (q, refusal-keeps d (encode c) clock 0 window (λ z. omega arith))
         where
           and-no : (t : Bool) → (t && false) ≡ false
@@ -100,7 +105,7 @@ module _ (d : List ℕ) (bs : List (List ℕ)) (c : Descriptor) (clock : ℕ) (w
           × Holds (afterOf d (encode c) clock 0 window) (larger bs c)
       stores few room =
           let q : numberOf (submitted d (encode c) clock 0 window) ≡ 0
-          = last-number 0 (passes (ap (λ (y : Option (List ℕ)). isSame y (encode c)) e) (passes (rw (e, lt-ltb (length bs) 64 few, le-leb (length (imageOf (larger bs c))) (length d) room)) ends)) in
+          = all-passed (rw (early, open-key, e, lt-ltb (length bs) 64 few, le-leb (length (imageOf (larger bs c))) (length d) room)) in
           let k = stored-last d (encode c) clock 0 window bs (r .holds) q (ap (λ (id : List ℕ). bodyWith id bs) id-of ∙ e) in
           ((q, k .1), k .0)
 

@@ -1,11 +1,9 @@
 -- The number of a submission is that of the first failing step of specs/Promises.antt. Assumes nothing.
 use mathlib.Core.Path.{_≡_, refl, sym, ap, ap₂, _∙_, subst}
 use mathlib.Core.List.{List, []}
-use mathlib.Core.Option.{Option}
-use Prim.Native.Nat.{ℕ, _+_}
+use Prim.Native.Nat.{ℕ}
 use native.Mathlib.Omega.{arith}
 use lib.ListN.{length}
-use lib.Dec.{leb}
 use Rattle.octets.specs.Bytes.{AreBytes}
 use Rattle.descriptor.specs.declared.Fields.{Fields}
 use Rattle.descriptor.specs.declared.Reading.{Reading}
@@ -19,7 +17,7 @@ use Rattle.steps.specs.declared.Window.{Window}
 use Rattle.steps.specs.Order.{Step, orElse, inOrder, NoneIs}
 use Rattle.steps.specs.Key.{isVerdict, isThat, keyOpen}
 use Rattle.steps.specs.Laws.{mapped}
-use Rattle.steps.proofs.Laws.{order-mapped, alike, none-is}
+use Rattle.steps.proofs.Laws.{order-mapped, none-is}
 use Rattle.steps.proofs.Promises as order
 use Rattle.image.specs.declared.Held.{Held}
 use Rattle.image.specs.declared.Held.the-variants.{Missing, Body}
@@ -32,7 +30,7 @@ use Rattle.image.specs.Laws.{HeldIs}
 use Rattle.image.proofs.Laws.{body-read, encoding-read, survey-tells, survey-says, survey-unsound, one-more}
 use Rattle.submission.specs.declared.Submission.the-variants as answers
 use Rattle.submission.specs.Submission.{stepsBy, steps, submitted, numberOf}
-use Rattle.submission.specs.Promises.{Stored, unsound, bodies, structure, validity, descriptor as encoding, IsStored, IsBody, AlwaysMeets, isSame, stepsFor, SubmittedExactly, DoneExactly, RefusedExactly}
+use Rattle.submission.specs.Promises.{Stored, unsound, bodies, structure, validity, descriptor as encoding, IsStored, IsBody, AlwaysMeets, stepsFor, SubmittedExactly, DoneExactly, RefusedExactly}
 use Rattle.submission.specs.Promises as promised
 
 -- ---- the number, by what reading answers and what the survey finds
@@ -72,30 +70,8 @@ by-descriptor : (d : List ℕ) (clock verdict : ℕ) (window : Window) (bs : Lis
     → numberBy d (encode c) clock verdict window (Read f) (Sound (length bs) (length (imageOf bs)) h)
     ≡ inOrder (stepsFor (bodies bs) (encoding c) (length d) clock verdict window) 0
 unfolding stepsBy isVerdict isThat keyOpen
-by-descriptor d clock verdict window bs c f Missing e k =
-    ap (λ (l : List (Step ℕ)). inOrder l 0)
-    (alike refl refl
-    (alike refl refl
-    (alike refl refl
-    (alike refl refl
-    (alike (ap (λ (n : ℕ). leb n (clock + 86400)) e) refl
-    (alike refl refl
-    (alike refl refl
-    (alike refl refl
-    (alike (sym (ap (λ (o : Option (List ℕ)). isSame o (encode c)) k)) refl
-    (alike (rw (k, one-more .of-image bs (encode c))) refl refl))))))))))
-by-descriptor d clock verdict window bs c f (Body at len g) e k =
-    ap (λ (l : List (Step ℕ)). inOrder l 0)
-    (alike refl refl
-    (alike refl refl
-    (alike refl refl
-    (alike refl refl
-    (alike (ap (λ (n : ℕ). leb n (clock + 86400)) e) refl
-    (alike refl refl
-    (alike refl refl
-    (alike refl refl
-    (alike (sym (ap (λ (o : Option (List ℕ)). isSame o (encode c)) (k .which))) refl
-    (alike (rw (k .which)) refl refl))))))))))
+by-descriptor d clock verdict window bs c f Missing e k = ap (λ (l : List (Step ℕ)). inOrder l 0) (rw (e, k, one-more .of-image bs (encode c)))
+by-descriptor d clock verdict window bs c f (Body at len g) e k = ap (λ (l : List (Step ℕ)). inOrder l 0) (rw (e, k .which))
 
 -- ---- the number of a descriptor
 
@@ -147,7 +123,7 @@ submitted-exactly d b clock verdict window (bodies bs) (encoding c) m =
     ∙ number-descriptor d clock verdict window bs c (m .stored) (subst AreBytes (m .body .1) (m .body-bytes)) (m .body .0)
 
 -- The number of a step.
-abbrev itself : ℕ → ℕ
+abbrev pub itself : ℕ → ℕ
 itself n = n
 
 -- No step's number is 0.

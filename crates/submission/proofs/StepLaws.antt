@@ -1,10 +1,10 @@
 -- Which steps have passed, said of the answer: what the answers 0 and 16 say (specs/Submission.antt). Assumes nothing.
-use mathlib.Core.Path.{_≡_, refl, sym, ap}
+use mathlib.Core.Path.{_≡_, refl, sym, ap, _∙_}
 use mathlib.Core.Logic.{_↔_}
-use mathlib.Core.Bool.{true, not, _||_}
+use mathlib.Core.Bool.{true, not, cond, _||_}
 use mathlib.Core.List.{List}
 use Prim.Native.Nat.{ℕ, _≤_}
-use native.Mathlib.Omega.{arith}
+use lib.Dec.{eqb}
 use borrow.Author.Tests.{le-leb}
 use Rattle.octets.proofs.Tests.{and-left}
 use Rattle.descriptor.specs.declared.Reading.{Reading}
@@ -12,8 +12,8 @@ use Rattle.descriptor.specs.declared.Reading.the-variants.{Read, Structure, Val
 use Rattle.steps.specs.declared.Window.{Window}
 use Rattle.steps.specs.Key.{isVerdict}
 use Rattle.steps.specs.Order.{AllPass}
-use Rattle.steps.specs.Laws.{passes, fails, passesBy}
-use Rattle.steps.proofs.Laws.{decided, none-is, passed-by}
+use Rattle.steps.specs.Laws.{passesBy}
+use Rattle.steps.proofs.Laws.{none-is, passed-by, failed-by}
 use Rattle.steps.proofs.Promises as order
 use Rattle.image.specs.declared.Survey.the-variants.{Unsound}
 use Rattle.image.specs.Image.{reading, isRead, idOf}
@@ -24,18 +24,35 @@ use Rattle.submission.specs.Submission.{isStructure, isValidity, agrees,
 
 -- ---- the steps and the answer 0
 
--- The answer with the number 0.
-pub zero-done : (a : Submission) → numberOf a ≡ 0 → a ≡ answers.Done
-zero-done answers.Done e = refl
-zero-done answers.Structure e = absurd (omega arith)
-zero-done answers.Validity e = absurd (omega arith)
-zero-done answers.UnknownIssuer e = absurd (omega arith)
-zero-done answers.BadSignature e = absurd (omega arith)
-zero-done answers.Duplicate e = absurd (omega arith)
-zero-done answers.Full e = absurd (omega arith)
-zero-done answers.KeyInvalid e = absurd (omega arith)
-zero-done answers.Malformed e = absurd (omega arith)
-zero-done answers.BadImage e = absurd (omega arith)
+-- The answers and their numbers, back from the number.
+abbrev answerWith : ℕ → Submission
+answerWith n =
+    cond (eqb n 1) answers.Structure (
+    cond (eqb n 2) answers.Validity (
+    cond (eqb n 3) answers.UnknownIssuer (
+    cond (eqb n 4) answers.BadSignature (
+    cond (eqb n 5) answers.Duplicate (
+    cond (eqb n 6) answers.Full (
+    cond (eqb n 14) answers.KeyInvalid (
+    cond (eqb n 15) answers.Malformed (
+    cond (eqb n 16) answers.BadImage answers.Done))))))))
+
+-- It is the one that has the number.
+with-number : (a : Submission) → answerWith (numberOf a) ≡ a
+with-number answers.Done = refl
+with-number answers.Structure = refl
+with-number answers.Validity = refl
+with-number answers.UnknownIssuer = refl
+with-number answers.BadSignature = refl
+with-number answers.Duplicate = refl
+with-number answers.Full = refl
+with-number answers.KeyInvalid = refl
+with-number answers.Malformed = refl
+with-number answers.BadImage = refl
+
+-- Answers with the same number are the same.
+pub number-is : (x a : Submission) → numberOf x ≡ numberOf a → x ≡ a
+number-is x a e = sym (with-number x) ∙ ap answerWith e ∙ with-number a
 
 -- The answer is 0 exactly when every step passes.
 pub done-exactly : (d b : List ℕ) (clock verdict : ℕ) (window : Window)
@@ -76,4 +93,6 @@ done-passed d b clock verdict window e =
 pub unsound-refused : (d b : List ℕ) (clock verdict : ℕ) (window : Window) → verdict ≤ 2 → surveyOf d (idOf b) ≡ Unsound
     → submitted d b clock verdict window ≡ answers.BadImage
 unfolding submitted steps stepsBy isVerdict
-unsound-refused d b clock verdict window h e = sym (decided (passes (le-leb verdict 2 h) (fails (ap isSound e))))
+unsound-refused d b clock verdict window h e =
+    number-is (submitted d b clock verdict window) answers.BadImage
+    (failed-by numberOf 16 (steps d b clock verdict window) answers.Done (rw (le-leb verdict 2 h, e)))

@@ -28,7 +28,7 @@ use Rattle.submission.specs.Promises.{RefusalKeeps, RepeatKeeps, Edition
 use Rattle.submission.specs.Laws.{DoneMeans, AfterHolds}
 use Rattle.submission.proofs.ChoiceLaws.{refused-keeps}
 use Rattle.submission.proofs.SubmitLaws.{after-held, after-new}
-use Rattle.submission.proofs.StepLaws.{zero-done, done-passed, unsound-refused}
+use Rattle.submission.proofs.StepLaws.{number-is, done-passed, unsound-refused}
 
 -- ---- what the survey finds
 
@@ -78,7 +78,7 @@ editions-refused d b clock verdict window h other =
 -- `DoneMeans`.
 pub done-means : DoneMeans
 done-means d b clock verdict window bytes a z =
-    let p = done-passed d b clock verdict window (zero-done (submitted d b clock verdict window) z) in
+    let p = done-passed d b clock verdict window (number-is (submitted d b clock verdict window) answers.Done z) in
     let r = body-read b a (p .reads) in
     (go (surveyOf d (idOf b)) refl (p .sound), (r .0, r .1, r .2, r .3))
   where
@@ -89,7 +89,7 @@ done-means d b clock verdict window bytes a z =
 module _ (d b : List ℕ) (clock verdict : ℕ) (window : Window) (bs : List (List ℕ)) (h : Holds d bs) (z : numberOf (submitted d b clock verdict window) ≡ 0) where
   -- The answer is 0.
   done : submitted d b clock verdict window ≡ answers.Done
-  done = zero-done (submitted d b clock verdict window) z
+  done = number-is (submitted d b clock verdict window) answers.Done z
 
   -- Under an id that is held, it says that the same bytes are held.
   repeat-same : (c : List ℕ) → bodyWith (idOf b) bs ≡ some c → c ≡ b

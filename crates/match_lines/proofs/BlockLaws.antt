@@ -9,7 +9,7 @@ use lib.ListN.{length, drop, length-append}
 use lib.Seq.{drop-at, append-snoc}
 use lib.Dec.{eqb, ltb}
 use borrow.Author.Tests.{not-true, lt-leb, ltb-true, ltb-false}
-use Rattle.resource.proofs.Flags.{by-cond, and-left, and-right, and-both}
+use Rattle.octets.proofs.Tests.{by-cond, and-left, and-right, and-both}
 use Rattle.match_lines.specs.declared.Verdict.{Verdict}
 use Rattle.match_lines.specs.declared.Verdict.the-variants.{IsYes, IsNo, IsBad}
 use Rattle.match_lines.specs.Lines.{longestLine, word, verdict, lastLine, answersFrom}

@@ -3,7 +3,8 @@ use mathlib.Core.Path.{refl, ap}
 use mathlib.Core.Bool.{true, false}
 use mathlib.Core.List.{[]}
 use Rattle.resource.specs.Identifier.{isHex, hasForm, uuidForm, terminalForm, isTerminal}
-use Rattle.resource.specs.Level.{same, isNameChar, allNameChars, levels, levelsOk}
+use Rattle.octets.specs.Bytes.{same}
+use Rattle.resource.specs.Level.{isNameChar, allNameChars, levels, levelsOk}
 use Rattle.resource.specs.Text.{isResource, isPattern, resourceOk, patternOk, levelsOf, pathOf, patternOf, matching}
 use Rattle.match_lines.specs.Lines.{word, beforeSpace, verdictAt, verdict, answersFrom}
 use Rattle.match_lines.specs.Promises.{YesExactly, NoExactly, BadElse, LongBad, EachLine, LastLine, EmptyInput, WholeCase, BlocksAgree, KeptLast, OutFits, BlockWritten, BlockKept, BlockRefused, EndWritten, EndRefused}

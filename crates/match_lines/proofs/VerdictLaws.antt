@@ -17,7 +17,7 @@ use Rattle.resource.specs.Identifier.{isHex, Slot, fits, hasForm, uuidForm, ter
 use Rattle.resource.specs.Level.{isNameChar, allNameChars, isName, joined}
 use Rattle.resource.specs.Pattern.{Path, pathText, Levels, done, deep, name, star, Pattern, IsPattern, patternText, admits, NamesIn, spelled}
 use Rattle.resource.specs.Text.{isPattern, isResource, patternOk, resourceOk, numbersOf, matching}
-use Rattle.resource.proofs.Flags.{by-cond, and-left, and-right, and-both, no-flag}
+use Rattle.octets.proofs.Tests.{by-cond, and-left, and-right, and-both, no-flag}
 use Rattle.resource.proofs.Promises.{patterns-exact, resources-exact, matching-exact, malformed15}
 use Rattle.match_lines.specs.declared.Verdict.{Verdict}
 use Rattle.match_lines.specs.declared.Verdict.the-variants.{IsYes, IsNo, IsBad}

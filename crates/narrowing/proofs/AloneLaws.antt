@@ -14,7 +14,7 @@ use Rattle.octets.specs.Bytes.{part}
 use Rattle.resource.specs.Level.{levels}
 use Rattle.resource.specs.Pattern.{endsDeep}
 use Rattle.resource.specs.Text.{levelsOf}
-use Rattle.resource.proofs.Flags.{and-left, and-right, no-flag}
+use Rattle.octets.proofs.Tests.{and-left, and-right, no-flag}
 use Rattle.descriptor.specs.Reader.{hasMode}
 use Rattle.narrowing.specs.declared.range.Range.{Range}
 use Rattle.narrowing.specs.declared.search.Found.the-variants.{Nothing}

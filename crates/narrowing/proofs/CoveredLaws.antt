@@ -5,11 +5,13 @@ use mathlib.Core.Bool.{Bool, true, false, _&&_, _||_, false≢true}
 use mathlib.Core.List.{List, [], _∷_}
 use Prim.Native.Nat.{ℕ, zero, suc, _<_}
 use native.Mathlib.Omega.{arith}
-use Rattle.resource.specs.Level.{same, isName}
+use Rattle.octets.specs.Bytes.{same}
+use Rattle.resource.specs.Level.{isName}
 use Rattle.resource.specs.Pattern.{Path, IsPath, Levels, done, deep, name, star, Pattern, IsPattern, matches, admits, taken}
 use Rattle.resource.specs.Cover.{covers, witness, CanTake, Fresh, zs}
 use Rattle.resource.proofs.Laws.{covers-exact, taken-can, covers-stay, witness-matched, witness-decides, witness-names, zs-fresh}
-use Rattle.resource.proofs.Flags.{and-left, and-right, and-both, or-elim, no-flag, same-refl, same-eq}
+use Rattle.octets.proofs.Tests.{and-left, and-right, and-both, or-elim, no-flag}
+use Rattle.octets.proofs.SameLaws.{same-self, same-equal}
 use Rattle.descriptor.specs.Reader.{hasMode}
 use Rattle.narrowing.specs.Escape.{Rule, patternCovers, covered, canTake, deepest, longestLevel, freshName, witnessPath}
 
@@ -64,7 +66,7 @@ covers-admits : (q p : Pattern) (x : Path) → IsPattern p → IsPath x → admi
     → patternCovers q p (takenIn p x) ≡ true → admits q x ≡ true
 covers-admits q p x i j a c =
     let t : p .terminal ≡ x .terminal
-    = same-eq (p .terminal) (x .terminal) (and-left (same (p .terminal) (x .terminal)) (matches (p .below) (x .names)) a) in
+    = same-equal (p .terminal) (x .terminal) (and-left (same (p .terminal) (x .terminal)) (matches (p .below) (x .names)) a) in
     let m : matches (p .below) (x .names) ≡ true = and-right (same (p .terminal) (x .terminal)) (matches (p .below) (x .names)) a in
     let k : ℕ = takenIn p x in
     and-both (same (q .terminal) (x .terminal)) (matches (q .below) (x .names))
@@ -128,7 +130,7 @@ witness-path qs p k i c =
 -- p matches its witness path
 pub witness-admitted : (qs : List Rule) (p : Pattern) (k : ℕ) → CanTake (p .below) k → admits p (witnessPath qs p k) ≡ true
 witness-admitted qs p k c =
-    and-both (same (p .terminal) (p .terminal)) (matches (p .below) (witness (freshName qs) (p .below) k)) (same-refl (p .terminal))
+    and-both (same (p .terminal) (p .terminal)) (matches (p .below) (witness (freshName qs) (p .below) k)) (same-self (p .terminal))
     (witness-matched (freshName qs) (p .below) k c .0)
 
 -- the "**" of p takes k names in it

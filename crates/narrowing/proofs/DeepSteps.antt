@@ -10,10 +10,11 @@ use lib.ListN.{length, getD, take, drop, length-drop}
 use lib.Seq.{take-all}
 use lib.Dec.{eqb}
 use borrow.Author.Tests.{not-true, not-false}
-use Rattle.resource.specs.Level.{same, isStar, isDeep, prefixed, levels, joined}
+use Rattle.octets.specs.Bytes.{same}
+use Rattle.resource.specs.Level.{isStar, isDeep, prefixed, levels, joined}
 use Rattle.resource.specs.Pattern.{Levels, done, endsDeep}
 use Rattle.resource.specs.Text.{withLevel, levelsOf}
-use Rattle.resource.proofs.Flags.{same-eq}
+use Rattle.octets.proofs.SameLaws.{same-equal}
 use Rattle.resource.proofs.Promises.{levels-joined}
 
 -- the last of some levels is "**"
@@ -89,7 +90,7 @@ long-not-deep : (l : List ℕ) → 3 ≤ length l → isDeep l ≡ false
 long-not-deep l h = go (isDeep l) refl
   where
     go : (t : Bool) → isDeep l ≡ t → t ≡ false
-    go true e = absurd (omega (arith, h, ap length (same-eq l (42 ∷ 42 ∷ []) e)))
+    go true e = absurd (omega (arith, h, ap length (same-equal l (42 ∷ 42 ∷ []) e)))
     go false e = refl
 
 -- a byte before three or more does not count
@@ -128,7 +129,7 @@ ends-two b c = go (isDeep (b ∷ c ∷ [])) refl
     stars = refl
 
     go : (t : Bool) → isDeep (b ∷ c ∷ []) ≡ t → ends (levels (b ∷ c ∷ [])) ≡ t
-    go true e = ap (λ (l : List ℕ). ends (levels l)) (same-eq (b ∷ c ∷ []) (42 ∷ 42 ∷ []) e) ∙ stars
+    go true e = ap (λ (l : List ℕ). ends (levels l)) (same-equal (b ∷ c ∷ []) (42 ∷ 42 ∷ []) e) ∙ stars
     go false e = by (eqb b 47) refl
       where
         by : (t : Bool) → eqb b 47 ≡ t → ends (levels (b ∷ c ∷ [])) ≡ false
@@ -142,7 +143,7 @@ three-other a b c e = go (isDeep (b ∷ c ∷ [])) refl
   where
     go : (t : Bool) → isDeep (b ∷ c ∷ []) ≡ t → ends (levels (a ∷ b ∷ c ∷ [])) ≡ false
     go true f =
-        ap (λ (l : List ℕ). ends (levels (a ∷ l))) (same-eq (b ∷ c ∷ []) (42 ∷ 42 ∷ []) f) ∙ ap ends (other-byte a (42 ∷ 42 ∷ []) e)
+        ap (λ (l : List ℕ). ends (levels (a ∷ l))) (same-equal (b ∷ c ∷ []) (42 ∷ 42 ∷ []) f) ∙ ap ends (other-byte a (42 ∷ 42 ∷ []) e)
         ∙ ends-one (a ∷ 42 ∷ 42 ∷ []) ∙ long-not-deep (a ∷ 42 ∷ 42 ∷ []) (omega arith)
     go false f =
         ⊎-elim (λ (x : Alone a (b ∷ c ∷ [])). x .0 ∙ long-not-deep (a ∷ b ∷ c ∷ []) (omega arith))

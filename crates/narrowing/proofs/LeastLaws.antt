@@ -6,7 +6,7 @@ use mathlib.Core.Logic.{⊎-elim}
 use Prim.Native.Nat.{ℕ, zero, suc, _+_, _≤_, _<_}
 use native.Mathlib.Nat.{eq-or-lt-of-le}
 use native.Mathlib.Omega.{arith}
-use Rattle.resource.proofs.Flags.{no-flag}
+use Rattle.octets.proofs.Tests.{no-flag}
 use Rattle.narrowing.specs.Escape.{choose, least, isSome, orZero}
 
 -- k is the least number that passes f, of the n from a on

@@ -12,7 +12,7 @@ use Rattle.octets.specs.Bytes.{AreBytes}
 use Rattle.resource.specs.Pattern.{Path, IsPath, Levels, done, deep, name, star, Pattern, admits}
 use Rattle.resource.specs.Text.{patternOf}
 use Rattle.resource.specs.Cover.{CanTake}
-use Rattle.resource.proofs.Flags.{and-left, and-right, and-both}
+use Rattle.octets.proofs.Tests.{and-left, and-right, and-both}
 use Rattle.descriptor.specs.Model.{Grant, Descriptor}
 use Rattle.descriptor.specs.Allowed.{isIn, GrantOk, All, Allowed}
 use Rattle.descriptor.specs.Reader.{Seen, Answer, read, structure, validity, readOf}

@@ -8,7 +8,7 @@ use native.Mathlib.Omega.{arith}
 use lib.ListN.{length, getD, take, drop}
 use lib.Bits.{bitAnd, bitOr}
 use Rattle.octets.specs.Bytes.{part}
-use Rattle.resource.proofs.Flags.{no-flag}
+use Rattle.octets.proofs.Tests.{no-flag}
 use Rattle.descriptor.specs.Reader.{hasMode}
 use Rattle.narrowing.specs.declared.range.Range.{Range}
 use Rattle.narrowing.specs.declared.search.Found.the-variants.{Nothing}

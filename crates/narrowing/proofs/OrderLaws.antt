@@ -8,7 +8,7 @@ use Prim.Native.Nat.{ℕ}
 use native.Mathlib.Omega.{arith}
 use lib.Dec.{T}
 use Rattle.octets.specs.Bytes.{AreBytes}
-use Rattle.resource.proofs.Flags.{and-left, and-right, and-both}
+use Rattle.octets.proofs.Tests.{and-left, and-right, and-both}
 use Rattle.descriptor.specs.Model.{Descriptor, encode}
 use Rattle.descriptor.specs.Allowed.{Allowed}
 use Rattle.descriptor.specs.Reader.{Seen, Answer, read, structure, validity, readOf}

@@ -11,7 +11,7 @@ use Rattle.exact.specs.Reads.{AllFrom}
 use Rattle.resource.specs.Pattern.{Path, Pattern, IsPattern, patternText, admits}
 use Rattle.resource.specs.Text.{isPattern, longest, patternOk, patternOf}
 use Rattle.resource.proofs.Promises.{patterns-exact, patterns-once}
-use Rattle.resource.proofs.Flags.{and-left, and-right, or-elim, no-flag}
+use Rattle.octets.proofs.Tests.{and-left, and-right, or-elim, no-flag}
 use Rattle.descriptor.specs.Model.{Grant}
 use Rattle.descriptor.specs.Allowed.{isIn, ModeOk, seenWith, GrantOk, All}
 use Rattle.descriptor.specs.View.{maskOf}

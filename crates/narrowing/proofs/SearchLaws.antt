@@ -11,10 +11,10 @@ use native.Mathlib.Decide.{decLt}
 use borrow.Author.Tests.{not-true, not-false}
 use lib.ListN.{length}
 use Rattle.resource.specs.Pattern.{Path, IsPath, Pattern, IsPattern, matches, admits}
-use Rattle.resource.specs.Level.{same}
+use Rattle.octets.specs.Bytes.{same}
 use Rattle.resource.specs.Cover.{CanTake}
 use Rattle.resource.proofs.Laws.{taken-can}
-use Rattle.resource.proofs.Flags.{and-left, and-right, and-both}
+use Rattle.octets.proofs.Tests.{and-left, and-right, and-both}
 use Rattle.descriptor.specs.Reader.{hasMode}
 use Rattle.narrowing.specs.Escape.{Rule, covered, canTake, escapesWith, deepest, isSome, orZero, fewestNames, lowestMode, ruleAt, firstRule, witnessPath}
 use Rattle.narrowing.proofs.LeastLaws.{Least, least-some, least-none, some-of, none-of}

@@ -5,7 +5,7 @@ use mathlib.Core.List.{List, [], _∷_}
 use mathlib.Core.Option.{Option, none, some}
 use Prim.Native.Nat.{ℕ, zero, suc, _+_, max}
 use lib.ListN.{length, getD}
-use Rattle.resource.specs.Level.{same}
+use Rattle.octets.specs.Bytes.{same}
 use Rattle.resource.specs.Pattern.{Path, Levels, done, Pattern, before, endsDeep}
 use Rattle.resource.specs.Cover.{covers, witness, longestName, zs}
 use Rattle.descriptor.specs.Reader.{hasMode}

@@ -5,7 +5,8 @@ use mathlib.Core.List.{List, [], _∷_}
 use Prim.Native.Nat.{ℕ, zero, suc, _+_}
 use lib.Dec.{leb, ltb}
 use lib.Bits.{bitOr}
-use Rattle.resource.specs.Level.{same, levels}
+use Rattle.octets.specs.Bytes.{same}
+use Rattle.resource.specs.Level.{levels}
 use Rattle.resource.specs.Pattern.{Levels, done, deep, name, star}
 use Rattle.resource.specs.Text.{levelsOf}
 use Rattle.narrowing.specs.declared.range.Range.{Range}

@@ -8,3 +8,5 @@ pub mod OverLaws
 pub mod NumberLaws
 pub mod BitLaws
 pub mod ListLaws
+pub mod PartLaws
+pub mod ScanLaws

@@ -1,15 +1,40 @@
--- Laws of a loop that compares two lists of bytes, the last byte first. Assumes nothing.
+-- Laws of the test whether two lists of bytes are the same, and of the loops that compare them. Assumes nothing.
 use mathlib.Core.Path.{_≡_, refl, sym, ap, ap₂, _∙_}
 use mathlib.Core.Bool.{Bool, true, false, _&&_}
 use mathlib.Core.List.{List, [], _∷_}
 use Prim.Native.Nat.{ℕ, zero, suc, _+_, _-_, _≤_, _<_}
 use native.Mathlib.Omega.{arith}
 use native.Mathlib.Numerals.{add-one}
-use lib.Dec.{eqb}
+use lib.Dec.{T, leb, eqb}
 use lib.ListN.{length, getD, take}
 use lib.Seq.{take-length, take-all}
-use borrow.Author.Tests.{eq-eqb, ne-eqb}
+use borrow.Author.Tests.{eq-eqb, ne-eqb, le-leb, lt-leb}
 use Rattle.octets.specs.Bytes.{same}
+use Rattle.octets.proofs.BytesLaws.{same-eq, same-refl, T-of}
+
+-- ---- what the test says
+
+-- Lists that are the same are equal.
+pub same-equal : (x y : List ℕ) → same x y ≡ true → x ≡ y
+same-equal x y e = same-eq x y (T-of refl e)
+
+-- A list is the same as itself.
+pub same-self : (x : List ℕ) → same x x ≡ true
+same-self x = go (same x x) (same-refl x)
+  where
+    go : (t : Bool) → T t → t ≡ true
+    go true h = refl
+    go false h = absurd h
+
+-- Lists that are not equal are not the same.
+pub not-same : (x y : List ℕ) → (x ≡ y → ⊥) → same x y ≡ false
+not-same x y n = go (same x y) refl
+  where
+    go : (t : Bool) → same x y ≡ t → t ≡ false
+    go true e = absurd (n (same-equal x y e))
+    go false e = refl
+
+-- ---- a loop that compares, the last byte first
 
 -- A test that does not hold, as the second of two.
 and-false : (t : Bool) → (t && false) ≡ false
@@ -81,3 +106,23 @@ module _ (a b : List ℕ) (i : ℕ) (pos : 0 < i) (ha : i ≤ length a) (hb : i 
 pub same-end : (a b : List ℕ) (i : ℕ) → i ≡ 0 → same (take i a) (take i b) ≡ true
 unfolding same
 same-end a b i e = ap (λ (k : ℕ). same (take k a) (take k b)) e
+
+-- ---- whether both begin with the same n bytes
+
+module _ (a b : List ℕ) (n : ℕ) where
+  -- Where the first has fewer bytes it does not.
+  pub start-short-first : length a < n → (leb n (length a) && (leb n (length b) && same (take n a) (take n b))) ≡ false
+  start-short-first h = rw (lt-leb n (length a) h)
+
+  -- Nor does the second where it has fewer.
+  pub start-short-second : length b < n → (leb n (length a) && (leb n (length b) && same (take n a) (take n b))) ≡ false
+  start-short-second h = rw (lt-leb n (length b) h) (and-false (leb n (length a)))
+
+  -- Where both have so many, those bytes decide.
+  pub start-both : n ≤ length a → n ≤ length b → (leb n (length a) && (leb n (length b) && same (take n a) (take n b))) ≡ same (take n a) (take n b)
+  start-both h k = rw (le-leb n (length a) h, le-leb n (length b) k)
+
+  -- So what was answered to the test says whether those bytes are the same.
+  pub start-answer : {r : Bool} → n ≤ length a → n ≤ length b → r ≡ (leb n (length a) && (leb n (length b) && same (take n a) (take n b)))
+      → r ≡ same (take n a) (take n b)
+  start-answer h k e = e ∙ start-both h k

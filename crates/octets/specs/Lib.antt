@@ -3,3 +3,4 @@ pub mod Span
 pub mod Order
 pub mod Number
 pub mod Write
+pub mod Scan

@@ -3,14 +3,19 @@ mod compare;
 mod numbers;
 mod order;
 mod part;
+mod scan;
 mod write;
 
 ghost use mathlib.Core.Path.{_≡_};
-ghost use Prim.Native.Nat.{_^_, _<_};
+ghost use mathlib.Core.Bool.{_&&_};
+ghost use Prim.Native.Nat.{_+_, _^_, _≤_, _<_};
+ghost use lib.Dec.{leb};
+ghost use lib.ListN.{length, take, drop};
 ghost use Rattle.octets.specs.Bytes.{PartOf, same, hasAt};
 ghost use Rattle.octets.specs.Span.{inside as insideOf};
 ghost use Rattle.octets.specs.Order.{before as beforeOf};
 ghost use Rattle.octets.specs.Number.{bigEndian, numberIn};
+ghost use Rattle.octets.specs.Scan.{bytesBefore};
 ghost use Rattle.octets.specs.Write.{putAt, movedUp};
 
 // Whether the two are the same bytes.
@@ -39,6 +44,21 @@ pub fn part_at(s: &[u8], start: usize, n: usize) -> &[u8]
     ensures { λ r. ⌜ PartOf (s .entry) r (insideOf (now (s .entry)) start n .start) (insideOf (now (s .entry)) start n .len) ⌝ }
 {
     part::part_at(s, start, n)
+}
+
+// Whether both have n bytes and begin with the same n bytes; all n are compared.
+pub fn same_start(a: &[u8], b: &[u8], n: usize) -> bool
+    ensures { λ r. ⌜ r ≡ (leb n (length (now (a .entry))) && (leb n (length (now (b .entry))) && same (take n (now (a .entry))) (take n (now (b .entry))))) ⌝ }
+{
+    compare::same_start(a, b, n)
+}
+
+// The place of the first b from `from` on, or the end; `from` itself where it is past the end.
+pub fn until(s: &[u8], from: usize, b: u8) -> usize
+    ensures { λ r. ⌜ r ≡ from + bytesBefore b (drop from (now (s .entry))) ⌝ }
+    ensures { λ r. ⌜ (from ≤ length (now (s .entry)) → r ≤ length (now (s .entry))) ⌝ }
+{
+    scan::until(s, from, b)
 }
 
 // The number in the w bytes from the place on, the highest byte first; 0 where they are not there, or more than 8.

@@ -11,7 +11,7 @@ use borrow.Author.Tests.{leb-true}
 use Rattle.octets.specs.Bytes.{AreBytes}
 use Rattle.resource.specs.Identifier.{isFay, isTerminal}
 use Rattle.resource.specs.Text.{resourceOk, pathOf}
-use Rattle.resource.proofs.Flags.{and-left, and-right}
+use Rattle.octets.proofs.Tests.{and-left, and-right}
 use Rattle.descriptor.specs.declared.Fields.{Fields}
 use Rattle.descriptor.specs.declared.Reading.the-variants.{Read}
 use Rattle.descriptor.specs.Model.{Descriptor, encode}

@@ -6,7 +6,7 @@ use native.Mathlib.Omega.{arith}
 use Rattle.resource.specs.Characters.{codes, oneOf}
 use Rattle.resource.specs.Identifier.{isHex}
 use Rattle.resource.specs.Level.{isNameChar}
-use Rattle.resource.proofs.Flags.{and-left, and-right, no-flag}
+use Rattle.octets.proofs.Tests.{and-left, and-right, no-flag}
 
 -- two tests answer alike
 abbrev alike : Bool → Bool → Bool

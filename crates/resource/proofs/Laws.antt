@@ -1,6 +1,54 @@
 -- The statements of specs/Laws.antt, each from its law. Assumes nothing.
-use Rattle.resource.specs.Laws.{CoversExact, TakenCan, CoversStay, WitnessMatched, WitnessDecides, WitnessNames, ZsFresh}
+use Rattle.resource.specs.Laws.{TerminalLength, FayLength, PatternShort, ResourceShort, PatternTerminal, PatternLevels, AdmitsText, FirstStar, SpelledFirst, StepLevels, StepTold, DeepTold, NextSame, CoversExact, TakenCan, CoversStay, WitnessMatched, WitnessDecides, WitnessNames, ZsFresh}
 use Rattle.resource.proofs.CoverLaws.{covers-exactly, taken-can-be, covers-stays, witness-is-matched, witness-covers, witness-has-names, zs-are-fresh}
+use Rattle.resource.proofs.SpellLaws.{first-spelled}
+use Rattle.resource.proofs.StepLaws.{star-level, first-levels, step-tells, deep-tells, next-decides}
+use Rattle.resource.proofs.TextLaws.{terminal-long, fay-long, pattern-sized, resource-sized, pattern-id, pattern-parts, admits-parts}
+
+-- ---- texts
+
+pub terminal-length : TerminalLength
+terminal-length = terminal-long
+
+pub fay-length : FayLength
+fay-length = fay-long
+
+pub pattern-short : PatternShort
+pattern-short = pattern-sized
+
+pub resource-short : ResourceShort
+resource-short = resource-sized
+
+pub pattern-terminal : PatternTerminal
+pattern-terminal = pattern-id
+
+pub pattern-levels : PatternLevels
+pattern-levels = pattern-parts
+
+pub admits-text : AdmitsText
+admits-text = admits-parts
+
+-- ---- first levels
+
+pub first-star : FirstStar
+first-star = star-level
+
+pub spelled-first : SpelledFirst
+spelled-first = first-spelled
+
+pub step-levels : StepLevels
+step-levels = first-levels
+
+pub step-told : StepTold
+step-told = step-tells
+
+pub deep-told : DeepTold
+deep-told = deep-tells
+
+pub next-same : NextSame
+next-same = next-decides
+
+-- ---- covering
 
 pub covers-exact : CoversExact
 covers-exact = covers-exactly

@@ -1,4 +1,3 @@
-pub mod Flags
 pub mod LevelLaws
 pub mod CharLaws
 pub mod FormLaws

@@ -1,7 +1,7 @@
 -- Laws of matching the first level of a pattern against the first level of a path (specs/Scan.antt), and what it says of all levels (specs/Text.antt).
 -- Assumes nothing.
 use mathlib.Core.Path.{_≡_, refl, sym, ap, subst, _∙_}
-use mathlib.Core.Bool.{Bool, true, false, not, cond, _&&_, _||_, and-assoc, and-true, and-false}
+use mathlib.Core.Bool.{Bool, true, false, not, cond, _&&_, _||_, and-true, and-false}
 use mathlib.Core.List.{List, [], _∷_, _++_, append-nil}
 use Prim.Native.Nat.{ℕ, zero, suc, _+_, _-_, _≤_, _<_}
 use native.Mathlib.Nat.{add-zero, zero-add}
@@ -13,30 +13,20 @@ use lib.Dec.{eqb}
 use borrow.Author.Tests.{eq-eqb, ne-eqb, not-true}
 use Rattle.resource.specs.declared.Step.{Step}
 use Rattle.resource.specs.declared.Step.the-variants.{Differ, Finish, Next}
-use Rattle.resource.specs.Level.{same, isStar, isDeep, levels}
+use Rattle.octets.specs.Bytes.{same}
+use Rattle.octets.specs.Scan.{bytesBefore}
+use Rattle.resource.specs.Level.{isStar, isDeep, levels}
 use Rattle.resource.specs.Pattern.{Levels, done, deep, matches}
 use Rattle.resource.specs.Text.{withLevel, levelsOf, levelsMatch}
 use Rattle.resource.specs.Scan.{levelLength, nameStep, starFirst, starStep, stepOf}
-use Rattle.resource.proofs.Flags.{by-cond, and-left, and-right, no-flag, same-eq}
+use Rattle.resource.specs.Laws.{alike, Firsts, FirstLevels, Goes, Stepped, StepLevels, FirstStar, StepTold, DeepTold}
+use Rattle.octets.proofs.Tests.{by-cond, and-left, and-right, no-flag}
+use Rattle.octets.proofs.SameLaws.{same-equal}
+use Rattle.octets.proofs.PartLaws.{part-to-end}
+use Rattle.octets.proofs.ScanLaws.{before-other}
 use Rattle.resource.proofs.LevelLaws.{noSlash, levels-one, levels-more, levels-some}
-use Rattle.resource.proofs.ScanLaws.{Parted, last, more, parted, drop-more, part-to-end}
-
--- ---- the bytes before the first "/", from an index on
-
--- "/" at i: no byte from i on
-pub length-here : (s : List ℕ) (i : ℕ) → i < length s → getD s i 0 ≡ 47 → levelLength (drop i s) ≡ 0
-unfolding levelLength
-length-here s i h e = rw (drop-cons s i 0 h, e)
-
--- another byte at i: one more than from i + 1 on
-pub length-next : (s : List ℕ) (i : ℕ) → i < length s → (getD s i 0 ≡ 47 → ⊥) → levelLength (drop i s) ≡ suc (levelLength (drop (i + 1) s))
-unfolding levelLength
-length-next s i h e = rw (add-one, drop-cons s i 0 h, ne-eqb (getD s i 0) 47 e, levelLength)
-
--- the end at i: no byte from i on
-pub length-end : (s : List ℕ) (i : ℕ) → length s ≤ i → levelLength (drop i s) ≡ 0
-unfolding levelLength
-length-end s i h = rw (drop-of-length-le s h)
+use Rattle.resource.proofs.ScanLaws.{Parted, last, more, parted, drop-more}
+use Rattle.resource.proofs.SpellLaws.{first-spelled}
 
 -- ---- a name against a name, by its first bytes
 
@@ -93,7 +83,7 @@ module _ (p r : List ℕ) (i : ℕ) where
   unfolding nameStep
   name-end h k = rw (drop-of-length-le p h, drop-of-length-le r k)
 
--- ---- the code's tests of a wildcard, and one byte more of two terminal ids
+-- ---- the code's tests of a wildcard
 
 -- an empty text
 pub star-none : (p : List ℕ) → length p ≡ 0 → starFirst p ≡ false
@@ -130,18 +120,6 @@ deep-two [] e = refl
 deep-two (a ∷ []) e = absurd (omega arith)
 deep-two (a ∷ b ∷ []) e = rw (and-true (eqb b 42))
 deep-two (a ∷ b ∷ c ∷ p) e = absurd (omega arith)
-
--- two texts are the same for one byte more
-pub same-more : (a b : List ℕ) (i : ℕ) → i < length a → i < length b
-    → same (take (i + 1) a) (take (i + 1) b) ≡ (same (take i a) (take i b) && eqb (getD a i 0) (getD b i 0))
-unfolding same
-same-more [] b i h k = absurd (omega arith)
-same-more (x ∷ a) [] i h k = absurd (omega arith)
-same-more (x ∷ a) (y ∷ b) zero h k = and-true (eqb x y)
-same-more (x ∷ a) (y ∷ b) (suc i) h k =
-    let sum : suc i + 1 ≡ suc (i + 1) = omega arith in
-    rw (sum, same-more a b i (omega arith) (omega arith))
-    (sym (and-assoc (eqb x y) (same (take i a) (take i b)) (eqb (getD a i 0) (getD b i 0))))
 
 -- ---- a first level and what follows it
 
@@ -191,10 +169,10 @@ front-rest b l h = and-right (not (eqb b 47)) (noSlash l) h
 
 -- the bytes before the first "/" are those of the first level
 front-length : (k : List ℕ) {b : List ℕ} → noSlash k ≡ true → Ends b → levelLength (k ++ b) ≡ length k
-unfolding levelLength
+unfolding bytesBefore
 front-length [] h at-end = refl
 front-length [] h (at-slash t) = refl
-front-length (x ∷ k) h e = rw (front-byte x k h, levelLength) (ap suc (front-length k (front-rest x k h) e))
+front-length (x ∷ k) {b} h e = before-other 47 x (k ++ b) (front-byte x k h) ∙ ap suc (front-length k (front-rest x k h) e)
 
 -- whether the first level is "*"
 pub front-star : (l : List ℕ) {a : List ℕ} → noSlash l ≡ true → Ends a → starFirst (l ++ a) ≡ isStar l
@@ -260,7 +238,7 @@ star-tail k (at-slash t) (at-slash u) =
 -- names that are the same have the same length
 same-lengths : (l k a b : List ℕ) (t : Bool) → same l k ≡ t
     → cond t (tailStep (0 + length l) (0 + length l) a b) Differ ≡ cond t (tailStep (length l) (length k) a b) Differ
-same-lengths l k a b true e = rw (zero-add (length l)) (ap (λ (n : ℕ). tailStep (length l) n a b) (ap length (same-eq l k e)))
+same-lengths l k a b true e = rw (zero-add (length l)) (ap (λ (n : ℕ). tailStep (length l) n a b) (ap length (same-equal l k e)))
 same-lengths l k a b false e = refl
 
 -- the step of two first levels: "*", or a name and itself
@@ -271,10 +249,48 @@ front-step l k {a} {b} h g e f = rw (front-star l h e, front-length k g f) (go (
   where
     go : (t : Bool) → isStar l ≡ t
         → cond t (starStep (l ++ a) (k ++ b) (length k)) (nameStep 0 (l ++ a) (k ++ b)) ≡ cond (t || same l k) (tailStep (length l) (length k) a b) Differ
-    go true q = rw (same-eq l (42 ∷ []) q) (star-tail k e f)
+    go true q = rw (same-equal l (42 ∷ []) q) (star-tail k e f)
     go false q = front-name 0 l k h g e f ∙ same-lengths l k a b (same l k) refl
 
--- ---- what the step says of all levels
+-- ---- what the step says of the levels
+
+-- the first levels, and those after them
+front-firsts : (l k : List ℕ) {a b : List ℕ} (t : Bool) → noSlash l ≡ true → noSlash k ≡ true → Ends a → Ends b → (isStar l || same l k) ≡ t
+    → Firsts (l ++ a) (k ++ b) (tailLevels a) (tailLevels b) t
+front-firsts l k t h g e f m = record { first-p = l; first-r = k; of-p = front-levels l h e; of-r = front-levels k g f; fit = m }
+
+-- what the step says where they fit
+fit-told : (l k : List ℕ) {a b : List ℕ} → noSlash l ≡ true → noSlash k ≡ true → Ends a → Ends b → (isStar l || same l k) ≡ true
+    → FirstLevels (l ++ a) (k ++ b) (tailStep (length l) (length k) a b)
+unfolding tailStep tailLevels
+fit-told l k h g at-end at-end m = front-firsts l k true h g at-end at-end m
+fit-told l k h g at-end (at-slash u) m = ([], levels u, true, front-firsts l k true h g at-end (at-slash u) m, rw (levels-some u .2))
+fit-told l k h g (at-slash t) at-end m = (levels t, [], true, front-firsts l k true h g (at-slash t) at-end m, rw (levels-some t .2))
+fit-told l k h g (at-slash t) (at-slash u) m = (
+  omega (arith, length-append l (47 ∷ t)),
+  omega (arith, length-append k (47 ∷ u)),
+  rw (drop-more l t, drop-more k u) (front-firsts l k true h g (at-slash t) (at-slash u) m),
+)
+
+-- what it says of two texts by their first levels
+front-told : {p r : List ℕ} → Front p → Front r → FirstLevels p r (stepOf p r)
+front-told (front l a h e) (front k b g f) =
+    rw (front-step l k h g e f)
+    (by-cond (FirstLevels (l ++ a) (k ++ b)) (isStar l || same l k) (λ m. fit-told l k h g e f m)
+    (λ m. (tailLevels a, tailLevels b, false, front-firsts l k false h g e f m, refl)))
+
+-- what it says of each two texts
+pub first-levels : StepLevels
+first-levels p r = front-told (front-of (parted p)) (front-of (parted r))
+
+-- the first level of each text, and whether it is "*"
+pub star-level : FirstStar
+star-level s = go (front-of (parted s))
+  where
+    go : {x : List ℕ} → Front x → (l : List ℕ) × (ls : List (List ℕ)) × (levels x ≡ l ∷ ls) × (starFirst x ≡ isStar l)
+    go (front l a h e) = (l, tailLevels a, front-levels l h e, front-star l h e)
+
+-- ---- what the step says of matching
 
 -- a level that is "*", or any other but "**", against a name
 level-match : (l k : List ℕ) (q : Levels) (xs : List (List ℕ)) → matches (withLevel (isStar l) l q) (k ∷ xs) ≡ ((isStar l || same l k) && matches q xs)
@@ -283,16 +299,6 @@ level-match l k q xs = go (isStar l)
     go : (t : Bool) → matches (withLevel t l q) (k ∷ xs) ≡ ((t || same l k) && matches q xs)
     go true = refl
     go false = refl
-
--- a pattern that is not "**" matches by its first level, and then by the others
-front-match : (l k : List ℕ) {a b : List ℕ} → noSlash l ≡ true → noSlash k ≡ true → Ends a → Ends b → isDeep (l ++ a) ≡ false
-    → levelsMatch (l ++ a) (k ++ b) ≡ ((isStar l || same l k) && matches (levelsOf (tailLevels a)) (tailLevels b))
-unfolding levelsMatch levelsOf tailLevels
-front-match l k {a} {b} h g at-end f d =
-    rw (front-levels l h at-end, front-levels k g f, rw (append-nil l) at d, levelsOf) (level-match l k done (tailLevels b))
-front-match l k {a} {b} h g (at-slash t) f d =
-    let m = levels-some t in
-    rw (front-levels l h (at-slash t), front-levels k g f, m .2) (level-match l k (levelsOf (m .0 ∷ m .1)) (tailLevels b))
 
 -- a pattern with a level does not match a path with none
 none-left : (l : List ℕ) (ls : List (List ℕ)) → matches (levelsOf (l ∷ ls)) [] ≡ false
@@ -309,45 +315,38 @@ none-left l (k ∷ ls) = go (isStar l) (levelsOf (k ∷ ls))
     go true q = refl
     go false q = refl
 
--- the levels after the first decide, and there are fewer of them
-pub record Goes (p r : List ℕ) (i j : ℕ) : Type 0 where
-  pub in-p : i < length p
-  pub in-r : j < length r
-  pub decides : levelsMatch p r ≡ levelsMatch (drop (i + 1) p) (drop (j + 1) r)
-  pub fewer : length (levels (drop (i + 1) p)) < length (levels p)
+-- a pattern that is not "**" matches by its first level, and then by the others
+first-match : (p r : List ℕ) (ls ks : List (List ℕ)) (t : Bool) → Firsts p r ls ks t → isDeep p ≡ false → levelsMatch p r ≡ (t && matches (levelsOf ls) ks)
+unfolding levelsMatch
+first-match p r ls ks t f d =
+    rw (f .of-p, f .of-r, first-spelled p (f .first-p) ls (f .of-p) d)
+    (level-match (f .first-p) (f .first-r) (levelsOf ls) ks ∙ ap (λ (b : Bool). b && matches (levelsOf ls) ks) (f .fit))
+
+-- where the levels after the first are not alike, or the first do not fit, the texts do not match
+other-match : (t : Bool) (ls ks : List (List ℕ)) → (t && alike ls ks) ≡ false → (t && matches (levelsOf ls) ks) ≡ false
+unfolding levelsOf
+other-match false ls ks e = refl
+other-match true [] [] e = no-flag (sym e)
+other-match true [] (k ∷ ks) e = refl
+other-match true (l ∷ ls) [] e = none-left l ls
+other-match true (l ∷ ls) (k ∷ ks) e = no-flag (sym e)
 
 -- what is told of a pattern that is not "**" by the step of its first level
-abbrev pub Stepped : List ℕ → List ℕ → Step → Type 0
-Stepped p r Differ = levelsMatch p r ≡ false
-Stepped p r Finish = levelsMatch p r ≡ true
-Stepped p r (Next i j) = Goes p r i j
-
--- it holds where the first levels match
-tail-told : (l k : List ℕ) {a b : List ℕ} → noSlash l ≡ true → noSlash k ≡ true → Ends a → Ends b → isDeep (l ++ a) ≡ false → (isStar l || same l k) ≡ true
-    → Stepped (l ++ a) (k ++ b) (tailStep (length l) (length k) a b)
-unfolding tailStep tailLevels levelsOf levelsMatch
-tail-told l k h g at-end at-end d m = front-match l k h g at-end at-end d ∙ rw m
-tail-told l k h g at-end (at-slash u) d m = front-match l k h g at-end (at-slash u) d ∙ rw (m, levels-some u .2)
-tail-told l k h g (at-slash t) at-end d m =
-    let s = levels-some t in
-    front-match l k h g (at-slash t) at-end d ∙ rw (m, s .2) (none-left (s .0) (s .1))
-tail-told l k h g (at-slash t) (at-slash u) d m =
+match-told : (p r : List ℕ) (x : Step) → FirstLevels p r x → isDeep p ≡ false → Stepped p r x
+unfolding levelsOf levelsMatch
+match-told p r Differ f d = first-match p r (f .0) (f .1) (f .2) (f .3) d ∙ other-match (f .2) (f .0) (f .1) (f .4)
+match-told p r Finish f d = first-match p r [] [] true f d
+match-told p r (Next i j) f d =
     record {
-      in-p = omega (arith, length-append l (47 ∷ t));
-      in-r = omega (arith, length-append k (47 ∷ u));
-      decides = front-match l k h g (at-slash t) (at-slash u) d ∙ rw (m, drop-more l t, drop-more k u);
-      fewer = rw (drop-more l t, levels-more l t h) (omega arith);
+      in-p = f .0;
+      in-r = f .1;
+      decides = first-match p r (levels (drop (i + 1) p)) (levels (drop (j + 1) r)) true (f .2) d;
+      fewer = omega (arith, ap length (f .2 .of-p));
     }
 
--- it holds of two texts by their first levels
-front-told : {p r : List ℕ} → Front p → Front r → isDeep p ≡ false → Stepped p r (stepOf p r)
-front-told (front l a h e) (front k b g f) d =
-    rw (front-step l k h g e f)
-    (by-cond (Stepped (l ++ a) (k ++ b)) (isStar l || same l k) (λ m. tail-told l k h g e f d m) (λ m. front-match l k h g e f d ∙ rw m))
-
 -- it holds of each two texts
-pub step-told : (p r : List ℕ) → isDeep p ≡ false → Stepped p r (stepOf p r)
-step-told p r d = front-told (front-of (parted p)) (front-of (parted r)) d
+pub step-tells : StepTold
+step-tells p r d = match-told p r (stepOf p r) (first-levels p r) d
 
 -- the levels after the first, as the code hands them on
 module _ (p r : List ℕ) (i j : ℕ) (g : Goes p r i j) where
@@ -356,10 +355,10 @@ module _ (p r : List ℕ) (i j : ℕ) (g : Goes p r i j) where
   next-fewer = rw (part-to-end p (i + 1)) (g .fewer)
 
   -- they decide
-  pub next-same : levelsMatch (take (length p - (i + 1)) (drop (i + 1) p)) (take (length r - (j + 1)) (drop (j + 1) r)) ≡ levelsMatch p r
-  next-same = rw (part-to-end p (i + 1), part-to-end r (j + 1)) (sym (g .decides))
+  pub next-decides : levelsMatch (take (length p - (i + 1)) (drop (i + 1) p)) (take (length r - (j + 1)) (drop (j + 1) r)) ≡ levelsMatch p r
+  next-decides = rw (part-to-end p (i + 1), part-to-end r (j + 1)) (sym (g .decides))
 
 -- "**" matches whatever is left
-pub deep-told : (p r : List ℕ) → isDeep p ≡ true → levelsMatch p r ≡ true
+pub deep-tells : DeepTold
 unfolding levelsMatch levels levelsOf same
-deep-told p r e = rw (same-eq p (42 ∷ 42 ∷ []) e, levels-some r .2)
+deep-tells p r e = rw (same-equal p (42 ∷ 42 ∷ []) e, levels-some r .2)

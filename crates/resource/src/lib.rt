@@ -6,6 +6,7 @@ mod matcher;
 
 ghost use mathlib.Core.Path.{_≡_};
 ghost use Rattle.resource.specs.Identifier.{isFay, isTerminal};
+ghost use Rattle.resource.specs.Level.{isDeep};
 ghost use Rattle.resource.specs.Text.{resourceOk, patternOk, matching};
 ghost use Rattle.resource.specs.Scan.{stepOf};
 
@@ -57,6 +58,13 @@ pub fn is_pattern(s: &[u8]) -> bool
     ensures { λ r. ⌜ r ≡ patternOk (now (s .entry)) ⌝ }
 {
     levels::pattern(s)
+}
+
+// Whether p is "**".
+pub fn is_deep(p: &[u8]) -> bool
+    ensures { λ o. ⌜ o ≡ isDeep (now (p .entry)) ⌝ }
+{
+    matcher::is_deep(p)
 }
 
 // The first level of a pattern's levels p against the first level of r: a name against the same bytes, "*" against any. Where r is a pattern's

@@ -4,25 +4,9 @@ use crate::Step;
 use crate::levels::pattern;
 use crate::levels::resource;
 ghost use mathlib.Core.Path.{_≡_};
-ghost use Prim.Native.Nat.{_≤_};
-ghost use lib.ListN.{length, take};
-ghost use Rattle.resource.specs.Level.{same, isDeep};
+ghost use Rattle.resource.specs.Level.{isDeep};
 ghost use Rattle.resource.specs.Text.{levelsMatch, matching};
 ghost use Rattle.resource.specs.Scan.{levelLength, nameStep, starFirst, starStep, stepOf};
-
-// How many bytes stand before the first "/".
-fn level_length(s: &[u8]) -> usize
-    ensures { λ r. ⌜ r ≡ levelLength (now (s .entry)) ⌝ }
-{
-    let mut i = 0;
-    while i < s.len() {
-        if s[i] == b'/' {
-            return i;
-        }
-        i += 1;
-    }
-    i
-}
 
 // A name of p against a name of r.
 fn name_step(p: &[u8], r: &[u8]) -> Step
@@ -64,7 +48,7 @@ fn star_first(p: &[u8]) -> bool
 fn star_step(p: &[u8], r: &[u8]) -> Step
     ensures { λ o. ⌜ o ≡ starStep (now (p .entry)) (now (r .entry)) (levelLength (now (r .entry))) ⌝ }
 {
-    let n = level_length(r);
+    let n = octets::until(r, 0, b'/');
     if p.len() == 1 {
         if n == r.len() {
             return Step::Finish;
@@ -88,7 +72,7 @@ pub(crate) fn first_step(p: &[u8], r: &[u8]) -> Step
 }
 
 // Whether p is "**".
-fn is_deep(p: &[u8]) -> bool
+pub(crate) fn is_deep(p: &[u8]) -> bool
     ensures { λ o. ⌜ o ≡ isDeep (now (p .entry)) ⌝ }
 {
     if p.len() != 2 {
@@ -111,20 +95,6 @@ pub(crate) fn levels(p: &[u8], r: &[u8]) -> bool
     }
 }
 
-// Whether the first 45 bytes are equal.
-fn same_terminal(a: &[u8], b: &[u8]) -> bool
-    requires { ⌜ (45 ≤ length (now a)) × (45 ≤ length (now b)) ⌝ }
-    ensures { λ o. ⌜ o ≡ same (take 45 (now (a .entry))) (take 45 (now (b .entry))) ⌝ }
-{
-    let mut ok = true;
-    let mut i = 0;
-    while i < 45 {
-        ok = ok & (a[i] == b[i]);
-        i += 1;
-    }
-    ok
-}
-
 // Whether the pattern p matches the resource id r.
 pub(crate) fn texts(p: &[u8], r: &[u8]) -> Matching
     ensures { λ o. ⌜ o ≡ matching (now (p .entry)) (now (r .entry)) ⌝ }
@@ -135,7 +105,7 @@ pub(crate) fn texts(p: &[u8], r: &[u8]) -> Matching
     if !resource(r) {
         return Matching::Malformed;
     }
-    if !same_terminal(p, r) {
+    if !octets::same_start(p, r, 45) {
         return Matching::No;
     }
     if levels(&p[46..], &r[46..]) {

@@ -8,7 +8,7 @@ use native.Mathlib.Omega.{arith}
 use lib.Dec.{ltb, eqb}
 use borrow.Author.Tests.{ltb-true, eqb-true, lt-ltb, eq-eqb}
 use Rattle.exact.specs.Reads.{AllFrom}
-use Rattle.resource.proofs.Flags.{and-left, and-right, and-both, or-elim, no-flag}
+use Rattle.octets.proofs.Tests.{and-left, and-right, and-both, or-elim, no-flag}
 use Rattle.descriptor.specs.Model.{Pair}
 use Rattle.octets.specs.Order.{before}
 use Rattle.descriptor.specs.Allowed.{PairOk, keyOf}

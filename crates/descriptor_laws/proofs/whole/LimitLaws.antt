@@ -10,9 +10,8 @@ use lib.Dec.{leb, ltb, eqb}
 use borrow.Author.Tests.{leb-true, le-leb, eqb-false, ne-eqb}
 use Rattle.cbor_item.specs.Encoding.{head}
 use Rattle.exact.specs.Reads.{OptOk, AllFrom}
-use Rattle.octets.proofs.Tests.{by-cond}
+use Rattle.octets.proofs.Tests.{by-cond, and-left, and-right, and-both}
 use Rattle.resource.specs.Text.{isPattern, longest, patternOk}
-use Rattle.resource.proofs.Flags.{and-left, and-right, and-both}
 use Rattle.descriptor.specs.Model.{Pair, Grant, Descriptor}
 use Rattle.octets.specs.Order.{before}
 use Rattle.descriptor.specs.Allowed.{TextOk, PairOk, keyOf, PairsOk, isIn, ModeOk, seenWith, ModesOk, GrantOk, All, Formed}

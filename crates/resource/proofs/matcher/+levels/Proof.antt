@@ -7,7 +7,8 @@ use borrow.Author.Needs.{needs}
 use borrow.Fn.Kinds.{In}
 use borrow.Fn.PlainCycle.{Measures, is, falls, and}
 use Rattle.resource.specs.Level.{levels as levelsIn}
-use Rattle.resource.proofs.StepLaws.{Goes, Stepped, step-told, next-fewer, next-same, deep-told}
+use Rattle.resource.specs.Laws.{Goes, Stepped}
+use Rattle.resource.proofs.StepLaws.{step-tells, next-fewer, next-decides, deep-tells}
 use Rattle.resource.proofs.matcher.levels.Reads as levels
 use Rattle.resource.proofs.matcher.levels.Kinds as levels-kinds
 use Rattle.resource.proofs.matcher.+levels.Lts-levels as levels-lts
@@ -40,14 +41,14 @@ goes t a =
     let e = f .before in
     let s = e .before .before .before .before .args in
     subst (Stepped (s .p .now) (s .r .now)) (sym (f .first-step .ensures) ∙ a .i .given .1)
-    (step-told (s .p .now) (s .r .now) (sym (e .before .is-deep .ensures) ∙ e .if1 .left))
+    (step-tells (s .p .now) (s .r .now) (sym (e .before .is-deep .ensures) ∙ e .if1 .left))
 
 -- the needs at the measure t
 levels-is-deep-requires : (t : ℕ) → levels-lts.Need-is-deep-requires (given t) (levels-at t) levels.Post
 levels-is-deep-requires t c κs = search needs
 
 levels-returns : (t : ℕ) → levels-lts.Need-returns (given t) (levels-at t) levels.Post
-levels-returns t c = sym (deep-told _ _ (sym (c .before .is-deep .ensures) ∙ c .if1 .taken))
+levels-returns t c = sym (deep-tells _ _ (sym (c .before .is-deep .ensures) ∙ c .if1 .taken))
 
 levels-first-step-requires : (t : ℕ) → levels-lts.Need-first-step-requires (given t) (levels-at t) levels.Post
 levels-first-step-requires t c κs = search needs
@@ -95,16 +96,16 @@ levels-returns-2 : (t : ℕ) → levels-lts.Need-returns-2 (given t) (levels-at 
 levels-returns-2 t c =
     let f = c .before .before in
     let e = f .before in
-    sym (subst (Stepped _ _) (sym (f .first-step .ensures) ∙ c .enum-told .given .1) (step-told _ _ (sym (e .before .is-deep .ensures) ∙ e .if1 .left)))
+    sym (subst (Stepped _ _) (sym (f .first-step .ensures) ∙ c .enum-told .given .1) (step-tells _ _ (sym (e .before .is-deep .ensures) ∙ e .if1 .left)))
 
 levels-returns-3 : (t : ℕ) → levels-lts.Need-returns-3 (given t) (levels-at t) levels.Post
 levels-returns-3 t c =
     let f = c .before .before in
     let e = f .before in
-    sym (subst (Stepped _ _) (sym (f .first-step .ensures) ∙ c .enum-told2 .given .1) (step-told _ _ (sym (e .before .is-deep .ensures) ∙ e .if1 .left)))
+    sym (subst (Stepped _ _) (sym (f .first-step .ensures) ∙ c .enum-told2 .given .1) (step-tells _ _ (sym (e .before .is-deep .ensures) ∙ e .if1 .left)))
 
 levels-returns-4 : (t : ℕ) → levels-lts.Need-returns-4 (given t) (levels-at t) levels.Post
-levels-returns-4 t c = c .levels .ensures ∙ next-same _ _ _ _ (goes t (c .before .before .before .before))
+levels-returns-4 t c = c .levels .ensures ∙ next-decides _ _ _ _ (goes t (c .before .before .before .before))
 
 pub +levels-spec : {M : Type 1} → statement M
 +levels-spec = close μ-levels λ t. levels-lts.spec (given t)

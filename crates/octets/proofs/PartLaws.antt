@@ -1,0 +1,29 @@
+-- Laws of parts that go to the end of a list, as a slice `&s[a..]` is handed on, and of parts of parts. Assumes nothing.
+use mathlib.Core.Path.{_≡_, sym, ap, _∙_}
+use mathlib.Core.List.{List, [], _∷_}
+use Prim.Native.Nat.{ℕ, zero, suc, _+_, _-_, _<_}
+use native.Mathlib.Nat.{sub-zero, zero-sub, suc-sub-suc}
+use native.Mathlib.Omega.{arith}
+use lib.ListN.{length, take, drop, length-drop}
+use lib.Seq.{take-all, take-nil, drop-drop}
+use Rattle.octets.specs.Bytes.{part}
+
+-- A part from a place to the end is what remains without the bytes before.
+pub part-to-end : (s : List ℕ) (a : ℕ) → take (length s - a) (drop a s) ≡ drop a s
+part-to-end s a = take-all (length s - a) (drop a s) (omega (arith, length-drop a s))
+
+-- What is after a byte is shorter.
+pub part-shorter : (s : List ℕ) (n : ℕ) → n < length s → length (take (length s - (n + 1)) (drop (n + 1) s)) < length s
+part-shorter s n h = rw (part-to-end s (n + 1), length-drop (n + 1) s) (omega arith)
+
+-- The first n elements without the first m are the first n - m of those after the first m.
+pub drop-take : (m n : ℕ) (l : List ℕ) → drop m (take n l) ≡ take (n - m) (drop m l)
+drop-take zero n l = rw (sub-zero n)
+drop-take (suc m) zero l = rw (zero-sub (suc m))
+drop-take (suc m) (suc n) [] = sym (take-nil (suc n - suc m))
+drop-take (suc m) (suc n) (x ∷ l) = rw (suc-sub-suc n m) (drop-take m n l)
+
+-- A part without its first k bytes is the part that begins k bytes later.
+pub part-later : (s : List ℕ) (a n k : ℕ) → part s (a + k) (n - k) ≡ drop k (part s a n)
+unfolding part
+part-later s a n k = sym (drop-take k n (drop a s) ∙ ap (take (n - k)) (drop-drop k a s))

@@ -25,7 +25,7 @@ use Rattle.descriptor.specs.Keys.{modeNames, kModes, kConstraints, kReso
 use Rattle.descriptor.specs.Value.{within, countAt, textAt, wordAt, bytesAt, oneOf}
 use Rattle.descriptor.specs.Reader.{pairAt, pairsAt, pairsOf, modeAt, modesAt, GrantSeen, grantAt, Sum, moreAt, GrantsSeen, grantsAt}
 use Rattle.octets.proofs.TruthLaws.{T-true, T-false}
-use Rattle.descriptor.proofs.WordLaws.{pattern-short}
+use Rattle.resource.proofs.Laws.{pattern-short}
 
 -- ---- values
 

@@ -1,4 +1,3 @@
-pub mod WordLaws
 pub mod GrantBounds
 pub mod PayloadBounds
 pub mod ReadSteps

@@ -18,7 +18,7 @@ use Rattle.descriptor.specs.Model.{size}
 use Rattle.descriptor.specs.Value.{timeAt, textAt, wordAt, bytesAt}
 use Rattle.descriptor.specs.Reader.{pairsAt, grantsAt, Opening, openingAt, middleAt, Closing, closingAt, PayloadSeen, payloadFits, payloadAt}
 use Rattle.descriptor.specs.Answer.{optOf, flag, payloadOf}
-use Rattle.descriptor.proofs.WordLaws.{terminal-length}
+use Rattle.resource.proofs.Laws.{terminal-length}
 use Rattle.descriptor.proofs.GrantBounds.{GrantsIn, WordTo, CountTo, count-bounds, text-bounds, bytes-bounds, word-bounds, key-on, pairs-bounds, grants-bounds}
 use Rattle.cbor_item.specs.Laws.{SpanTo}
 use Rattle.exact.specs.Holds.{Holds}

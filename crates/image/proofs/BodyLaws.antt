@@ -24,7 +24,7 @@ use Rattle.cbor_item.specs.Laws.{SpanTo}
 use Rattle.cbor_item.proofs.Laws.{spans-end}
 use Rattle.descriptor.proofs.GrantBounds.{CountTo, count-bounds, WordTo, word-bounds}
 use Rattle.descriptor.proofs.ModeSteps.{mode-small}
-use Rattle.descriptor.proofs.WordLaws.{terminal-length, fay-length}
+use Rattle.resource.proofs.Laws.{terminal-length, fay-length}
 use Rattle.image.specs.Image.{reading}
 use Rattle.image.specs.Laws.{BodyIn, ReadIn}
 

@@ -18,7 +18,6 @@ use Rattle.resource.proofs.Flags.{same-eq}
 use Rattle.descriptor.specs.Model.{Grant}
 use Rattle.descriptor.specs.Reader.{hasMode, GrantSeen, grantAt, Seen, read, readOf}
 use Rattle.descriptor_laws.specs.Laws.{SeenAs, InTurn, no-more, one-more}
-use Rattle.descriptor_laws.proofs.grants.LevelLaws.{same-agree}
 use Rattle.narrowing.specs.declared.Narrowing.the-variants.{NotCovered}
 use Rattle.narrowing.specs.declared.search.Found.{Found}
 use Rattle.narrowing.specs.declared.search.Found.the-variants.{At, Nothing}
@@ -225,6 +224,5 @@ pub scan-agrees : (s t : List ℕ) (v w : Seen) → AreBytes s → AreBytes t �
 scan-agrees s t v w bs bt e f =
     let a = read-turn s v bs e .1 in
     let b = read-turn t w bt f .1 in
-    ap (λ (own : Bool). firstIn s (v .payload .opening .grants .start) (v .payload .opening .grants .count) own t 0 (w .payload .opening .grants .count) (w .payload .opening .grants .start)) (same-agree _ _)
-    ∙ first-found s _ a t _ b
+    first-found s _ a t _ b
     ∙ sym (ap₂ (λ (qs cs : List Rule). answerAt qs cs (firstRule qs cs)) (turn-rules a) (turn-rules b))

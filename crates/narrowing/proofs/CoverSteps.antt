@@ -1,10 +1,10 @@
 -- Laws of covering level by level: what the step of two first levels says of the range of numbers of names (specs/Range.antt). Assumes nothing.
 use mathlib.Core.Path.{_≡_, refl, sym, ap, _∙_}
-use mathlib.Core.Bool.{Bool, true, false, cond, _||_, and-false}
-use mathlib.Core.List.{List, [], _∷_, _++_, append-nil}
+use mathlib.Core.Bool.{Bool, true, false, cond, _&&_, _||_, and-false}
+use mathlib.Core.List.{List, [], _∷_}
 use Prim.Native.Nat.{ℕ, _+_, _-_, _<_}
 use native.Mathlib.Omega.{arith}
-use lib.ListN.{length, getD, drop, take, length-append, length-drop}
+use lib.ListN.{length, getD, drop, take, length-drop}
 use lib.Dec.{eqb}
 use borrow.Author.Tests.{ne-eqb}
 use Rattle.resource.specs.declared.Step.{Step}
@@ -13,21 +13,13 @@ use Rattle.resource.specs.Level.{same, isStar, isDeep, levels}
 use Rattle.resource.specs.Pattern.{Levels, done, deep, name, star}
 use Rattle.resource.specs.Text.{withLevel, levelsOf}
 use Rattle.resource.specs.Scan.{starFirst, stepOf}
-use Rattle.resource.proofs.Flags.{by-cond, same-eq}
-use Rattle.resource.proofs.LevelLaws.{noSlash, levels-some, levels-more}
-use Rattle.resource.proofs.ScanLaws.{parted, drop-more, part-to-end}
-use Rattle.resource.proofs.StepLaws.{Ends, at-end, at-slash, Front, front, front-of, tailLevels, tailStep, front-levels, front-star, front-step, star-none, star-two}
+use Rattle.octets.proofs.Tests.{no-flag}
+use Rattle.octets.proofs.SameLaws.{same-equal}
+use Rattle.resource.specs.Laws.{alike, Firsts, FirstLevels}
+use Rattle.resource.proofs.Laws.{first-star, spelled-first, step-levels}
+use Rattle.octets.proofs.PartLaws.{part-to-end}
 use Rattle.narrowing.specs.declared.range.Range.{Range}
 use Rattle.narrowing.specs.Range.{range, most, freshRange, coverRange, textRange}
-
--- ---- the first level of a text
-
--- the levels that a text other than "**" spells, by its first one
-front-spelled : (l : List ℕ) {a : List ℕ} → noSlash l ≡ true → Ends a → isDeep (l ++ a) ≡ false
-    → levelsOf (levels (l ++ a)) ≡ withLevel (isStar l) l (levelsOf (tailLevels a))
-unfolding levelsOf tailLevels
-front-spelled l h at-end d = rw (front-levels l h at-end, rw (append-nil l) at d, levelsOf)
-front-spelled l h (at-slash t) d = let m = levels-some t in rw (front-levels l h (at-slash t), m .2)
 
 -- ---- fresh names
 
@@ -41,15 +33,16 @@ unfolding levels levelsOf same
 fresh-deep e s d = rw (same-eq s (42 ∷ 42 ∷ []) d)
 
 -- a first level that is neither "*" nor the last and "**"
-fresh-front : (e : ℕ) {s : List ℕ} → Front s → isDeep s ≡ false → starFirst s ≡ false → freshOf e s ≡ range 0 0
-fresh-front e (front l a h f) d t = rw (front-spelled l h f d, sym (front-star l h f) ∙ t)
-
 pub fresh-name : (e : ℕ) (s : List ℕ) → isDeep s ≡ false → starFirst s ≡ false → freshOf e s ≡ range 0 0
-fresh-name e s d t = fresh-front e (front-of (parted s)) d t
+fresh-name e s d t =
+    let f = first-star s in
+    rw (f .2, spelled-first s (f .0) (f .1) (f .2) d, sym (f .3) ∙ t)
 
 -- an empty text
 pub fresh-none : (e : ℕ) (s : List ℕ) → isDeep s ≡ false → length s ≡ 0 → freshOf e s ≡ range 0 0
-fresh-none e s d h = fresh-name e s d (star-none s h)
+unfolding starFirst
+fresh-none e [] d h = fresh-name e [] d refl
+fresh-none e (b ∷ s) d h = absurd (omega arith)
 
 -- another first byte than "*"
 star-not : (s : List ℕ) → (getD s 0 0 ≡ 42 → ⊥) → starFirst s ≡ false
@@ -62,8 +55,14 @@ pub fresh-other : (e : ℕ) (s : List ℕ) → isDeep s ≡ false → (getD s 0 
 fresh-other e s d n = fresh-name e s d (star-not s n)
 
 -- another second byte than "/"
+star-second : (s : List ℕ) → (length s ≡ 1 → ⊥) → (getD s 1 0 ≡ 47 → ⊥) → starFirst s ≡ false
+unfolding starFirst
+star-second [] h n = refl
+star-second (a ∷ []) h n = absurd (h refl)
+star-second (a ∷ b ∷ s) h n = rw (ne-eqb b 47 n) (and-false (eqb a 42))
+
 pub fresh-second : (e : ℕ) (s : List ℕ) → isDeep s ≡ false → (length s ≡ 1 → ⊥) → (getD s 1 0 ≡ 47 → ⊥) → freshOf e s ≡ range 0 0
-fresh-second e s d h n = fresh-name e s d (star-two s h ∙ rw (ne-eqb (getD s 1 0) 47 n) (and-false (eqb (getD s 0 0) 42)))
+fresh-second e s d h n = fresh-name e s d (star-second s h n)
 
 -- "*" and no more
 pub fresh-last : (e : ℕ) (s : List ℕ) → getD s 0 0 ≡ 42 → length s ≡ 1 → freshOf e s ≡ range (e + 1) (e + 2)
@@ -74,8 +73,8 @@ fresh-last e (a ∷ b ∷ s) f h = absurd (omega arith)
 
 -- "*" and more levels
 star-more : (e : ℕ) (t : List ℕ) → freshOf e (42 ∷ 47 ∷ t) ≡ freshOf (e + 1) t
-unfolding levelsOf same noSlash
-star-more e t = let m = levels-some t in rw (levels-more (42 ∷ []) t refl, m .2)
+unfolding levels levelsOf same
+star-more e t = rw (first-star t .2)
 
 pub fresh-more : (e : ℕ) (s : List ℕ) → getD s 0 0 ≡ 42 → getD s 1 0 ≡ 47 → freshOf e s ≡ freshOf (e + 1) (take (length s - 2) (drop 2 s))
 fresh-more e [] f g = absurd (omega arith)
@@ -99,13 +98,6 @@ level-cover l k q p = go (isStar l) (isStar k) refl refl
     go true false e f = refl
     go false true e f = rw (same-eq k (42 ∷ []) f, e)
     go false false e f = refl
-
--- two texts that are not "**", by their first levels
-front-cover : (l k : List ℕ) {a b : List ℕ} → noSlash l ≡ true → noSlash k ≡ true → Ends a → Ends b → isDeep (l ++ a) ≡ false → isDeep (k ++ b) ≡ false
-    → textRange (l ++ a) (k ++ b) ≡ cond (isStar l || same l k) (coverRange (levelsOf (tailLevels a)) (levelsOf (tailLevels b))) (range 0 0)
-unfolding textRange
-front-cover l k {a} {b} h g e f d c =
-    rw (front-spelled l h e d, front-spelled k g f c) (level-cover l k (levelsOf (tailLevels a)) (levelsOf (tailLevels b)))
 
 -- what holds of "**", of "*" before levels and of a name before levels holds of one or more levels
 some-levels : (P : Levels → Type 0) → P deep → ((q : Levels) → P (star q)) → ((n : List ℕ) (q : Levels) → P (name n q))
@@ -144,34 +136,39 @@ Stepped q p Differ = textRange q p ≡ range 0 0
 Stepped q p Finish = textRange q p ≡ range 0 1
 Stepped q p (Next i j) = Goes q p i j
 
--- it holds where the first levels agree
-tail-told : (l k : List ℕ) {a b : List ℕ} → noSlash l ≡ true → noSlash k ≡ true → Ends a → Ends b → isDeep (l ++ a) ≡ false → isDeep (k ++ b) ≡ false
-    → (isStar l || same l k) ≡ true → Stepped (l ++ a) (k ++ b) (tailStep (length l) (length k) a b)
-unfolding tailStep tailLevels levelsOf textRange
-tail-told l k h g at-end at-end d c m = front-cover l k h g at-end at-end d c ∙ rw m
-tail-told l k h g at-end (at-slash u) d c m =
-    let s = levels-some u in
-    front-cover l k h g at-end (at-slash u) d c ∙ rw (m, s .2) (none-some (s .0) (s .1))
-tail-told l k h g (at-slash t) at-end d c m =
-    let s = levels-some t in
-    front-cover l k h g (at-slash t) at-end d c ∙ rw (m, s .2) (some-none (s .0) (s .1))
-tail-told l k h g (at-slash t) (at-slash u) d c m =
-    record {
-      in-q = omega (arith, length-append l (47 ∷ t));
-      in-p = omega (arith, length-append k (47 ∷ u));
-      decides = front-cover l k h g (at-slash t) (at-slash u) d c ∙ rw (m, drop-more l t, drop-more k u);
-      fewer = rw (drop-more l t, levels-more l t h) (omega arith);
-    }
+-- two texts that are not "**", by their first levels
+first-cover : (q p : List ℕ) (ls ks : List (List ℕ)) (t : Bool) → Firsts q p ls ks t → isDeep q ≡ false → isDeep p ≡ false
+    → textRange q p ≡ cond t (coverRange (levelsOf ls) (levelsOf ks)) (range 0 0)
+unfolding textRange
+first-cover q p ls ks t f d c =
+    rw (f .of-p, f .of-r, spelled-first q (f .first-p) ls (f .of-p) d, spelled-first p (f .first-r) ks (f .of-r) c)
+    (level-cover (f .first-p) (f .first-r) (levelsOf ls) (levelsOf ks) ∙ ap (λ (b : Bool). cond b (coverRange (levelsOf ls) (levelsOf ks)) (range 0 0)) (f .fit))
 
--- it holds of two texts by their first levels
-front-told : {q p : List ℕ} → Front q → Front p → isDeep q ≡ false → isDeep p ≡ false → Stepped q p (stepOf q p)
-front-told (front l a h e) (front k b g f) d c =
-    rw (front-step l k h g e f)
-    (by-cond (Stepped (l ++ a) (k ++ b)) (isStar l || same l k) (λ m. tail-told l k h g e f d c m) (λ m. front-cover l k h g e f d c ∙ rw m))
+-- where the first do not fit, or levels follow only one of them
+other-cover : (t : Bool) (ls ks : List (List ℕ)) → (t && alike ls ks) ≡ false → cond t (coverRange (levelsOf ls) (levelsOf ks)) (range 0 0) ≡ range 0 0
+unfolding levelsOf
+other-cover false ls ks e = refl
+other-cover true [] [] e = no-flag (sym e)
+other-cover true [] (k ∷ ks) e = none-some k ks
+other-cover true (l ∷ ls) [] e = some-none l ls
+other-cover true (l ∷ ls) (k ∷ ks) e = no-flag (sym e)
+
+-- it holds by what the step says of the levels
+cover-told : (q p : List ℕ) (x : Step) → FirstLevels q p x → isDeep q ≡ false → isDeep p ≡ false → Stepped q p x
+unfolding levelsOf textRange
+cover-told q p Differ f d c = first-cover q p (f .0) (f .1) (f .2) (f .3) d c ∙ other-cover (f .2) (f .0) (f .1) (f .4)
+cover-told q p Finish f d c = first-cover q p [] [] true f d c
+cover-told q p (Next i j) f d c =
+    record {
+      in-q = f .0;
+      in-p = f .1;
+      decides = first-cover q p (levels (drop (i + 1) q)) (levels (drop (j + 1) p)) true (f .2) d c;
+      fewer = omega (arith, ap length (f .2 .of-p));
+    }
 
 -- it holds of each two texts
 pub step-told : (q p : List ℕ) → isDeep q ≡ false → isDeep p ≡ false → Stepped q p (stepOf q p)
-step-told q p d c = front-told (front-of (parted q)) (front-of (parted p)) d c
+step-told q p d c = cover-told q p (stepOf q p) (step-levels q p) d c
 
 -- the levels after the first, as the code hands them on
 module _ (q p : List ℕ) (i j : ℕ) (g : Goes q p i j) where
@@ -189,7 +186,7 @@ some-cover = some-levels (λ q. coverRange deep q ≡ range 0 most) refl (λ q. 
 
 pub deep-told : (q p : List ℕ) → isDeep q ≡ true → textRange q p ≡ range 0 most
 unfolding textRange levels levelsOf same
-deep-told q p e = let s = levels-some p in rw (same-eq q (42 ∷ 42 ∷ []) e, s .2) (some-cover (s .0) (s .1))
+deep-told q p e = let s = first-star p in rw (same-equal q (42 ∷ 42 ∷ []) e, s .2) (some-cover (s .0) (s .1))
 
 -- "**" is covered by what matches fresh names
 level-fresh : (t : Bool) (l : List ℕ) (q : Levels) → coverRange (withLevel t l q) (levelsOf (levels (42 ∷ 42 ∷ []))) ≡ freshRange 0 (withLevel t l q)
@@ -197,10 +194,8 @@ unfolding levels levelsOf same
 level-fresh true l q = refl
 level-fresh false l q = refl
 
-front-fresh : {q : List ℕ} → Front q → (p : List ℕ) → isDeep q ≡ false → isDeep p ≡ true → textRange q p ≡ freshOf 0 q
-unfolding textRange
-front-fresh (front l a h e) p d c =
-    rw (same-eq p (42 ∷ 42 ∷ []) c, front-spelled l h e d) (level-fresh (isStar l) l (levelsOf (tailLevels a)))
-
 pub fresh-told : (q p : List ℕ) → isDeep q ≡ false → isDeep p ≡ true → textRange q p ≡ freshOf 0 q
-fresh-told q p d c = front-fresh (front-of (parted q)) p d c
+unfolding textRange
+fresh-told q p d c =
+    let f = first-star q in
+    rw (same-equal p (42 ∷ 42 ∷ []) c, f .2, spelled-first q (f .0) (f .1) (f .2) d) (level-fresh (isStar (f .0)) (f .0) (levelsOf (f .1)))

@@ -21,7 +21,7 @@ use Rattle.descriptor.specs.Answer.{fieldsOf, readingOf}
 use Rattle.descriptor.specs.Numbers.{numbersOf, numberOf}
 use Rattle.descriptor_laws.specs.Promises.{DescriptorHanded}
 use Rattle.descriptor_laws.proofs.Promises.{answered-exactly, hands-back}
-use Rattle.descriptor.proofs.WordLaws.{terminal-length}
+use Rattle.resource.proofs.Laws.{terminal-length}
 use Rattle.descriptor.proofs.ValueSteps.{lent-levels}
 use Rattle.narrowing.specs.declared.Narrowing.{Narrowing}
 use Rattle.narrowing.specs.declared.Narrowing.the-variants.{Accepted, NoParent, Structure, Validity, Constrained, Period, NotCovered}

@@ -18,9 +18,8 @@ use Rattle.resource.proofs.Promises.{patterns-exact, patterns-once}
 use Rattle.descriptor.specs.Model.{Grant}
 use Rattle.descriptor.specs.Reader.{hasMode, GrantSeen, grantAt}
 use Rattle.descriptor.specs.View.{maskOf}
-use Rattle.descriptor.proofs.WordLaws.{terminal-length, pattern-short}
+use Rattle.resource.proofs.Laws.{terminal-length, pattern-short, pattern-levels}
 use Rattle.descriptor_laws.specs.Laws.{SeenAs, InTurn, no-more, one-more}
-use Rattle.descriptor_laws.proofs.Laws.{terminal-first}
 use Rattle.narrowing.specs.declared.range.Range.{Range}
 use Rattle.narrowing.specs.Escape.{patternCovers, covered, canTake, deepest}
 use Rattle.narrowing.specs.Range.{inRange, most, textRange, marked}

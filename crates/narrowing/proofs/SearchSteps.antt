@@ -13,7 +13,6 @@ use borrow.Author.Tests.{not-true, not-false}
 use Rattle.octets.specs.Bytes.{part, same}
 use Rattle.exact.specs.Reads.{got, refused}
 use Rattle.descriptor.specs.Reader.{hasMode, GrantSeen, grantAt}
-use Rattle.octets.proofs.SameLaws.{same-last}
 use Rattle.narrowing.specs.declared.search.Found.the-variants.{At, Nothing}
 use Rattle.narrowing.specs.Escape.{least, orElse}
 use Rattle.narrowing.specs.Range.{textRange, marked}
@@ -94,15 +93,6 @@ module _ (d : List ℕ) (mask from to m : ℕ) where
   pub lowest-end : 4 ≤ m → lowestFrom d mask from to m (4 - m) ≡ Nothing
   unfolding lowestFrom
   lowest-end h = let n : 4 - m ≡ 0 = omega arith in rw (n, lowestFrom)
-
--- ---- two parts
-
--- two parts are equal for one byte more
-pub same-parts : (s t : List ℕ) (a b i : ℕ) → a + i < length s → b + i < length t
-    → same (part s a (i + 1)) (part t b (i + 1)) ≡ (same (part s a i) (part t b i) && eqb (getD s (a + i) 0) (getD t (b + i) 0))
-unfolding part
-same-parts s t a b i h k =
-    rw (← getD-drop a s i 0, ← getD-drop b t i 0) (same-last (drop a s) (drop b t) i (omega (arith, length-drop a s)) (omega (arith, length-drop b t)))
 
 -- ---- noting
 

@@ -8,7 +8,6 @@ use descriptor::Reading;
 ghost use mathlib.Core.Path.{_≡_};
 ghost use Prim.Native.Nat.{_+_, _≤_};
 ghost use lib.ListN.{length};
-ghost use Rattle.octets.specs.Bytes.{part, same};
 ghost use Rattle.narrowing.specs.Narrow.{narrow as narrowed};
 ghost use Rattle.narrowing.specs.Scan.{comparedIn};
 
@@ -33,20 +32,6 @@ pub struct NarrowingNumbers {
     pub levels: u64,
 }
 
-// Whether the terminal ids at a of s and at b of t are equal.
-fn same_terminal(s: &[u8], a: usize, t: &[u8], b: usize) -> bool
-    requires { ⌜ (a + 45 ≤ length (now s)) × (b + 45 ≤ length (now t)) ⌝ }
-    ensures { λ o. ⌜ o ≡ same (part (now (s .entry)) a 45) (part (now (t .entry)) b 45) ⌝ }
-{
-    let mut ok = true;
-    let mut i = 0;
-    while i < 45 {
-        ok = ok & (s[a + i] == t[b + i]);
-        i += 1;
-    }
-    ok
-}
-
 // Both read: 19, then 18, then 20, else 0.
 fn compared(s: &[u8], v: Fields, t: &[u8], w: Fields) -> Narrowing
     requires { ⌜ (v .terminal + 45 ≤ length (now s)) × (w .terminal + 45 ≤ length (now t)) × (v .grants ≤ 256) ⌝ }
@@ -64,7 +49,7 @@ fn compared(s: &[u8], v: Fields, t: &[u8], w: Fields) -> Narrowing
     if v.after < w.after {
         return Narrowing::Period;
     }
-    let own = same_terminal(s, v.terminal, t, w.terminal);
+    let own = octets::same_start(&s[v.terminal..], &t[w.terminal..], 45);
     let mut table = [0usize; 768];
     let rows = search::fill(s, v.first, v.grants, &mut table);
     search::first(s, &table, rows, own, t, w.first, w.grants)

@@ -1,8 +1,9 @@
 // For which numbers of names one pattern's levels cover another's.
 use resource::Step;
+use resource::is_deep;
 ghost use mathlib.Core.Path.{_≡_};
 ghost use Prim.Native.Nat.{_<_};
-ghost use Rattle.resource.specs.Level.{levels, isDeep};
+ghost use Rattle.resource.specs.Level.{levels};
 ghost use Rattle.resource.specs.Text.{levelsOf};
 ghost use Rattle.narrowing.specs.Range.{freshRange, textRange, marked};
 
@@ -10,16 +11,6 @@ ghost use Rattle.narrowing.specs.Range.{freshRange, textRange, marked};
 pub(crate) struct Range {
     pub(crate) lo: usize,
     pub(crate) hi: usize,
-}
-
-// Whether p is "**".
-pub(crate) fn is_deep(p: &[u8]) -> bool
-    ensures { λ o. ⌜ o ≡ isDeep (now (p .entry)) ⌝ }
-{
-    if p.len() != 2 {
-        return false;
-    }
-    (p[0] == b'*') & (p[1] == b'*')
 }
 
 // How many names that q does not have q matches: only "*" and "**" do.

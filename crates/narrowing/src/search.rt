@@ -1,9 +1,9 @@
 // The first grant of a child by which a path escapes, the lowest mode, and the fewest names.
 use crate::Narrowing;
 use crate::range::cover;
-use crate::range::is_deep;
 use crate::range::mark;
 use descriptor::GrantRead;
+use resource::is_deep;
 ghost use mathlib.Core.Path.{_≡_};
 ghost use mathlib.Core.Bool.{not};
 ghost use Prim.Native.Nat.{_+_, _*_, _-_, _≤_, _<_};

@@ -1,12 +1,15 @@
 -- Laws of parts that go to the end of a list, as a slice `&s[a..]` is handed on, and of parts of parts. Assumes nothing.
 use mathlib.Core.Path.{_≡_, sym, ap, _∙_}
+use mathlib.Core.Bool.{Bool, _&&_}
 use mathlib.Core.List.{List, [], _∷_}
-use Prim.Native.Nat.{ℕ, zero, suc, _+_, _-_, _<_}
+use Prim.Native.Nat.{ℕ, zero, suc, _+_, _-_, _≤_, _<_}
 use native.Mathlib.Nat.{sub-zero, zero-sub, suc-sub-suc}
 use native.Mathlib.Omega.{arith}
 use lib.ListN.{length, take, drop, length-drop}
 use lib.Seq.{take-all, take-nil, drop-drop}
-use Rattle.octets.specs.Bytes.{part}
+use lib.Dec.{leb}
+use Rattle.octets.specs.Bytes.{part, same}
+use Rattle.octets.proofs.SameLaws.{start-answer}
 
 -- A part from a place to the end is what remains without the bytes before.
 pub part-to-end : (s : List ℕ) (a : ℕ) → take (length s - a) (drop a s) ≡ drop a s
@@ -27,3 +30,13 @@ drop-take (suc m) (suc n) (x ∷ l) = rw (suc-sub-suc n m) (drop-take m n l)
 pub part-later : (s : List ℕ) (a n k : ℕ) → part s (a + k) (n - k) ≡ drop k (part s a n)
 unfolding part
 part-later s a n k = sym (drop-take k n (drop a s) ∙ ap (take (n - k)) (drop-drop k a s))
+
+-- The answer of `same_start` to two slices that go to the end says whether the parts at their places are the same.
+pub start-parts : (s t : List ℕ) (a b n : ℕ) {r : Bool} → a + n ≤ length s → b + n ≤ length t
+    → r
+    ≡ (leb n (length (take (length s - a) (drop a s)))
+    && (leb n (length (take (length t - b) (drop b t))) && same (take n (take (length s - a) (drop a s))) (take n (take (length t - b) (drop b t)))))
+    → r ≡ same (part s a n) (part t b n)
+unfolding part
+start-parts s t a b n h k e =
+    start-answer (drop a s) (drop b t) n (omega (arith, length-drop a s)) (omega (arith, length-drop b t)) (rw (part-to-end s a, part-to-end t b) at e)

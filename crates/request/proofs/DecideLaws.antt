@@ -6,7 +6,7 @@ use Prim.Native.Nat.{ℕ, _+_, _-_, min}
 use lib.ListN.{length, take, drop}
 use borrow.Author.Tests.{eq-eqb, ne-eqb}
 use Rattle.octets.specs.Bytes.{part, same}
-use Rattle.resource.proofs.ScanLaws.{part-to-end}
+use Rattle.octets.proofs.PartLaws.{part-to-end}
 use Rattle.descriptor.specs.declared.Fields.{Fields}
 use Rattle.steps.specs.declared.Window.{Window}
 use Rattle.steps.specs.Order.{step, orElse, inOrder}

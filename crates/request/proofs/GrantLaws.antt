@@ -15,14 +15,13 @@ use Rattle.descriptor.specs.Reader.{hasMode, GrantSeen, grantAt}
 use Rattle.descriptor.specs.View.{maskOf, descriptorView}
 use Rattle.descriptor.specs.Answer.{fieldsOf}
 use Rattle.descriptor_laws.specs.Laws.{SeenAs, InTurn, no-more, one-more}
-use Rattle.descriptor_laws.proofs.grants.LevelLaws.{same-agree}
 use Rattle.descriptor_laws.proofs.Laws.{seen-handed, mask-exactly, grants-in-turn}
 use Rattle.request.specs.declared.search.Matched.{Matched}
 use Rattle.request.specs.declared.search.Matched.the-variants.{Nothing}
 use Rattle.request.specs.Decision.{serves, orNext, firstFrom, matchedOn}
 use Rattle.request.specs.Meaning.{firstServing}
 use Rattle.request.specs.Promises.{grantServes}
-use Rattle.request.proofs.MatchLaws.{admits-text}
+use Rattle.resource.proofs.Laws.{admits-text}
 
 -- ---- one grant
 

@@ -4,7 +4,6 @@ pub mod DecideLaws
 pub mod FitLaws
 pub mod ListedLaws
 pub mod HeldLaws
-pub mod MatchLaws
 pub mod GrantLaws
 pub mod MeaningLaws
 pub mod ServingLaws

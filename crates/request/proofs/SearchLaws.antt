@@ -14,7 +14,8 @@ use Rattle.resource.specs.declared.Step.the-variants.{Differ}
 use Rattle.resource.specs.Level.{isDeep}
 use Rattle.resource.specs.Scan.{stepOf}
 use Rattle.resource.specs.Text.{levelsMatch}
-use Rattle.resource.proofs.StepLaws.{Stepped, step-told}
+use Rattle.resource.specs.Laws.{Stepped}
+use Rattle.resource.proofs.Laws.{step-told}
 use Rattle.descriptor.specs.Reader.{hasMode, GrantSeen, grantAt}
 use Rattle.descriptor.proofs.ValueSteps.{lent-levels}
 use Rattle.request.specs.declared.search.Matched.the-variants.{IsAt, Nothing}

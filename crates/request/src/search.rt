@@ -4,7 +4,6 @@ use descriptor::GrantRead;
 use resource::Step;
 ghost use mathlib.Core.Path.{_≡_};
 ghost use Prim.Native.Nat.{_≤_};
-ghost use Rattle.resource.specs.Level.{isDeep as deep};
 ghost use Rattle.request.specs.Decision.{firstFrom};
 ghost use Rattle.request.specs.Stages.{eligible};
 
@@ -30,16 +29,6 @@ fn is_eligible(mask: u64, pairs: u64, mode: u64) -> bool
     }
 }
 
-// Whether p is "**".
-fn is_deep(p: &[u8]) -> bool
-    ensures { λ o. ⌜ o ≡ deep (now (p .entry)) ⌝ }
-{
-    if p.len() != 2 {
-        return false;
-    }
-    (p[0] == b'*') & (p[1] == b'*')
-}
-
 // The first of the `count` grants from `first` on that serves: for each, its levels are compared with those of the resource, r.
 pub(crate) fn first_grant(s: &[u8], first: usize, count: u64, mode: u64, r: &[u8]) -> Matched
     requires { ⌜ mode ≤ 3 ⌝ }
@@ -60,7 +49,7 @@ pub(crate) fn first_grant(s: &[u8], first: usize, count: u64, mode: u64, r: &[u8
             let mut p = &s[start + 46..end];
             let mut q = r;
             'levels: loop {
-                if is_deep(p) {
+                if resource::is_deep(p) {
                     break 'grants Matched::IsAt {
                         grant: i,
                         mask: fields.mask,

@@ -25,7 +25,7 @@ use Rattle.descriptor_laws.proofs.values.OptionLaws.{size-small, size-v
 use Rattle.descriptor_laws.proofs.values.ValueLaws.{count-exact, word-exact}
 use Rattle.descriptor_laws.proofs.values.PairLaws.{pairs-exact}
 use Rattle.descriptor_laws.proofs.values.ModeLaws.{modes-exact}
-use Rattle.descriptor.proofs.WordLaws.{pattern-short}
+use Rattle.resource.proofs.Laws.{pattern-short}
 
 -- the test of a map's number of keys
 keys-test : {X R : Type 0} (c k : ℕ) (f : X → R) (x : Option X) → T (eqb c (k + size (viewOpt f x))) ↔ (c ≡ k + size x)

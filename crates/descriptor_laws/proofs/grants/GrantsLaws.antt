@@ -18,7 +18,7 @@ use Rattle.descriptor.specs.Reader.{Sum, addGrant, moreAt, grantsAt}
 use Rattle.descriptor.specs.View.{grantView, sumFrom, grantsRest, grantsView}
 use Rattle.octets.proofs.TruthLaws.{same-test}
 use Rattle.descriptor_laws.proofs.values.ValueLaws.{count-exact}
-use Rattle.descriptor.proofs.WordLaws.{pattern-short}
+use Rattle.resource.proofs.Laws.{pattern-short}
 use Rattle.descriptor_laws.proofs.grants.GrantLaws.{grant-exact}
 
 -- ---- what is allowed

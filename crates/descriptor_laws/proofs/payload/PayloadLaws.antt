@@ -18,7 +18,7 @@ use Rattle.descriptor.specs.Reader.{PayloadSeen, payloadFits, payloadAt}
 use Rattle.descriptor.specs.View.{keysOf, payloadView}
 use Rattle.octets.proofs.TruthLaws.{eqb-test, leb-test, ltb-test, same-test, and-test}
 use Rattle.descriptor_laws.proofs.values.OptionLaws.{size-small, size-view}
-use Rattle.descriptor.proofs.WordLaws.{terminal-length}
+use Rattle.resource.proofs.Laws.{terminal-length}
 use Rattle.descriptor_laws.proofs.grants.GrantsLaws.{owner, first-at, together-own, own-together}
 use Rattle.descriptor_laws.proofs.payload.PieceLaws.{Front, FrontOk, encFront, frontView, Centre, encCentre, centreView, Back, BackOk, encBack, backView, opening-exact, middle-exact, closing-exact}
 

@@ -23,7 +23,7 @@ use Rattle.descriptor.specs.View.{encOpening, encMiddle, openingView, middleVie
 use Rattle.descriptor_laws.proofs.values.OptionLaws.{place-view}
 use Rattle.descriptor_laws.proofs.values.ValueLaws.{count-exact, text-exact, word-exact, bytes-exact}
 use Rattle.descriptor_laws.proofs.values.PairLaws.{pairs-exact}
-use Rattle.descriptor.proofs.WordLaws.{terminal-length, fay-length}
+use Rattle.resource.proofs.Laws.{terminal-length, fay-length}
 use Rattle.descriptor_laws.proofs.grants.GrantsLaws.{GrantsOk, grants-exact}
 
 -- a time is read exactly

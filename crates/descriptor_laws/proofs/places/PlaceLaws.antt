@@ -11,7 +11,7 @@ use Rattle.descriptor.specs.Model.{Payload, Descriptor, encBytes, encText, enco
 use Rattle.descriptor.specs.Allowed.{Formed}
 use Rattle.descriptor.specs.Reader.{beforePayload}
 use Rattle.descriptor.specs.View.{encOpening, encMiddle, keysOf, descriptorView}
-use Rattle.descriptor.proofs.WordLaws.{terminal-length, fay-length}
+use Rattle.resource.proofs.Laws.{terminal-length, fay-length}
 use Rattle.descriptor_laws.proofs.payload.PayloadLaws.{pieces-encode}
 use Rattle.descriptor_laws.proofs.places.SeenLaws.{payload-here}
 

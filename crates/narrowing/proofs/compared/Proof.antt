@@ -23,8 +23,26 @@ returns-4 c =
     let b = d .before .before .before in
     ends-late _ _ _ _ (b .before .before .if1 .left) (b .if2 .left) (d .if3 .left) (c .if4 .taken)
 
-same-terminal-requires : tie.Need-same-terminal-requires
-same-terminal-requires c κs = search needs
+sub-same-start : tie.Need-sub-same-start
+sub-same-start c = search needs
+
+part-same-start-start : tie.Need-part-same-start-start
+part-same-start-start c = search needs
+
+part-same-start-end : tie.Need-part-same-start-end
+part-same-start-end c = search needs
+
+sub-same-start-2 : tie.Need-sub-same-start-2
+sub-same-start-2 c = search needs
+
+part-same-start-start-2 : tie.Need-part-same-start-start-2
+part-same-start-start-2 c = search needs
+
+part-same-start-end-2 : tie.Need-part-same-start-end-2
+part-same-start-end-2 c = search needs
+
+same-start-requires : tie.Need-same-start-requires
+same-start-requires c κs = search needs
 
 slice-aggregate-fill : tie.Need-slice-aggregate-fill
 slice-aggregate-fill c = search needs

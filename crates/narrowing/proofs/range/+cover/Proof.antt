@@ -14,7 +14,7 @@ use Rattle.narrowing.proofs.range.cover.Reads as cover
 use Rattle.narrowing.proofs.range.cover.Kinds as cover-kinds
 use Rattle.narrowing.proofs.range.+cover.Lts-cover as cover-lts
 use Rattle.narrowing.proofs.range.fresh.Reads as fresh-reads
-use Rattle.narrowing.proofs.range.is_deep.Reads as is-deep-reads
+use Rattle.resource.proofs.is_deep.Reads as is-deep-reads
 use Rattle.narrowing.proofs.range.+cover.{statement}
 use Rattle.narrowing.proofs.range.+cover.Tie.{close}
 

@@ -4,7 +4,7 @@ use native.Mathlib.Omega.{arith}
 use lib.Seq.{length-take-le}
 use borrow.Author.Tests.{not-true, not-false}
 use borrow.Author.Needs.{needs}
-use Rattle.resource.proofs.TextLaws.{resource-begins}
+use Rattle.resource.proofs.Laws.{resource-short}
 use Rattle.request.proofs.DecideLaws.{matched-other, matched-first}
 use Rattle.request.proofs.decide.match_grant.Statement.{statement}
 use Rattle.request.proofs.decide.match_grant.Tie as tie
@@ -24,7 +24,7 @@ part-same-bytes-end c = search needs
 slice-aggregate-same-bytes : tie.Need-slice-aggregate-same-bytes
 slice-aggregate-same-bytes c =
     let s = c .before .before .before .before in
-    sym (length-take-le 45 (s .args .resource .now) (omega (arith, resource-begins _ (s .pre .0) .long)))
+    sym (length-take-le 45 (s .args .resource .now) (omega (arith, resource-short _ (s .pre .0) .0)))
 
 same-bytes-requires : tie.Need-same-bytes-requires
 same-bytes-requires c κs = search needs
@@ -33,10 +33,10 @@ returns : tie.Need-returns
 returns c = matched-other _ _ _ _ (c .before .same-bytes .ensures) (not-true _ (c .if1 .taken))
 
 sub-first-grant : tie.Need-sub-first-grant
-sub-first-grant c = omega (arith, resource-begins _ (c .before .before .before .before .before .before .pre .0) .long)
+sub-first-grant c = omega (arith, resource-short _ (c .before .before .before .before .before .before .pre .0) .0)
 
 part-first-grant-start : tie.Need-part-first-grant-start
-part-first-grant-start c = omega (arith, resource-begins _ (c .before .before .before .before .before .before .pre .0) .long)
+part-first-grant-start c = omega (arith, resource-short _ (c .before .before .before .before .before .before .pre .0) .0)
 
 part-first-grant-end : tie.Need-part-first-grant-end
 part-first-grant-end c = search needs

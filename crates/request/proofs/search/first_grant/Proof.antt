@@ -8,8 +8,9 @@ use native.Mathlib.Omega.{arith}
 use lib.ListN.{length}
 use borrow.Author.Needs.{needs}
 use Rattle.resource.specs.Text.{levelsMatch}
-use Rattle.resource.proofs.ScanLaws.{part-shorter}
-use Rattle.resource.proofs.StepLaws.{Goes, Stepped, step-told, deep-told, next-same}
+use Rattle.octets.proofs.PartLaws.{part-shorter}
+use Rattle.resource.specs.Laws.{Goes, Stepped}
+use Rattle.resource.proofs.Laws.{step-told, deep-told, next-same}
 use Rattle.descriptor.specs.declared.GrantRead.the-variants.{IsGrant}
 use Rattle.descriptor.specs.Answer.{grantRead}
 use Rattle.descriptor.specs.Reader.{grantAt}

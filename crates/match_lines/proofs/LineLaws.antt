@@ -15,54 +15,14 @@ use Rattle.match_lines.specs.declared.Verdict.{Verdict}
 use Rattle.match_lines.specs.declared.Verdict.the-variants.{IsYes, IsNo, IsBad}
 use Rattle.match_lines.specs.declared.Progress.{Progress}
 use Rattle.match_lines.specs.declared.Progress.the-variants.{Done, NoRoom}
+use Rattle.octets.specs.Scan.{bytesBefore}
+use Rattle.octets.specs.Write.{over}
 use Rattle.match_lines.specs.Lines.{longestLine, word, verdictOf, beforeSpace, verdictAt, verdict, lastLine}
-use Rattle.match_lines.specs.Block.{Fed, verdictIf, keptOf, after, fedFrom, fed, ended, over, lineLength, endOf, progressOf, outputOf, bufferOf, endProgress, endOutput}
-use Rattle.match_lines.proofs.OverLaws.{over-nil, over-append}
+use Rattle.match_lines.specs.Block.{Fed, verdictIf, keptOf, after, fedFrom, fed, ended, lineLength, endOf, progressOf, outputOf, bufferOf, endProgress, endOutput}
+use Rattle.octets.proofs.PartLaws.{part-to-end}
+use Rattle.octets.proofs.OverLaws.{over-nil, over-append}
+use Rattle.octets.proofs.ScanLaws.{before-this, before-other, before-le}
 use Rattle.match_lines.proofs.BlockLaws.{fed-newline, fed-byte, fed-ends, kept-out, word-le}
-
--- ---- the bytes before the first space, from an index on
-
--- another byte at i
-pub space-next : (s : List ℕ) (i : ℕ) → i < length s → (getD s i 0 ≡ 32 → ⊥) → beforeSpace (drop i s) ≡ suc (beforeSpace (drop (i + 1) s))
-unfolding beforeSpace
-space-next s i h e = rw (add-one, drop-cons s i 0 h, ne-eqb (getD s i 0) 32 e, beforeSpace)
-
--- a space at i
-pub space-stop : (s : List ℕ) (i : ℕ) → i < length s → getD s i 0 ≡ 32 → beforeSpace (drop i s) ≡ 0
-unfolding beforeSpace
-space-stop s i h e = rw (drop-cons s i 0 h, eq-eqb (getD s i 0) 32 e, beforeSpace)
-
--- the end at i
-pub space-end : (s : List ℕ) (i : ℕ) → length s ≤ i → beforeSpace (drop i s) ≡ 0
-unfolding beforeSpace
-space-end s i h = rw (drop-of-length-le s h)
-
--- ---- the bytes before the first newline, from an index on
-
--- another byte at i
-pub line-next : (s : List ℕ) (i : ℕ) → i < length s → (getD s i 0 ≡ 10 → ⊥) → lineLength (drop i s) ≡ suc (lineLength (drop (i + 1) s))
-unfolding lineLength
-line-next s i h e = rw (add-one, drop-cons s i 0 h, ne-eqb (getD s i 0) 10 e, lineLength)
-
--- a newline at i
-pub line-stop : (s : List ℕ) (i : ℕ) → i < length s → getD s i 0 ≡ 10 → lineLength (drop i s) ≡ 0
-unfolding lineLength
-line-stop s i h e = rw (drop-cons s i 0 h, eq-eqb (getD s i 0) 10 e, lineLength)
-
--- the end at i
-pub line-end : (s : List ℕ) (i : ℕ) → length s ≤ i → lineLength (drop i s) ≡ 0
-unfolding lineLength
-line-end s i h = rw (drop-of-length-le s h)
-
--- a line is within the bytes
-line-le : (s : List ℕ) → lineLength s ≤ length s
-unfolding lineLength
-line-le [] = omega arith
-line-le (b ∷ bs) = go (eqb b 10) (line-le bs)
-  where
-    go : (t : Bool) → lineLength bs ≤ length bs → elim t [ true ↦ 0 | false ↦ suc (lineLength bs) ] ≤ suc (length bs)
-    go true h = omega arith
-    go false h = omega arith
 
 -- ---- the verdict on a line, by the code's tests
 
@@ -77,7 +37,7 @@ pub verdict-parted : (line : List ℕ) (n : ℕ) (m : Matching) → n < length l
 unfolding verdictAt
 verdict-parted line n m h e =
     let rest : take (length line - (n + 1)) (drop (n + 1) line) ≡ drop (suc n) line =
-    take-all (length line - (n + 1)) (drop (n + 1) line) (omega (arith, length-drop (n + 1) line)) ∙ ap (λ (k : ℕ). drop k line) (add-one n) in
+    part-to-end line (n + 1) ∙ ap (λ (k : ℕ). drop k line) (add-one n) in
     rw (lt-leb (length line) n h, e, rest)
 
 -- a line that is not too long
@@ -135,7 +95,7 @@ end-done long s from at =
 -- a line that ends in the block
 fed-line : (long : Bool) (begun s : List ℕ) → lineLength s < length s
     → fedFrom long begun s ≡ after (word (verdictIf long (begun ++ take (lineLength s) s))) (fedFrom false [] (drop (suc (lineLength s)) s))
-unfolding lineLength fedFrom
+unfolding bytesBefore fedFrom
 fed-line long begun [] h = absurd (omega arith)
 fed-line long begun (b ∷ bs) h = go (eqb b 10) refl (fed-line long (begun ++ (b ∷ [])) bs)
   where
@@ -145,22 +105,22 @@ fed-line long begun (b ∷ bs) h = go (eqb b 10) refl (fed-line long (begun ++ (
         ≡ after (word (verdictIf long ((begun ++ (b ∷ [])) ++ take (lineLength bs) bs))) (fedFrom false [] (drop (suc (lineLength bs)) bs)))
         → fedFrom long begun (b ∷ bs)
         ≡ after (word (verdictIf long (begun ++ take (lineLength (b ∷ bs)) (b ∷ bs)))) (fedFrom false [] (drop (suc (lineLength (b ∷ bs))) (b ∷ bs)))
-    go true e f = rw (e, fedFrom, lineLength, append-nil begun)
+    go true e f = rw (e, fedFrom, bytesBefore, append-nil begun)
     go false e f =
-        let k : lineLength (b ∷ bs) ≡ suc (lineLength bs) = rw (e, lineLength) in
+        let k : lineLength (b ∷ bs) ≡ suc (lineLength bs) = before-other 10 b bs e in
         rw (k, e, fedFrom) (f (omega arith) ∙ rw (append-snoc begun b (take (lineLength bs) bs)))
 
 -- a line that does not
 fed-begun : (long : Bool) (begun s : List ℕ) → lineLength s ≡ length s → fedFrom long begun s ≡ keptOf long (begun ++ s)
-unfolding lineLength fedFrom
+unfolding bytesBefore fedFrom
 fed-begun long begun [] h = rw (append-nil begun)
 fed-begun long begun (b ∷ bs) h = go (eqb b 10) refl (fed-begun long (begun ++ (b ∷ [])) bs)
   where
     go : (t : Bool) → eqb b 10 ≡ t → (lineLength bs ≡ length bs → fedFrom long (begun ++ (b ∷ [])) bs ≡ keptOf long ((begun ++ (b ∷ [])) ++ bs))
         → fedFrom long begun (b ∷ bs) ≡ keptOf long (begun ++ (b ∷ bs))
-    go true e f = let k : lineLength (b ∷ bs) ≡ 0 = rw (e, lineLength) in absurd (omega arith)
+    go true e f = let k : lineLength (b ∷ bs) ≡ 0 = before-this 10 b bs e in absurd (omega arith)
     go false e f =
-        let k : lineLength (b ∷ bs) ≡ suc (lineLength bs) = rw (e, lineLength) in
+        let k : lineLength (b ∷ bs) ≡ suc (lineLength bs) = before-other 10 b bs e in
         rw (e, fedFrom) (f (omega arith) ∙ rw (append-snoc begun b bs))
 
 -- ---- the loop of `answers`
@@ -187,11 +147,11 @@ module _ (long : Bool) (s out₀ out : List ℕ) (from at : ℕ) (too-long : Boo
       let rest : drop (suc k) (drop from s) ≡ drop (stop + 1) s = drop-drop (suc k) from s ∙ ap (λ (i : ℕ). drop i s) past in
       let g : Fed = fedFrom false [] (drop (stop + 1) s) in
       let turn : fedFrom too-long [] (drop from s) ≡ after (word v) g =
-      fed-line too-long [] (drop from s) (omega (arith, line-le (drop from s), length-drop from s)) ∙ rw (f, size, rest) in
+      fed-line too-long [] (drop from s) (omega (arith, before-le 10 (drop from s), length-drop from s)) ∙ rw (f, size, rest) in
       let sum : at + length (word v ++ g .out) ≡ (at + length (word v)) + length (g .out) = omega (arith, length-append (word v) (g .out)) in
       rw (placed, written) (record {
         answer = l .answer ∙ ap (done at) turn ∙ ap (λ (i : ℕ). Done i (length (g .kept)) (g .long)) sum;
-        output = l .output ∙ ap (λ (x : Fed). over out at (x .out)) turn ∙ over-append out at (word v) (g .out) (omega (arith, word-le v));
+        output = l .output ∙ ap (λ (x : Fed). over out at (x .out)) turn ∙ sym (over-append out at (word v) (g .out) (omega (arith, word-le v)));
       })
 
   -- a line that does not: the block is answered

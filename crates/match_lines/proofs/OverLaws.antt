@@ -1,33 +1,12 @@
--- Laws of bytes written over a list, and of the loop that moves bytes down. Assumes nothing.
+-- Laws of three and four bytes written one by one, and of the loop that moves bytes down. Assumes nothing.
 use mathlib.Core.Path.{_≡_, sym, ap, _∙_}
-use mathlib.Core.List.{List, [], _∷_, _++_, append-assoc}
+use mathlib.Core.List.{List, [], _∷_, append-assoc}
 use Prim.Native.Nat.{ℕ, suc, _+_, _≤_, _<_}
 use native.Mathlib.Numerals.{add-one}
-use native.Mathlib.Nat.{add-zero}
 use native.Mathlib.Omega.{arith}
-use lib.ListN.{length, take, drop, getD, set, length-append, length-take, length-drop, take-append-drop}
-use lib.Seq.{take-at, drop-at, drop-drop, getD-drop, sets-eq, length-take-le, paste, paste-zero, paste-suc, drop-paste}
-use Rattle.match_lines.specs.Block.{over}
-
--- nothing written changes nothing
-pub over-nil : (d : List ℕ) (at : ℕ) → over d at [] ≡ d
-unfolding over
-over-nil d at = rw add-zero (take-append-drop at d)
-
--- one write after another is the write of both
-pub over-append : (d : List ℕ) (at : ℕ) (s t : List ℕ) → at + length s ≤ length d → over d at (s ++ t) ≡ over (over d at s) (at + length s) t
-unfolding over
-over-append d at s t h =
-    let n : ℕ = at + length s in
-    let front : List ℕ = take at d ++ s in
-    let whole : take at d ++ (s ++ drop n d) ≡ front ++ drop n d = sym (append-assoc (take at d) s (drop n d)) in
-    let long : length front ≡ n = simp (length-append, length-take) (omega arith) in
-    let before : take n (take at d ++ (s ++ drop n d)) ≡ front = ap (take n) whole ∙ take-at front (drop n d) n long in
-    let past : drop n (take at d ++ (s ++ drop n d)) ≡ drop n d = ap (drop n) whole ∙ drop-at front (drop n d) n long in
-    let behind : drop (n + length t) (take at d ++ (s ++ drop n d)) ≡ drop (n + length t) d =
-    sym (drop-drop (length t) n (take at d ++ (s ++ drop n d))) ∙ ap (drop (length t)) past ∙ drop-drop (length t) n d in
-    let sum : at + length (s ++ t) ≡ n + length t = omega (arith, length-append s t) in
-    rw (before, behind, sum) (simp append-assoc)
+use lib.ListN.{length, take, drop, getD, set, length-drop}
+use lib.Seq.{getD-drop, sets-eq, length-take-le, paste, paste-zero, paste-suc, drop-paste}
+use Rattle.octets.specs.Write.{over}
 
 -- three stores one after the other
 pub over-three : (d : List ℕ) (at a b c : ℕ) → at + 3 ≤ length d → set (set (set d at a) (at + 1) b) (at + 2) c ≡ over d at (a ∷ b ∷ c ∷ [])

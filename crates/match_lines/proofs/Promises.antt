@@ -4,9 +4,10 @@ use mathlib.Core.Bool.{true, false}
 use mathlib.Core.List.{[]}
 use Rattle.resource.specs.Identifier.{isHex, hasForm, uuidForm, terminalForm, isTerminal}
 use Rattle.octets.specs.Bytes.{same}
+use Rattle.octets.specs.Scan.{bytesBefore}
 use Rattle.resource.specs.Level.{isNameChar, allNameChars, levels, levelsOk}
 use Rattle.resource.specs.Text.{isResource, isPattern, resourceOk, patternOk, levelsOf, pathOf, patternOf, matching}
-use Rattle.match_lines.specs.Lines.{word, beforeSpace, verdictAt, verdict, answersFrom}
+use Rattle.match_lines.specs.Lines.{word, verdictAt, verdict, answersFrom}
 use Rattle.match_lines.specs.Promises.{YesExactly, NoExactly, BadElse, LongBad, EachLine, LastLine, EmptyInput, WholeCase, BlocksAgree, KeptLast, OutFits, BlockWritten, BlockKept, BlockRefused, EndWritten, EndRefused}
 use Rattle.match_lines.proofs.BlockLaws.{blocks-answers, bad-long, kept-end, out-four}
 use Rattle.match_lines.proofs.VerdictLaws as verdicts
@@ -39,7 +40,7 @@ unfolding answersFrom
 empty-input = refl
 
 pub whole-case : WholeCase
-unfolding isHex hasForm uuidForm terminalForm isTerminal same isNameChar allNameChars levels levelsOk isResource isPattern resourceOk patternOk levelsOf pathOf patternOf matching beforeSpace verdictAt verdict answersFrom
+unfolding isHex hasForm uuidForm terminalForm isTerminal same isNameChar allNameChars levels levelsOk isResource isPattern resourceOk patternOk levelsOf pathOf patternOf matching bytesBefore verdictAt verdict answersFrom
 whole-case = refl
 
 -- ---- an input in blocks

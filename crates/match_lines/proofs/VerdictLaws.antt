@@ -14,6 +14,7 @@ use Rattle.resource.specs.declared.Matching.{Matching}
 use Rattle.resource.specs.declared.Matching.the-variants.{Yes, No, Malformed}
 use Rattle.resource.specs.Characters.{codes}
 use Rattle.resource.specs.Identifier.{isHex, Slot, fits, hasForm, uuidForm, terminalForm, isTerminal}
+use Rattle.octets.specs.Scan.{bytesBefore}
 use Rattle.resource.specs.Level.{isNameChar, allNameChars, isName, joined}
 use Rattle.resource.specs.Pattern.{Path, pathText, Levels, done, deep, name, star, Pattern, IsPattern, patternText, admits, NamesIn, spelled}
 use Rattle.resource.specs.Text.{isPattern, isResource, patternOk, resourceOk, numbersOf, matching}
@@ -107,22 +108,22 @@ pattern-free p h = joined-free (p .terminal) (spelled (p .below)) (terminal-free
 
 -- a text without a space, a space, and more: the first space is after the text
 first-space : (l r : List ℕ) → noSpace l ≡ true → beforeSpace (l ++ (32 ∷ r)) ≡ length l
-unfolding noSpace beforeSpace
+unfolding noSpace bytesBefore
 first-space [] r e = refl
 first-space (b ∷ bs) r e =
-    rw (not-true (eqb b 32) (and-left (not (eqb b 32)) (noSpace bs) e), beforeSpace, first-space bs r (and-right (not (eqb b 32)) (noSpace bs) e))
+    rw (not-true (eqb b 32) (and-left (not (eqb b 32)) (noSpace bs) e), bytesBefore, first-space bs r (and-right (not (eqb b 32)) (noSpace bs) e))
 
 -- a line with a space is what stands before it, the space, and what stands after it
 parts-at : (line : List ℕ) → beforeSpace line < length line → line ≡ take (beforeSpace line) line ++ (32 ∷ drop (suc (beforeSpace line)) line)
-unfolding beforeSpace
+unfolding bytesBefore
 parts-at [] h = absurd (omega arith)
 parts-at (b ∷ bs) h = go (eqb b 32) refl (parts-at bs)
   where
     go : (t : Bool) → eqb b 32 ≡ t → (beforeSpace bs < length bs → bs ≡ take (beforeSpace bs) bs ++ (32 ∷ drop (suc (beforeSpace bs)) bs))
         → (b ∷ bs) ≡ take (beforeSpace (b ∷ bs)) (b ∷ bs) ++ (32 ∷ drop (suc (beforeSpace (b ∷ bs))) (b ∷ bs))
-    go true e f = rw (e, beforeSpace) (ap (λ (c : ℕ). c ∷ bs) (eqb-true b 32 e))
+    go true e f = rw (e, bytesBefore) (ap (λ (c : ℕ). c ∷ bs) (eqb-true b 32 e))
     go false e f =
-        let k : beforeSpace (b ∷ bs) ≡ suc (beforeSpace bs) = rw (e, beforeSpace) in
+        let k : beforeSpace (b ∷ bs) ≡ suc (beforeSpace bs) = rw (e, bytesBefore) in
         rw k (ap (λ (l : List ℕ). b ∷ l) (f (omega arith)))
 
 -- ---- what matching answers, from its numbers

@@ -5,6 +5,8 @@ use mathlib.Core.List.{List, [], _∷_, _++_}
 use Prim.Native.Nat.{ℕ, suc, _+_, _-_, _/_}
 use lib.ListN.{length, take, drop}
 use lib.Dec.{ltb, eqb}
+use Rattle.octets.specs.Scan.{bytesBefore}
+use Rattle.octets.specs.Write.{over}
 use Rattle.match_lines.specs.declared.Verdict.{Verdict}
 use Rattle.match_lines.specs.declared.Verdict.the-variants.{IsBad}
 use Rattle.match_lines.specs.declared.Progress.{Progress}
@@ -46,14 +48,9 @@ ended false kept = lastLine kept
 
 -- ---- what the code answers
 
--- s written over d from the place `at` on
-unfoldable pub over : List ℕ → ℕ → List ℕ → List ℕ
-over d at s = take at d ++ (s ++ drop (at + length s) d)
-
 -- how many bytes stand before the first newline, or all where there is none
-unfoldable pub lineLength : List ℕ → ℕ
-lineLength [] = 0
-lineLength (b ∷ bs) = elim (eqb b 10) [ true ↦ 0 | false ↦ suc (lineLength bs) ]
+abbrev pub lineLength : List ℕ → ℕ
+lineLength s = bytesBefore 10 s
 
 -- how many bytes are kept at the end of a block whose last line begins at `from`, and whether that line is too long
 unfoldable pub endOf : Bool → List ℕ → ℕ → ℕ → Progress

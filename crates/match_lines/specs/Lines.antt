@@ -5,6 +5,7 @@ use mathlib.Core.List.{List, [], _∷_, _++_}
 use Prim.Native.Nat.{ℕ, suc}
 use lib.ListN.{length, take, drop}
 use lib.Dec.{leb, eqb}
+use Rattle.octets.specs.Scan.{bytesBefore}
 use Rattle.resource.specs.declared.Matching.{Matching}
 use Rattle.resource.specs.declared.Matching.the-variants.{Yes, No, Malformed}
 use Rattle.resource.specs.Text.{matching}
@@ -28,9 +29,8 @@ verdictOf No = IsNo
 verdictOf Malformed = IsBad
 
 -- how many bytes stand before the first space, or all where there is none
-unfoldable pub beforeSpace : List ℕ → ℕ
-beforeSpace [] = 0
-beforeSpace (b ∷ bs) = elim (eqb b 32) [ true ↦ 0 | false ↦ suc (beforeSpace bs) ]
+abbrev pub beforeSpace : List ℕ → ℕ
+beforeSpace line = bytesBefore 32 line
 
 -- a line with its first space after n bytes; one without a space is bad
 unfoldable pub verdictAt : List ℕ → ℕ → Verdict

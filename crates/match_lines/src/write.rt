@@ -1,13 +1,13 @@
 // Answers written to a lent buffer, and the bytes of a line that has begun kept for the next block.
 use crate::Progress;
 use crate::Verdict;
-use crate::line::newline;
 use crate::line::verdict_if;
 ghost use mathlib.Core.Path.{_≡_};
 ghost use Prim.Native.Nat.{_+_, _≤_};
 ghost use lib.ListN.{length, take, drop};
+ghost use Rattle.octets.specs.Write.{over};
 ghost use Rattle.match_lines.specs.Lines.{word};
-ghost use Rattle.match_lines.specs.Block.{over, endOf, progressOf, outputOf, bufferOf, endProgress, endOutput};
+ghost use Rattle.match_lines.specs.Block.{endOf, progressOf, outputOf, bufferOf, endProgress, endOutput};
 
 // Writes a verdict's word at a place of `out`, and answers the place after it.
 fn put(out: &mut [u8], at: usize, v: Verdict) -> usize
@@ -77,7 +77,7 @@ fn answers(s: &[u8], long: bool, out: &mut [u8]) -> Progress
     let mut at: usize = 0;
     let mut too_long = long;
     loop {
-        let stop = newline(s, from);
+        let stop = octets::until(s, from, b'\n');
         if stop == s.len() {
             return end(s, from, too_long, at);
         }

@@ -49,7 +49,9 @@ fn compared(s: &[u8], v: Fields, t: &[u8], w: Fields) -> Narrowing
     if v.after < w.after {
         return Narrowing::Period;
     }
-    let own = octets::same_start(&s[v.terminal..], &t[w.terminal..], 45);
+    let a = v.terminal;
+    let b = w.terminal;
+    let own = octets::same_start(&s[a..], &t[b..], 45);
     let mut table = [0usize; 768];
     let rows = search::fill(s, v.first, v.grants, &mut table);
     search::first(s, &table, rows, own, t, w.first, w.grants)

@@ -104,7 +104,7 @@ over-front d at s e =
     ∙ take-at (take at d ++ s) (drop (at + length s) d) (at + length s) e
 
 -- One piece written right after another is the two written together.
-pub over-append : (d : List ℕ) (at : ℕ) (s t : List ℕ) → at + length s + length t ≤ length d → over (over d at s) (at + length s) t ≡ over d at (s ++ t)
+pub over-append : (d : List ℕ) (at : ℕ) (s t : List ℕ) → at + length s ≤ length d → over (over d at s) (at + length s) t ≡ over d at (s ++ t)
 over-append d at s t h =
     let e : length (take at d ++ s) ≡ at + length s = simp (length-append, length-take) (omega arith) in
     let front : take (at + length s) (over d at s) ≡ take at d ++ s = over-front d at s e in

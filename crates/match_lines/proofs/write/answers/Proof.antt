@@ -22,8 +22,12 @@ returns c = block-refused _ _ _ (c .if1 .taken)
 loop-holds : tie.Need-loop-holds Inv-loop μ-loop
 loop-holds c = (omega arith, omega arith, refl, left-all _ _ _)
 
-newline-requires : tie.Need-newline-requires Inv-loop μ-loop
-newline-requires c κs = c .loop .inv .0
+until-requires : tie.Need-until-requires Inv-loop μ-loop
+until-requires c κs = search needs
+
+-- the place of the newline is within the block
+within : (u : tie.After-until Inv-loop μ-loop) → u .until .result ≤ length (u .before .before .before .before .before .args .s .now)
+within u = u .until .ensures .1 (u .before .loop .inv .0)
 
 end-requires : tie.Need-end-requires Inv-loop μ-loop
 end-requires c κs = c .before .before .loop .inv .0
@@ -34,7 +38,7 @@ same-length c = c .before .before .before .loop .inv .2
 returns-2 : tie.Need-returns-2 Inv-loop μ-loop
 returns-2 c =
     let l = c .before .before .before in
-    let n = c .before .before .newline in
+    let n = c .before .before .until in
     let a = l .before .before .before .before .args in
     let d = left-end _ _ _ _ _ _ _ (l .loop .inv .3) (l .loop .inv .0) _ (n .ensures .0) (c .before .if2 .taken) in
     block-done (a .long) (a .s .now) (a .out .now) (c .end .result) (l .loop .out) (l .before .if1 .left) (c .end .ensures ∙ d .0, d .1)
@@ -46,19 +50,19 @@ part-verdict-if-start : tie.Need-part-verdict-if-start Inv-loop μ-loop
 part-verdict-if-start c = search needs
 
 part-verdict-if-end : tie.Need-part-verdict-if-end Inv-loop μ-loop
-part-verdict-if-end c = c .before .newline .ensures .1
+part-verdict-if-end c = within (c .before)
 
 verdict-if-requires : tie.Need-verdict-if-requires Inv-loop μ-loop
 verdict-if-requires c κs = search needs
 
 put-requires : tie.Need-put-requires Inv-loop μ-loop
-put-requires c κs = omega arith
+put-requires c κs = omega (arith, within (c .before .before .before .before))
 
 add-from : tie.Need-add-from Inv-loop μ-loop
-add-from c = search needs
+add-from c = omega (arith, within (c .before .before .before .before .before .before .before))
 
 loop-less : tie.Need-loop-less Inv-loop μ-loop
-loop-less c = omega arith
+loop-less c = omega (arith, within (c .before .before .before .before .before .before .before))
 
 loop-again : tie.Need-loop-again Inv-loop μ-loop
 loop-again c =
@@ -68,10 +72,10 @@ loop-again c =
     let l = e .before .before in
     let i = l .loop .inv in
     let room = l .before .if1 .left in (
+      omega (arith, within (e .before)),
+      omega (arith, word-le (v .verdict-if .result), within (e .before)),
       omega arith,
-      omega (arith, word-le (v .verdict-if .result)),
-      omega arith,
-      left-next _ _ _ _ _ _ _ (i .3) (i .0) _ (e .before .newline .ensures .0) (e .if2 .left) (omega arith) _ _ _ (v .verdict-if .ensures) (p .put .ensures .0) (p .put .ensures .1),
+      left-next _ _ _ _ _ _ _ (i .3) (i .0) _ (e .before .until .ensures .0) (e .if2 .left) (omega (arith, within (e .before))) _ _ _ (v .verdict-if .ensures) (p .put .ensures .0) (p .put .ensures .1),
     )
 
 pub answers-spec : {M : Type 1} → statement M
@@ -82,7 +86,7 @@ answers-spec =
     μ-loop
     returns
     loop-holds
-    newline-requires
+    until-requires
     end-requires
     same-length
     returns-2

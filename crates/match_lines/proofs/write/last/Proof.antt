@@ -1,7 +1,7 @@
 -- `last` meets its contract. Assumes nothing.
 use mathlib.Core.Path.{refl, sym}
 use native.Mathlib.Omega.{arith}
-use Rattle.match_lines.proofs.OverLaws.{over-nil}
+use Rattle.octets.proofs.OverLaws.{over-nil}
 use Rattle.match_lines.proofs.LineLaws.{last-refused, last-done, ended-long, ended-none, ended-some}
 use lib.Seq.{length-take-le}
 use borrow.Author.Needs.{needs}

@@ -1,5 +1,6 @@
 -- `compared` meets its contract. Assumes nothing.
 use mathlib.Core.Path.{_∙_}
+use Rattle.octets.proofs.PartLaws.{start-parts}
 use Rattle.narrowing.proofs.NarrowSteps.{parent-constrained, child-constrained, begins-early, ends-late, compared-first}
 use native.Mathlib.Omega.{arith}
 use borrow.Author.Needs.{needs}
@@ -49,7 +50,7 @@ slice-aggregate-fill c = search needs
 
 fill-requires : tie.Need-fill-requires
 fill-requires c κs =
-    let e = c .before .before in
+    let e = c .before .before .before .before in
     let d = e .before .before .before in
     let b = d .before .before .before in
     omega (arith, b .before .before .before .before .before .before .pre .2)
@@ -64,11 +65,13 @@ returns-5 : tie.Need-returns-5
 returns-5 c =
     let f = c .before .before .before in
     let o = f .before .before in
-    let e = o .before in
+    let e = o .before .before .before in
     let d = e .before .before .before in
     let b = d .before .before .before in
+    let x = b .before .before .before .before .before .before in
     c .first .ensures _ _ (f .fill .ensures .0)
-    ∙ compared-first _ _ _ _ (b .before .before .if1 .left) (b .if2 .left) (d .if3 .left) (e .if4 .left) (o .same-terminal .ensures)
+    ∙ compared-first _ _ _ _ (b .before .before .if1 .left) (b .if2 .left) (d .if3 .left) (e .if4 .left) 
+    (start-parts (x .args .s .now) (x .args .t .now) (x .args .v .terminal) (x .args .w .terminal) 45 (x .pre .0) (x .pre .1) (o .same-start .ensures))
 
 pub compared-spec : {M : Type 1} → statement M
 compared-spec =
@@ -78,7 +81,13 @@ compared-spec =
     returns-2
     returns-3
     returns-4
-    same-terminal-requires
+    sub-same-start
+    part-same-start-start
+    part-same-start-end
+    sub-same-start-2
+    part-same-start-start-2
+    part-same-start-end-2
+    same-start-requires
     slice-aggregate-fill
     fill-requires
     slice-aggregate-first

@@ -5,14 +5,14 @@ use mathlib.Core.List.{List, [], _∷_, _++_, append-nil, append-assoc}
 use Prim.Native.Nat.{ℕ, suc, _+_, _-_, _/_, _≤_, _<_}
 use native.Mathlib.Numerals.{add-one}
 use native.Mathlib.Omega.{arith}
-use lib.ListN.{length, getD, take, drop, length-append, length-drop, drop-of-length-le, take-append-drop}
-use lib.Seq.{take-all, drop-cons, drop-drop, append-snoc, take-at, drop-at, length-take-le}
+use lib.ListN.{length, take, drop, length-append, length-drop, take-append-drop}
+use lib.Seq.{drop-drop, append-snoc, take-at, drop-at, length-take-le}
 use lib.Dec.{eqb, ltb}
-use borrow.Author.Tests.{eq-eqb, ne-eqb, lt-ltb, le-ltb, le-leb, lt-leb}
+use borrow.Author.Tests.{lt-ltb, le-ltb, le-leb, lt-leb}
 use Rattle.resource.specs.declared.Matching.{Matching}
 use Rattle.resource.specs.Text.{matching}
 use Rattle.match_lines.specs.declared.Verdict.{Verdict}
-use Rattle.match_lines.specs.declared.Verdict.the-variants.{IsYes, IsNo, IsBad}
+use Rattle.match_lines.specs.declared.Verdict.the-variants.{IsBad}
 use Rattle.match_lines.specs.declared.Progress.{Progress}
 use Rattle.match_lines.specs.declared.Progress.the-variants.{Done, NoRoom}
 use Rattle.octets.specs.Scan.{bytesBefore}
@@ -22,7 +22,7 @@ use Rattle.match_lines.specs.Block.{Fed, verdictIf, keptOf, after, fedFr
 use Rattle.octets.proofs.PartLaws.{part-to-end}
 use Rattle.octets.proofs.OverLaws.{over-nil, over-append}
 use Rattle.octets.proofs.ScanLaws.{before-this, before-other, before-le}
-use Rattle.match_lines.proofs.BlockLaws.{fed-newline, fed-byte, fed-ends, kept-out, word-le}
+use Rattle.match_lines.proofs.BlockLaws.{fed-ends, kept-out, word-le}
 
 -- ---- the verdict on a line, by the code's tests
 

@@ -2,8 +2,8 @@
 -- Between two blocks the bytes of a line that has begun are kept, or, once it has more than 600, only that it is too long.
 use mathlib.Core.Bool.{Bool, true, false, cond, _||_}
 use mathlib.Core.List.{List, [], _∷_, _++_}
-use Prim.Native.Nat.{ℕ, suc, _+_, _-_, _/_}
-use lib.ListN.{length, take, drop}
+use Prim.Native.Nat.{ℕ, _-_, _/_}
+use lib.ListN.{length, take}
 use lib.Dec.{ltb, eqb}
 use Rattle.octets.specs.Scan.{bytesBefore}
 use Rattle.octets.specs.Write.{over}

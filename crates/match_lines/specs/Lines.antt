@@ -1,6 +1,6 @@
 -- What the matching tool answers. A reader of the promises does not need this page: they say for which lines each word is written. As document 01 has it
 -- ("Matching tool"), a line is `pattern resource` with one space, at most 600 bytes; yes, no or bad is written for each.
-use mathlib.Core.Bool.{Bool, true, false, cond}
+use mathlib.Core.Bool.{true, false, cond}
 use mathlib.Core.List.{List, [], _∷_, _++_}
 use Prim.Native.Nat.{ℕ, suc}
 use lib.ListN.{length, take, drop}

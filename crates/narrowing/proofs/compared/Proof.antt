@@ -70,7 +70,7 @@ returns-5 c =
     let b = d .before .before .before in
     let x = b .before .before .before .before .before .before in
     c .first .ensures _ _ (f .fill .ensures .0)
-    ∙ compared-first _ _ _ _ (b .before .before .if1 .left) (b .if2 .left) (d .if3 .left) (e .if4 .left) 
+    ∙ compared-first _ _ _ _ (b .before .before .if1 .left) (b .if2 .left) (d .if3 .left) (e .if4 .left)
     (start-parts (x .args .s .now) (x .args .t .now) (x .args .v .terminal) (x .args .w .terminal) 45 (x .pre .0) (x .pre .1) (o .same-start .ensures))
 
 pub compared-spec : {M : Type 1} → statement M

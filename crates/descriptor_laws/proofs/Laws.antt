@@ -1,6 +1,5 @@
 -- The statements of specs/Laws.antt, each from its law. Assumes nothing.
-use Rattle.descriptor_laws.specs.Laws.{ReadsExactly, ValidityExactly, StructureExactly, AnswersTold, SeenHanded, GrantsAllowed, MaskExactly, TerminalFirst, GrantsWalk, GrantsEnd, GrantsInTurn}
-use Rattle.descriptor_laws.proofs.grants.LevelLaws as level
+use Rattle.descriptor_laws.specs.Laws.{ReadsExactly, ValidityExactly, StructureExactly, AnswersTold, SeenHanded, GrantsAllowed, MaskExactly, GrantsWalk, GrantsEnd, GrantsInTurn}
 use Rattle.descriptor_laws.proofs.grants.MaskLaws as mask
 use Rattle.descriptor_laws.proofs.whole.AnswerLaws as answer
 use Rattle.descriptor_laws.proofs.places.SeenLaws as seen
@@ -33,9 +32,6 @@ grants-allowed = turn.grants-allowed
 
 pub mask-exactly : MaskExactly
 mask-exactly = mask.mask-exactly
-
-pub terminal-first : TerminalFirst
-terminal-first = level.terminal-first
 
 pub grants-walk : GrantsWalk
 grants-walk = seen.grants-walk

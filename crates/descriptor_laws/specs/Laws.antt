@@ -8,8 +8,6 @@ use Prim.Native.Nat.{ℕ, suc, _+_, _-_, _<_}
 use lib.ListN.{length, take, drop, getD}
 use Rattle.octets.specs.Bytes.{AreBytes, part}
 use Rattle.exact.specs.Reads.{got}
-use Rattle.resource.specs.Level.{levels}
-use Rattle.resource.specs.Text.{resourceOk, patternOk}
 use Rattle.descriptor.specs.Model.{Grant, Descriptor, pairCount, encode}
 use Rattle.descriptor.specs.Allowed.{isIn, GrantOk, longestPeriod, period, Formed, Allowed}
 use Rattle.descriptor.specs.Modes.{unionOf}
@@ -58,12 +56,6 @@ GrantsAllowed = (d : Descriptor) → Formed d → (i : ℕ) (g : Grant) → i < 
 abbrev pub MaskExactly : Type 0
 MaskExactly = (g : Grant) → GrantOk g
     → (maskOf (g .modes) ≡ unionOf (g ∷ [])) × ((m : ℕ) → m < 4 → hasMode (maskOf (g .modes)) m ≡ isIn m (g .modes))
-
--- the first level of a text that enters is its first 45 bytes, and the others are the levels of what follows the 46th
-abbrev pub TerminalFirst : Type 0
-TerminalFirst =
-    ((p : List ℕ) → patternOk p ≡ true → levels p ≡ take 45 p ∷ levels (drop 46 p))
-    × ((r : List ℕ) → resourceOk r ≡ true → levels r ≡ take 45 r ∷ levels (drop 46 r))
 
 -- reading the grant at that place gives the i-th grant, and the place of the next
 abbrev pub GrantsWalk : Type 0

@@ -9,12 +9,12 @@ use native.Mathlib.Nat.{add-zero, zero-add}
 use native.Mathlib.Omega.{arith}
 use lib.ListN.{getD}
 use Rattle.octets.specs.Bytes as cbor
-use Rattle.octets.specs.Bytes.{AreBytes, part}
+use Rattle.octets.specs.Bytes.{AreBytes, part, same}
 use Rattle.exact.specs.Reads.{got}
-use Rattle.resource.specs.Level.{same, levels}
+use Rattle.resource.specs.Level.{levels}
 use Rattle.resource.specs.Pattern.{Pattern, endsDeep}
 use Rattle.resource.specs.Text.{levelsOf}
-use Rattle.resource.proofs.Flags.{same-eq}
+use Rattle.octets.proofs.SameLaws.{same-equal}
 use Rattle.descriptor.specs.Model.{Grant}
 use Rattle.descriptor.specs.Reader.{hasMode, GrantSeen, grantAt, Seen, read, readOf}
 use Rattle.descriptor_laws.specs.Laws.{SeenAs, InTurn, no-more, one-more}
@@ -145,7 +145,7 @@ ruleWith mask u p = record { mask = mask; pattern = patternWith u p }
 told : (s t u p : List ℕ) {n at : ℕ} {gs : List Grant} → InTurn s t n at gs → (own : Bool) → same t u ≡ own
     → Told (rulesOf gs) (patternWith u p) (cond own (notedAt s p zeros n at) zeros)
 told s t u p {gs = gs} st true e m k c h =
-    noted-covered s t p st m k c h ∙ ap (λ (x : List ℕ). covered (rulesOf gs) m (patternWith x p) k) (same-eq t u e)
+    noted-covered s t p st m k c h ∙ ap (λ (x : List ℕ). covered (rulesOf gs) m (patternWith x p) k) (same-equal t u e)
 told s t u p st false e m k c h = zeros-lack m k ∙ sym (other-covered s t u p st e m k)
 
 -- masks that tell give the lowest mode with its fewest names

@@ -9,7 +9,8 @@ use lib.Dec.{eqb}
 use borrow.Author.Tests.{ne-eqb}
 use Rattle.resource.specs.declared.Step.{Step}
 use Rattle.resource.specs.declared.Step.the-variants.{Differ, Finish, Next}
-use Rattle.resource.specs.Level.{same, isStar, isDeep, levels}
+use Rattle.octets.specs.Bytes.{same}
+use Rattle.resource.specs.Level.{isStar, isDeep, levels}
 use Rattle.resource.specs.Pattern.{Levels, done, deep, name, star}
 use Rattle.resource.specs.Text.{withLevel, levelsOf}
 use Rattle.resource.specs.Scan.{starFirst, stepOf}
@@ -30,7 +31,7 @@ freshOf e s = freshRange e (levelsOf (levels s))
 -- "**"
 pub fresh-deep : (e : ℕ) (s : List ℕ) → isDeep s ≡ true → freshOf e s ≡ range (e + 1) most
 unfolding levels levelsOf same
-fresh-deep e s d = rw (same-eq s (42 ∷ 42 ∷ []) d)
+fresh-deep e s d = rw (same-equal s (42 ∷ 42 ∷ []) d)
 
 -- a first level that is neither "*" nor the last and "**"
 pub fresh-name : (e : ℕ) (s : List ℕ) → isDeep s ≡ false → starFirst s ≡ false → freshOf e s ≡ range 0 0
@@ -96,7 +97,7 @@ level-cover l k q p = go (isStar l) (isStar k) refl refl
         → coverRange (withLevel t l q) (withLevel u k p) ≡ cond (t || same l k) (coverRange q p) (range 0 0)
     go true true e f = refl
     go true false e f = refl
-    go false true e f = rw (same-eq k (42 ∷ []) f, e)
+    go false true e f = rw (same-equal k (42 ∷ []) f, e)
     go false false e f = refl
 
 -- what holds of "**", of "*" before levels and of a name before levels holds of one or more levels

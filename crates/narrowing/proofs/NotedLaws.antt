@@ -9,11 +9,13 @@ use lib.ListN.{length, getD, replicate, length-append, length-replicate}
 use lib.Dec.{leb}
 use lib.Bits.{bitOr}
 use Rattle.exact.specs.Reads.{got}
-use Rattle.resource.specs.Level.{same, isName, levels, joined}
+use Rattle.octets.specs.Bytes.{same}
+use Rattle.resource.specs.Level.{isName, levels, joined}
 use Rattle.resource.specs.Pattern.{Levels, done, deep, name, star, Pattern, IsPattern, NamesIn, spelled, patternText, before}
 use Rattle.resource.specs.Text.{isPattern, longest, patternOk, levelsOf, patternIn, patternOf}
 use Rattle.resource.specs.Cover.{covers}
-use Rattle.resource.proofs.Flags.{and-right, no-flag, same-refl}
+use Rattle.octets.proofs.Tests.{and-right, no-flag}
+use Rattle.octets.proofs.SameLaws.{same-self}
 use Rattle.resource.proofs.Promises.{patterns-exact, patterns-once}
 use Rattle.descriptor.specs.Model.{Grant}
 use Rattle.descriptor.specs.Reader.{hasMode, GrantSeen, grantAt}
@@ -37,7 +39,7 @@ patternWith t p = record { terminal = t; below = levelsOf (levels p) }
 pub pattern-seen : {s t : List ℕ} {g : Grant} {v : GrantSeen} → SeenAs s t g v → patternOf (g .pattern) ≡ patternWith t (below s (v .pattern))
 unfolding patternOf
 pattern-seen {g = g} f =
-    ap patternIn (terminal-first .0 (g .pattern) (f .allowed .pattern)) ∙ ap₂ (λ (u p : List ℕ). patternWith u p) (f .own) (sym (f .below))
+    ap patternIn (pattern-levels (g .pattern) (f .allowed .pattern)) ∙ ap₂ (λ (u p : List ℕ). patternWith u p) (f .own) (sym (f .below))
 
 -- a name has a character
 name-some : (n : List ℕ) → isName n ≡ true → 1 ≤ length n
@@ -93,7 +95,7 @@ range-told s t p g v k f c h =
     let q : Levels = levelsOf (levels (below s (v .pattern))) in
     sym
     (ap (λ (x : Pattern). patternCovers x (patternWith t p) k) (pattern-seen f)
-    ∙ ap (λ (b : Bool). b && covers q (levelsOf (levels p)) k) (same-refl t)
+    ∙ ap (λ (b : Bool). b && covers q (levelsOf (levels p)) k) (same-self t)
     ∙ range-covers q (levelsOf (levels p)) k c h)
 
 -- after one grant is noted, the mask at k has the modes that it had and those in which the grant's rule covers the pattern with k names

@@ -10,10 +10,10 @@ use lib.ListN.{length, getD}
 use lib.Dec.{leb}
 use lib.Bits.{bitAnd, bitOr}
 use Rattle.octets.proofs.BitLaws.{or-bit, and-bit}
-use Rattle.resource.specs.Level.{same}
+use Rattle.octets.specs.Bytes.{same}
 use Rattle.resource.specs.Pattern.{Levels, done, deep, name, star}
 use Rattle.resource.specs.Cover.{matchesFresh, covers}
-use Rattle.resource.proofs.Flags.{no-flag}
+use Rattle.octets.proofs.Tests.{no-flag}
 use Rattle.descriptor.specs.Reader.{hasMode}
 use Rattle.narrowing.specs.declared.range.Range.{Range}
 use Rattle.narrowing.specs.Escape.{canTake}

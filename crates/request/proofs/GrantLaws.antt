@@ -5,7 +5,7 @@ use mathlib.Core.List.{List}
 use Prim.Native.Nat.{ℕ, suc, _+_, _<_}
 use lib.ListN.{take, drop}
 use lib.Dec.{eqb}
-use Rattle.octets.specs.Bytes.{AreBytes, same as sameBytes}
+use Rattle.octets.specs.Bytes.{AreBytes, same}
 use Rattle.exact.specs.Reads.{got}
 use Rattle.resource.specs.Pattern.{admits}
 use Rattle.resource.specs.Text.{resourceOk, pathOf, patternOf, levelsMatch}
@@ -26,28 +26,28 @@ use Rattle.resource.proofs.Laws.{admits-text}
 -- ---- one grant
 
 -- The pattern of a grant matches a resource id exactly where the first 45 bytes are the same and the levels below match.
-grant-admits : (r : List ℕ) (g : Grant) (c : Bool) → GrantOk g → resourceOk r ≡ true → sameBytes (take 45 (g .pattern)) (take 45 r) ≡ c
+grant-admits : (r : List ℕ) (g : Grant) (c : Bool) → GrantOk g → resourceOk r ≡ true → same (take 45 (g .pattern)) (take 45 r) ≡ c
     → admits (patternOf (g .pattern)) (pathOf r) ≡ (c && levelsMatch (drop 46 (g .pattern)) (drop 46 r))
 grant-admits r g c o w t =
     admits-text (g .pattern) r (o .pattern) w
-    ∙ ap (λ (c : Bool). c && levelsMatch (drop 46 (g .pattern)) (drop 46 r)) (sym (same-agree (take 45 (g .pattern)) (take 45 r)) ∙ t)
+    ∙ ap (λ (c : Bool). c && levelsMatch (drop 46 (g .pattern)) (drop 46 r)) t
 
 -- A grant that is seen in b serves a resource id of its terminal exactly where the grant itself serves.
-serves-agree : (b t r : List ℕ) (m : ℕ) (g : Grant) (v : GrantSeen) → SeenAs b t g v → resourceOk r ≡ true → m < 4 → sameBytes t (take 45 r) ≡ true
+serves-agree : (b t r : List ℕ) (m : ℕ) (g : Grant) (v : GrantSeen) → SeenAs b t g v → resourceOk r ≡ true → m < 4 → same t (take 45 r) ≡ true
     → serves b (drop 46 r) m v ≡ grantServes g m (pathOf r)
 unfolding serves
 serves-agree b t r m g v f w h s =
     let few : Bool = eqb (pairCount (g .constraints)) 0 in
-    let whole = grant-admits r g true (f .allowed) w (ap (λ (x : List ℕ). sameBytes x (take 45 r)) (f .own) ∙ s) in
+    let whole = grant-admits r g true (f .allowed) w (ap (λ (x : List ℕ). same x (take 45 r)) (f .own) ∙ s) in
     ap₂ _&&_ (ap (λ (x : ℕ). hasMode x m) (f .mask) ∙ mask-exactly g (f .allowed) .1 m h)
     (ap₂ _&&_ (ap (λ (n : ℕ). eqb n 0) (f .pairs)) (ap (λ (x : List ℕ). levelsMatch x (drop 46 r)) (f .below) ∙ sym whole)
     ∙ and-comm few (admits (patternOf (g .pattern)) (pathOf r)))
 
 -- A grant of another terminal does not serve.
-other-serves : (b t r : List ℕ) (m : ℕ) (g : Grant) (v : GrantSeen) → SeenAs b t g v → resourceOk r ≡ true → sameBytes t (take 45 r) ≡ false
+other-serves : (b t r : List ℕ) (m : ℕ) (g : Grant) (v : GrantSeen) → SeenAs b t g v → resourceOk r ≡ true → same t (take 45 r) ≡ false
     → grantServes g m (pathOf r) ≡ false
 other-serves b t r m g v f w s =
-    let whole = grant-admits r g false (f .allowed) w (ap (λ (x : List ℕ). sameBytes x (take 45 r)) (f .own) ∙ s) in
+    let whole = grant-admits r g false (f .allowed) w (ap (λ (x : List ℕ). same x (take 45 r)) (f .own) ∙ s) in
     ap (λ (c : Bool). isIn m (g .modes) && (c && eqb (pairCount (g .constraints)) 0)) whole ∙ and-false (isIn m (g .modes))
 
 -- ---- all grants
@@ -60,7 +60,7 @@ first-step b r m n at next i v e = rw (firstFrom, e)
 
 module _ (b t r : List ℕ) (m : ℕ) (w : resourceOk r ≡ true) where
   -- For a resource id of the terminal t, the search finds the first that serves of the grants that are read in turn.
-  first-from : m < 4 → sameBytes t (take 45 r) ≡ true → {n at : ℕ} {gs : List Grant} → InTurn b t n at gs → (i : ℕ)
+  first-from : m < 4 → same t (take 45 r) ≡ true → {n at : ℕ} {gs : List Grant} → InTurn b t n at gs → (i : ℕ)
       → firstFrom b (drop 46 r) m n at i ≡ firstServing gs m (pathOf r) i
   unfolding firstFrom
   first-from h s (no-more at) i = refl
@@ -70,7 +70,7 @@ module _ (b t r : List ℕ) (m : ℕ) (w : resourceOk r ≡ true) where
       ∙ ap (orNext (grantServes g m (pathOf r)) i (maskOf (g .modes))) (first-from h s rest (i + 1))
 
   -- For a resource id of another terminal no grant serves.
-  first-none : sameBytes t (take 45 r) ≡ false → {n at : ℕ} {gs : List Grant} → InTurn b t n at gs → (i : ℕ) → firstServing gs m (pathOf r) i ≡ Nothing
+  first-none : same t (take 45 r) ≡ false → {n at : ℕ} {gs : List Grant} → InTurn b t n at gs → (i : ℕ) → firstServing gs m (pathOf r) i ≡ Nothing
   first-none s (no-more at) i = refl
   first-none s (one-more n at next v g gs e f rest) i =
       ap (λ (c : Bool). orNext c i (maskOf (g .modes)) (firstServing gs m (pathOf r) (i + 1))) (other-serves b t r m g v f w s) ∙ first-none s rest (i + 1)
@@ -80,7 +80,7 @@ pub matched-agree : (d : Descriptor) (r : List ℕ) (m : ℕ) → AreBytes (enco
     → matchedOn (encode d) (fieldsOf (descriptorView 0 d)) r m ≡ firstServing (d .payload .grants) m (pathOf r) 0
 unfolding matchedOn
 matched-agree d r m b q w h =
-    ap (λ (x : List ℕ). cond (sameBytes x (take 45 r)) found Nothing) (seen-handed d q .terminal) ∙ go (sameBytes t (take 45 r)) refl
+    ap (λ (x : List ℕ). cond (same x (take 45 r)) found Nothing) (seen-handed d q .terminal) ∙ go (same t (take 45 r)) refl
   where
     t : List ℕ
     t = d .payload .terminal
@@ -88,6 +88,6 @@ matched-agree d r m b q w h =
     found : Matched
     found = firstFrom (encode d) (drop 46 r) m (descriptorView 0 d .payload .opening .grants .count) (descriptorView 0 d .payload .opening .grants .start) 0
 
-    go : (c : Bool) → sameBytes t (take 45 r) ≡ c → cond c found Nothing ≡ firstServing (d .payload .grants) m (pathOf r) 0
+    go : (c : Bool) → same t (take 45 r) ≡ c → cond c found Nothing ≡ firstServing (d .payload .grants) m (pathOf r) 0
     go true s = first-from (encode d) t r m w h s (grants-in-turn d b q) 0
     go false s = sym (first-none (encode d) t r m w s (grants-in-turn d b q) 0)

@@ -70,6 +70,14 @@ abbrev pub All : {X : Type 0} → (X → Type 0) → List X → Type 0
 All Ok [] = Unit {0}
 All Ok (x ∷ xs) = Ok x × All Ok xs
 
+-- the bytes of a descriptor's id
+abbrev pub idSize : ℕ
+idSize = 16
+
+-- the bytes of a terminal id, with which every pattern begins
+abbrev pub terminalSize : ℕ
+terminalSize = 45
+
 -- a payload but for its longest period
 pub record PayloadOk (p : Payload) : Type 0 where
   pub least : 1 ≤ length (p .grants)
@@ -82,10 +90,10 @@ pub record PayloadOk (p : Payload) : Type 0 where
   pub grantor : OptOk (TextOk 1 128) (p .grantor)
   pub notBefore : TimeOk (p .notBefore)
   pub terminal : isTerminal (p .terminal) ≡ true
-  pub id : length (p .id) ≡ 16
+  pub id : length (p .id) ≡ idSize
   pub fay : isFay (p .fay) ≡ true
   -- each pattern's terminal is the payload's
-  pub own : All (λ (g : Grant). take 45 (g .pattern) ≡ p .terminal) (p .grants)
+  pub own : All (λ (g : Grant). take terminalSize (g .pattern) ≡ p .terminal) (p .grants)
   -- issued_at ≤ not_before < not_after
   pub issued : p .issuedAt ≤ p .notBefore
   pub lasts : p .notBefore < p .notAfter

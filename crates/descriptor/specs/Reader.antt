@@ -15,7 +15,7 @@ use Rattle.resource.specs.Text.{patternOk}
 use Rattle.descriptor.specs.Keys.{kPayload, kVersion, kSignature, kGrants, kMetadata, kIssuedAt, kIssuerId, kNotAfter, kGrantorId, kNotBefore, kTerminalId, kDescriptorId, kSubjectFayId, kKeyId, kAlgorithm, kSignatureValue, kModes, kConstraints, kResourcePattern, algorithms, modeNames}
 use Rattle.descriptor.specs.Model.{size}
 use Rattle.octets.specs.Order.{before}
-use Rattle.descriptor.specs.Allowed.{longest, longestPeriod}
+use Rattle.descriptor.specs.Allowed.{idSize, terminalSize, longest, longestPeriod}
 use Rattle.descriptor.specs.Value.{countAt, timeAt, textAt, wordAt, bytesAt, oneOf}
 
 -- ---- pairs
@@ -86,7 +86,7 @@ addGrant sum g = record { mask = bitOr (sum .mask) (g .mask); pairs = sum .pairs
 
 -- one more grant, whose pattern has the terminal id of the first, which stands at `first`
 unfoldable pub moreAt : List ℕ → ℕ → Sum → ℕ → Got Sum
-moreAt s first sum at = bind (grantAt s at) (λ g n. guard (same (part s (g .pattern .start) 45) (part s first 45)) (got (addGrant sum g) n))
+moreAt s first sum at = bind (grantAt s at) (λ g n. guard (same (part s (g .pattern .start) terminalSize) (part s first terminalSize)) (got (addGrant sum g) n))
 
 -- what is seen of the grants: how many they are, the place of the first, the place of its pattern, and the sum
 pub record GrantsSeen : Type 0 where
@@ -145,7 +145,7 @@ pub record Closing : Type 0 where
 unfoldable pub closingAt : List ℕ → ℕ → Got Closing
 closingAt s at =
     bind (guard (hasAt s at kTerminalId) (wordAt isTerminal s (at + length kTerminalId))) (λ terminal n.
-    bind (guard (hasAt s n kDescriptorId) (bytesAt s (n + length kDescriptorId) 16 16)) (λ id n₁.
+    bind (guard (hasAt s n kDescriptorId) (bytesAt s (n + length kDescriptorId) idSize idSize)) (λ id n₁.
     bind (guard (hasAt s n₁ kSubjectFayId) (wordAt isFay s (n₁ + length kSubjectFayId))) (λ fay n₂.
     got (record { terminal = terminal .start; id = id .start; fay = fay .start }) n₂)))
 
@@ -159,7 +159,7 @@ pub record PayloadSeen : Type 0 where
 unfoldable pub payloadFits : List ℕ → PayloadSeen → Bool
 payloadFits s p =
     eqb (p .opening .keys) (8 + (size (p .opening .pairs) + size (p .middle .grantor)))
-    && (same (part s (p .opening .grants .first) 45) (part s (p .closing .terminal) 45)
+    && (same (part s (p .opening .grants .first) terminalSize) (part s (p .closing .terminal) terminalSize)
     && (leb (p .opening .issuedAt) (p .middle .notBefore) && ltb (p .middle .notBefore) (p .middle .notAfter)))
 
 unfoldable pub payloadAt : List ℕ → ℕ → Got PayloadSeen

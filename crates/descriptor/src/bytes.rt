@@ -1,17 +1,19 @@
 // Terminal ids.
+use crate::sizes::TERMINAL_SIZE;
 ghost use mathlib.Core.Path.{_≡_};
 ghost use Prim.Native.Nat.{_≤_};
 ghost use lib.ListN.{length, take};
 ghost use Rattle.octets.specs.Bytes.{same};
+ghost use Rattle.descriptor.specs.Allowed.{terminalSize};
 
-// Whether the first 45 bytes of a and b, a terminal id's, are equal.
+// Whether a and b begin with the same terminal id.
 pub(crate) fn same_terminal(a: &[u8], b: &[u8]) -> bool
-    requires { ⌜ (45 ≤ length (now a)) × (45 ≤ length (now b)) ⌝ }
-    ensures { λ o. ⌜ o ≡ same (take 45 (now (a .entry))) (take 45 (now (b .entry))) ⌝ }
+    requires { ⌜ (terminalSize ≤ length (now a)) × (terminalSize ≤ length (now b)) ⌝ }
+    ensures { λ o. ⌜ o ≡ same (take terminalSize (now (a .entry))) (take terminalSize (now (b .entry))) ⌝ }
 {
     let mut ok = true;
     let mut i = 0;
-    while i < 45 {
+    while i < TERMINAL_SIZE {
         ok = ok & (a[i] == b[i]);
         i += 1;
     }

@@ -14,6 +14,7 @@ use octets::has_at;
 ghost use mathlib.Core.Path.{_≡_};
 ghost use Prim.Native.Nat.{_+_, _≤_, _<_};
 ghost use lib.ListN.{length};
+ghost use Rattle.descriptor.specs.Allowed.{terminalSize};
 ghost use Rattle.descriptor.specs.Reader.{grantAt, moreAt, grantsAt};
 ghost use Rattle.descriptor.specs.Answer.{grantEnd, grantRead, sumOf, sumRead, grantsRead};
 
@@ -112,7 +113,7 @@ pub(crate) fn grant_at(s: &[u8], at: usize) -> GrantRead
 
 // One more grant, whose pattern has the terminal id that stands at `first`.
 fn more_at(s: &[u8], first: usize, sum: Sum, at: usize) -> SumRead
-    requires { ⌜ first + 45 ≤ length (now s) ⌝ }
+    requires { ⌜ first + terminalSize ≤ length (now s) ⌝ }
     requires { ⌜ sum .pairs < 4294967296 ⌝ }
     ensures { λ r. ⌜ sumRead r ≡ moreAt (now (s .entry)) first (sumOf sum) at ⌝ }
 {

@@ -7,6 +7,7 @@ mod modes;
 mod pairs;
 mod payload;
 mod signature;
+mod sizes;
 mod value;
 
 ghost use mathlib.Core.Path.{_≡_};

@@ -6,6 +6,7 @@ use crate::grants::grants_at;
 use crate::keys;
 use crate::pairs::OptPairs;
 use crate::pairs::opt_pairs;
+use crate::sizes;
 use crate::value::CountRead;
 use crate::value::OptText;
 use crate::value::count_at;
@@ -19,6 +20,7 @@ use octets::has_at;
 ghost use mathlib.Core.Path.{_≡_};
 ghost use Prim.Native.Nat.{_+_, _≤_};
 ghost use lib.ListN.{length};
+ghost use Rattle.descriptor.specs.Allowed.{terminalSize};
 ghost use Rattle.descriptor.specs.Reader.{openingAt, middleAt, closingAt, payloadFits, payloadAt};
 ghost use Rattle.descriptor.specs.Answer.{flag, openingEnd, openingRead, middleEnd, middleRead, closingRead, payloadOf, payloadRead};
 
@@ -215,8 +217,8 @@ fn closing_at(s: &[u8], at: usize) -> ClosingRead
         s,
         terminal + len,
         &keys::DESCRIPTOR_ID,
-        16,
-        16,
+        sizes::ID_SIZE,
+        sizes::ID_SIZE,
     ) else {
         return ClosingRead::NoClosing;
     };
@@ -243,7 +245,7 @@ fn keys_of(a: bool, b: bool) -> u64
 
 // The conditions on the whole payload.
 fn fits(s: &[u8], p: PayloadFields) -> bool
-    requires { ⌜ (p .opening .grants .first + 45 ≤ length (now s)) × (p .closing .terminal + 45 ≤ length (now s)) ⌝ }
+    requires { ⌜ (p .opening .grants .first + terminalSize ≤ length (now s)) × (p .closing .terminal + terminalSize ≤ length (now s)) ⌝ }
     ensures { λ r. ⌜ r ≡ payloadFits (now (s .entry)) (payloadOf p) ⌝ }
 {
     let opening = p.opening;

@@ -15,7 +15,7 @@ use Rattle.octets.proofs.Tests.{and-left, and-right}
 use Rattle.octets.proofs.BytesLaws.{has-part, part-has, has-fits}
 use Rattle.descriptor.specs.declared.Fields.{Fields}
 use Rattle.descriptor.specs.declared.Reading.the-variants.{Read}
-use Rattle.image.specs.Layout.{idSize, rowPlace}
+use Rattle.image.specs.Layout.{idSize, rowPlace, rowSize, maskPlace, zeroPlace}
 use Rattle.image.specs.Image.{reading, idOf, row, hasId}
 use Rattle.image.specs.Check.{rowId, rowOffset, rowLength, idAmong, rowFits, rowAt}
 use Rattle.image.specs.Laws.{BodyIn}
@@ -56,8 +56,8 @@ past-more s seen i b p e =
 record Fits (s : List ℕ) (r at : ℕ) (f : Fields) : Type 0 where
   id : rowId s r ≡ part s (at + f .id) idSize
   offset : rowOffset s r ≡ at
-  mask : numberAt s (r + 24) 1 ≡ f .mask
-  zeros : numberAt s (r + 25) 7 ≡ 0
+  mask : numberAt s (r + maskPlace) 1 ≡ f .mask
+  zeros : numberAt s (r + zeroPlace) 7 ≡ 0
 
 -- It says so where it holds.
 fits-says : (s : List ℕ) (r at : ℕ) (f : Fields) → rowFits s r at f ≡ true → Fits s r at f
@@ -65,15 +65,15 @@ unfolding rowFits
 fits-says s r at f e =
     let a : Bool = same (rowId s r) (part s (at + f .id) idSize) in
     let b : Bool = eqb (rowOffset s r) at in
-    let c : Bool = eqb (numberAt s (r + 24) 1) (f .mask) in
-    let d : Bool = eqb (numberAt s (r + 25) 7) 0 in
+    let c : Bool = eqb (numberAt s (r + maskPlace) 1) (f .mask) in
+    let d : Bool = eqb (numberAt s (r + zeroPlace) 7) 0 in
     let e₁ = and-right a (b && (c && d)) e in
     let e₂ = and-right b (c && d) e₁ in
     record {
       id = same-true (rowId s r) (part s (at + f .id) idSize) (and-left a (b && (c && d)) e);
       offset = eqb-true (rowOffset s r) at (and-left b (c && d) e₁);
-      mask = eqb-true (numberAt s (r + 24) 1) (f .mask) (and-left c d e₂);
-      zeros = eqb-true (numberAt s (r + 25) 7) 0 (and-right c d e₂);
+      mask = eqb-true (numberAt s (r + maskPlace) 1) (f .mask) (and-left c d e₂);
+      zeros = eqb-true (numberAt s (r + zeroPlace) 7) 0 (and-right c d e₂);
     }
 
 -- It holds where it says so.
@@ -83,8 +83,8 @@ says-fits s r at f q =
     rw (
       true-same (rowId s r) (part s (at + f .id) idSize) (q .id),
       eq-eqb (rowOffset s r) at (q .offset),
-      eq-eqb (numberAt s (r + 24) 1) (f .mask) (q .mask),
-      eq-eqb (numberAt s (r + 25) 7) 0 (q .zeros),
+      eq-eqb (numberAt s (r + maskPlace) 1) (f .mask) (q .mask),
+      eq-eqb (numberAt s (r + zeroPlace) 7) 0 (q .zeros),
     )
 
 -- A body that stands with its row, after those of `seen`.
@@ -95,7 +95,7 @@ pub record Stands (s : List ℕ) (seen : List (List ℕ)) (i at : ℕ) (b : List
   pub has-body : Has s at b
 
 -- A row that passes the check stands with its body.
-pub row-sound : (s : List ℕ) (seen : List (List ℕ)) (i at : ℕ) (f : Fields) (next : ℕ) → AreBytes s → rowPlace i + 32 ≤ length s → Past s seen i
+pub row-sound : (s : List ℕ) (seen : List (List ℕ)) (i at : ℕ) (f : Fields) (next : ℕ) → AreBytes s → rowPlace i + rowSize ≤ length s → Past s seen i
     → got f next ≡ rowAt s i at → (b : List ℕ) × Stands s seen i at b f × (next ≡ at + length b)
 row-sound s seen i at f next bytes room p e =
     let r : ℕ = rowPlace i in

@@ -3,7 +3,7 @@ use mathlib.Core.Path.{_≡_, refl, sym, ap, ap₂, _∙_}
 use mathlib.Core.Logic.{_⊎_, inl, inr}
 use mathlib.Core.Bool.{Bool, true, false, not, _&&_, and-assoc}
 use mathlib.Core.List.{List}
-use Prim.Native.Nat.{ℕ, _+_, _-_, _*_, _≤_, _<_}
+use Prim.Native.Nat.{ℕ, _+_, _-_, _≤_, _<_}
 use native.Mathlib.Omega.{arith}
 use lib.ListN.{length, take, drop}
 use lib.Dec.{leb, eqb}
@@ -29,7 +29,7 @@ use Rattle.image.specs.declared.Survey.{Survey}
 use Rattle.image.specs.declared.Survey.the-variants.{Unsound}
 use Rattle.image.specs.declared.Finding.the-variants.{BadId}
 use Rattle.image.specs.declared.Made.the-variants.{Done, TooShort}
-use Rattle.image.specs.Layout.{imageEdition, modeEdition, mostRows, rowPlace}
+use Rattle.image.specs.Layout.{imageEdition, modeEdition, mostRows, rowPlace, rowSize, idSize, countPlace, offsetPlace, lengthPlace, maskPlace, zeroPlace}
 use Rattle.image.specs.Image.{reading}
 use Rattle.image.specs.Check.{rowCount, rowId, rowLength, headerFits, idAmong, rowFits, onRead, rowAt, noted, rowsFrom, checked, surveyed, surveyOf, foundIn, findOf}
 use Rattle.image.specs.Fresh.{fresh, madeOf, afterNew}
@@ -55,13 +55,13 @@ and-four : (a b c d : Bool) → (((a && b) && c) && d) ≡ (a && (b && (c && d))
 and-four a b c d = and-assoc (a && b) c d ∙ and-assoc a b (c && d)
 
 -- The four tests of the code are those of the header.
-pub header-is : (s : List ℕ) (a b c d : ℕ) → 8 ≤ length s → a ≡ numberIn s 0 2 → b ≡ numberIn s 2 2 → c ≡ numberIn s 4 2 → d ≡ numberIn s 6 2
+pub header-is : (s : List ℕ) (a b c d : ℕ) → 8 ≤ length s → a ≡ numberIn s 0 2 → b ≡ numberIn s 2 2 → c ≡ numberIn s countPlace 2 → d ≡ numberIn s 6 2
     → (((eqb a imageEdition && eqb b modeEdition) && leb c mostRows) && eqb d 0) ≡ headerFits s
 unfolding headerFits rowCount
 header-is s a b c d h ea eb ec ed =
     let fa : a ≡ numberAt s 0 2 = ea ∙ number-in s 0 2 (omega arith) (omega arith) in
     let fb : b ≡ numberAt s 2 2 = eb ∙ number-in s 2 2 (omega arith) (omega arith) in
-    let fc : c ≡ numberAt s 4 2 = ec ∙ number-in s 4 2 (omega arith) (omega arith) in
+    let fc : c ≡ numberAt s countPlace 2 = ec ∙ number-in s countPlace 2 (omega arith) (omega arith) in
     let fd : d ≡ numberAt s 6 2 = ed ∙ number-in s 6 2 (omega arith) (omega arith) in
     and-four (eqb a imageEdition) (eqb b modeEdition) (leb c mostRows) (eqb d 0)
     ∙ ap₂ (λ (x y : ℕ). eqb x imageEdition && (eqb y modeEdition && (leb c mostRows && eqb d 0))) fa fb
@@ -70,49 +70,49 @@ header-is s a b c d h ea eb ec ed =
 -- ---- one row
 
 -- The two ids that the code compares are those of the row and of the body.
-ids-are : (s : List ℕ) (r id : ℕ) (b : Bool) → b ≡ same (take (r + 16 - r) (drop r s)) (take (id + 16 - id) (drop id s)) → b ≡ same (part s r 16) (part s id 16)
-ids-are s r id b e = e ∙ ap₂ same (lent-part s r 16) (lent-part s id 16)
+ids-are : (s : List ℕ) (r id : ℕ) (b : Bool) → b ≡ same (take (r + idSize - r) (drop r s)) (take (id + idSize - id) (drop id s)) → b ≡ same (part s r idSize) (part s id idSize)
+ids-are s r id b e = e ∙ ap₂ same (lent-part s r idSize) (lent-part s id idSize)
 
 -- A row with another id does not fit.
 pub fits-not : (s : List ℕ) (r at : ℕ) (f : Fields) (b : Bool)
-    → b ≡ same (take (r + 16 - r) (drop r s)) (take (at + f .id + 16 - (at + f .id)) (drop (at + f .id) s)) → not b ≡ true → false ≡ rowFits s r at f
+    → b ≡ same (take (r + idSize - r) (drop r s)) (take (at + f .id + idSize - (at + f .id)) (drop (at + f .id) s)) → not b ≡ true → false ≡ rowFits s r at f
 unfolding rowFits
 fits-not s r at f b e t = rw (sym (ids-are s r (at + f .id) b e) ∙ not-true b t)
 
 -- A row with the body's id fits when the three tests of the code hold.
-pub fits-is : (s : List ℕ) (r at : ℕ) (f : Fields) (b : Bool) (x y z : ℕ) → r + 32 ≤ length s
-    → b ≡ same (take (r + 16 - r) (drop r s)) (take (at + f .id + 16 - (at + f .id)) (drop (at + f .id) s)) → not b ≡ false
-    → x ≡ numberIn s (r + 16) 4 → y ≡ numberIn s (r + 24) 1 → z ≡ numberIn s (r + 25) 7
+pub fits-is : (s : List ℕ) (r at : ℕ) (f : Fields) (b : Bool) (x y z : ℕ) → r + rowSize ≤ length s
+    → b ≡ same (take (r + idSize - r) (drop r s)) (take (at + f .id + idSize - (at + f .id)) (drop (at + f .id) s)) → not b ≡ false
+    → x ≡ numberIn s (r + offsetPlace) 4 → y ≡ numberIn s (r + maskPlace) 1 → z ≡ numberIn s (r + zeroPlace) 7
     → ((eqb x at && eqb y (f .mask)) && eqb z 0) ≡ rowFits s r at f
 unfolding rowFits
 fits-is s r at f b x y z h e t ex ey ez =
-    let fx : x ≡ numberAt s (r + 16) 4 = ex ∙ number-in s (r + 16) 4 (omega arith) (omega arith) in
-    let fy : y ≡ numberAt s (r + 24) 1 = ey ∙ number-in s (r + 24) 1 (omega arith) (omega arith) in
-    let fz : z ≡ numberAt s (r + 25) 7 = ez ∙ number-in s (r + 25) 7 (omega arith) (omega arith) in
+    let fx : x ≡ numberAt s (r + offsetPlace) 4 = ex ∙ number-in s (r + offsetPlace) 4 (omega arith) (omega arith) in
+    let fy : y ≡ numberAt s (r + maskPlace) 1 = ey ∙ number-in s (r + maskPlace) 1 (omega arith) (omega arith) in
+    let fz : z ≡ numberAt s (r + zeroPlace) 7 = ez ∙ number-in s (r + zeroPlace) 7 (omega arith) (omega arith) in
     rw (sym (ids-are s r (at + f .id) b e) ∙ not-false b t)
     (and-assoc (eqb x at) (eqb y (f .mask)) (eqb z 0)
     ∙ ap₂ (λ (u v : ℕ). eqb u at && (eqb v (f .mask) && eqb z 0)) fx fy
-    ∙ ap (λ (u : ℕ). eqb (numberAt s (r + 16) 4) at && (eqb (numberAt s (r + 24) 1) (f .mask) && eqb u 0)) fz)
+    ∙ ap (λ (u : ℕ). eqb (numberAt s (r + offsetPlace) 4) at && (eqb (numberAt s (r + maskPlace) 1) (f .mask) && eqb u 0)) fz)
 
 -- The code compares the id of the row with the id.
-pub id-is : (s id : List ℕ) (r : ℕ) (b : Bool) → b ≡ same (take (r + 16 - r) (drop r s)) id → b ≡ same (rowId s r) id
-id-is s id r b e = e ∙ ap (λ (x : List ℕ). same x id) (lent-part s r 16)
+pub id-is : (s id : List ℕ) (r : ℕ) (b : Bool) → b ≡ same (take (r + idSize - r) (drop r s)) id → b ≡ same (rowId s r) id
+id-is s id r b e = e ∙ ap (λ (x : List ℕ). same x id) (lent-part s r idSize)
 
 -- What row i answers once its body was read.
 abbrev pub afterRead : List ℕ → ℕ → ℕ → ℕ → Fields → Got Fields
 afterRead s i at n f = guard (rowFits s (rowPlace i) at f) (guard (not (idAmong s (rowId s (rowPlace i)) i)) (got f (at + n)))
 
 -- Row i, with the body's length as a number of its own.
-row-long : (s : List ℕ) (i at n : ℕ) → rowPlace i + 32 ≤ length s → n ≡ numberIn s (rowPlace i + 20) 4
+row-long : (s : List ℕ) (i at n : ℕ) → rowPlace i + rowSize ≤ length s → n ≡ numberIn s (rowPlace i + lengthPlace) 4
     → rowAt s i at ≡ guard (leb (at + n) (length s)) (onRead (reading (part s at n)) (afterRead s i at n))
 unfolding rowAt
 row-long s i at n h e =
     let r : ℕ = rowPlace i in
-    let k : n ≡ numberAt s (r + 20) 4 = e ∙ number-in s (r + 20) 4 (omega arith) (omega arith) in
+    let k : n ≡ numberAt s (r + lengthPlace) 4 = e ∙ number-in s (r + lengthPlace) 4 (omega arith) (omega arith) in
     ap (λ (m : ℕ). guard (leb (at + m) (length s)) (onRead (reading (part s at m)) (afterRead s i at m))) (sym k)
 
 -- A body that would end after the bytes is refused.
-pub row-short : (s : List ℕ) (i at n : ℕ) → rowPlace i + 32 ≤ length s → n ≡ numberIn s (rowPlace i + 20) 4 → at ≤ length s → length s - at < n → refused ≡ rowAt s i at
+pub row-short : (s : List ℕ) (i at n : ℕ) → rowPlace i + rowSize ≤ length s → n ≡ numberIn s (rowPlace i + lengthPlace) 4 → at ≤ length s → length s - at < n → refused ≡ rowAt s i at
 row-short s i at n h e l g = failed-leb (at + n) (length s) _ (omega arith) ∙ sym (row-long s i at n h e)
 
 -- What the code reads is the reading of the body.
@@ -121,7 +121,7 @@ unfolding reading
 reading-is s at n o e = e ∙ ap (λ (b : List ℕ). readingOf (readOf b)) (lent-part s at n)
 
 -- A body that ends within the bytes is read.
-pub row-read : (s : List ℕ) (i at n : ℕ) (o : Reading) → rowPlace i + 32 ≤ length s → n ≡ numberIn s (rowPlace i + 20) 4 → at ≤ length s → n ≤ length s - at
+pub row-read : (s : List ℕ) (i at n : ℕ) (o : Reading) → rowPlace i + rowSize ≤ length s → n ≡ numberIn s (rowPlace i + lengthPlace) 4 → at ≤ length s → n ≤ length s - at
     → o ≡ readingOf (readOf (take (at + n - at) (drop at s))) → rowAt s i at ≡ onRead o (afterRead s i at n)
 row-read s i at n o h e l g k =
     row-long s i at n h e
@@ -130,7 +130,7 @@ row-read s i at n o h e l g k =
 
 -- The id of a body that was read lies in it.
 pub id-room : (s : List ℕ) (at n : ℕ) (o : Reading) (f : Fields) → at ≤ length s → n ≤ length s - at
-    → o ≡ readingOf (readOf (take (at + n - at) (drop at s))) → o ≡ Read f → at + (f .id + 16) ≤ length s
+    → o ≡ readingOf (readOf (take (at + n - at) (drop at s))) → o ≡ Read f → at + (f .id + idSize) ≤ length s
 id-room s at n o f l g k e =
     omega (arith, read-in (part s at n) f (sym (reading-is s at n o k) ∙ e) .id, part-has s at n (omega arith) .1)
 
@@ -149,11 +149,11 @@ module _ (s : List ℕ) (i at n : ℕ) (o : Reading) (f : Fields) (e : o ≡ Rea
   row-other t = goes ∙ guard-no (rowFits s (rowPlace i) at f) _ (not-T-of b p t)
 
   -- The code looks for the row's id among those before.
-  among-is : (c : Bool) → c ≡ idAmong s (take (rowPlace i + 16 - rowPlace i) (drop (rowPlace i) s)) i → c ≡ idAmong s (rowId s (rowPlace i)) i
-  among-is c q = q ∙ ap (λ (x : List ℕ). idAmong s x i) (lent-part s (rowPlace i) 16)
+  among-is : (c : Bool) → c ≡ idAmong s (take (rowPlace i + idSize - rowPlace i) (drop (rowPlace i) s)) i → c ≡ idAmong s (rowId s (rowPlace i)) i
+  among-is c q = q ∙ ap (λ (x : List ℕ). idAmong s x i) (lent-part s (rowPlace i) idSize)
 
   -- A row whose id a row before has is refused.
-  pub row-twice : not b ≡ false → (c : Bool) → c ≡ idAmong s (take (rowPlace i + 16 - rowPlace i) (drop (rowPlace i) s)) i → c ≡ true
+  pub row-twice : not b ≡ false → (c : Bool) → c ≡ idAmong s (take (rowPlace i + idSize - rowPlace i) (drop (rowPlace i) s)) i → c ≡ true
       → onRead o (afterRead s i at n) ≡ refused
   row-twice t c q u =
       goes
@@ -162,7 +162,7 @@ module _ (s : List ℕ) (i at n : ℕ) (o : Reading) (f : Fields) (e : o ≡ Rea
       ∙ guard-no false (got f (at + n)) tt
 
   -- Another row is answered with what was read of its body, and the place after the body.
-  pub row-good : not b ≡ false → (c : Bool) → c ≡ idAmong s (take (rowPlace i + 16 - rowPlace i) (drop (rowPlace i) s)) i → c ≡ false
+  pub row-good : not b ≡ false → (c : Bool) → c ≡ idAmong s (take (rowPlace i + idSize - rowPlace i) (drop (rowPlace i) s)) i → c ≡ false
       → onRead o (afterRead s i at n) ≡ got f (at + n)
   row-good t c q u =
       goes
@@ -174,7 +174,7 @@ module _ (s : List ℕ) (i at n : ℕ) (o : Reading) (f : Fields) (e : o ≡ Rea
 
 -- A row that passes leaves the rows after it, with what the code noted.
 pub rows-noted : (s id : List ℕ) (n i at : ℕ) (h h′ : Held) (f : Fields) (next : ℕ) (hit : Bool) → i < n → got f next ≡ rowAt s i at
-    → hit ≡ same (take (rowPlace i + 16 - rowPlace i) (drop (rowPlace i) s)) id → h′ ≡ noted hit h at (next - at) f
+    → hit ≡ same (take (rowPlace i + idSize - rowPlace i) (drop (rowPlace i) s)) id → h′ ≡ noted hit h at (next - at) f
     → rowsFrom s id (n - i) i at h ≡ rowsFrom s id (n - (i + 1)) (i + 1) next h′
 rows-noted s id n i at h h′ f next hit l e p q =
     let len : rowLength s (rowPlace i) ≡ next - at = omega (arith, row-next-is s i at f next e .0) in
@@ -190,12 +190,12 @@ unfolding surveyOf
 unsound s id e = ap (surveyed (rowCount s)) e
 
 -- The row count is the number that the code reads.
-count-is : (s : List ℕ) (n : ℕ) → 8 ≤ length s → n ≡ numberIn s 4 2 → n ≡ rowCount s
+count-is : (s : List ℕ) (n : ℕ) → 8 ≤ length s → n ≡ numberIn s countPlace 2 → n ≡ rowCount s
 unfolding rowCount
-count-is s n h e = e ∙ number-in s 4 2 (omega arith) (omega arith)
+count-is s n h e = e ∙ number-in s countPlace 2 (omega arith) (omega arith)
 
 -- A header that fits has at most 64 rows.
-pub header-few : (s : List ℕ) (n : ℕ) (b : Bool) → 8 ≤ length s → b ≡ headerFits s → not b ≡ false → n ≡ numberIn s 4 2 → n ≤ 64
+pub header-few : (s : List ℕ) (n : ℕ) (b : Bool) → 8 ≤ length s → b ≡ headerFits s → not b ≡ false → n ≡ numberIn s countPlace 2 → n ≤ mostRows
 unfolding headerFits
 header-few s n b h p t e =
     let y : headerFits s ≡ true = sym p ∙ not-false b t in
@@ -214,19 +214,19 @@ module _ (s id : List ℕ) (h : 8 ≤ length s) (b : Bool) (p : b ≡ headerFits
   survey-header t = unsound s id (passed-leb 8 (length s) h (failed (headerFits s) _ (not-T-of b p t)))
 
   -- Rows that would end after the bytes are not sound.
-  pub survey-long : not b ≡ false → (n : ℕ) → n ≡ numberIn s 4 2 → length s < 8 + 32 * n → Unsound ≡ surveyOf s id
+  pub survey-long : not b ≡ false → (n : ℕ) → n ≡ numberIn s countPlace 2 → length s < rowPlace n → Unsound ≡ surveyOf s id
   unfolding checked
   survey-long t n e l =
       unsound s id (passed-leb 8 (length s) h (passed (headerFits s) (T-of-not b p t)
       (failed-leb (rowPlace (rowCount s)) (length s) _ (omega (arith, count-is s n h e)))))
 
   -- Else the rows tell.
-  pub survey-rows : not b ≡ false → (n : ℕ) → n ≡ numberIn s 4 2 → 8 + 32 * n ≤ length s → (r : Survey)
-      → r ≡ surveyed n (rowsFrom s id n 0 (8 + 32 * n) Missing) → r ≡ surveyOf s id
+  pub survey-rows : not b ≡ false → (n : ℕ) → n ≡ numberIn s countPlace 2 → rowPlace n ≤ length s → (r : Survey)
+      → r ≡ surveyed n (rowsFrom s id n 0 (rowPlace n) Missing) → r ≡ surveyOf s id
   unfolding checked surveyOf
   survey-rows t n e l r q =
       q
-      ∙ ap (λ (m : ℕ). surveyed m (rowsFrom s id m 0 (8 + 32 * m) Missing)) (count-is s n h e)
+      ∙ ap (λ (m : ℕ). surveyed m (rowsFrom s id m 0 (rowPlace m) Missing)) (count-is s n h e)
       ∙ ap (surveyed (rowCount s)) (passed-leb 8 (length s) h (passed (headerFits s) (T-of-not b p t)
       (passed-leb (rowPlace (rowCount s)) (length s) (omega (arith, count-is s n h e)) refl)))
 

@@ -13,7 +13,7 @@ use Rattle.octets.proofs.ListLaws.{has-after, has-both}
 use Rattle.descriptor.specs.declared.Fields.{Fields}
 use Rattle.descriptor.specs.declared.Reading.{Reading}
 use Rattle.descriptor.specs.declared.Reading.the-variants.{Read, Structure, Validity}
-use Rattle.image.specs.Layout.{idSize, rowPlace}
+use Rattle.image.specs.Layout.{idSize, rowPlace, headerSize, rowSize, offsetPlace, lengthPlace, maskPlace, zeroPlace}
 use Rattle.image.specs.Image.{reading, idIn, maskIn, idOf, modesOf, header, row, rowsOf, joined, imageOf}
 use Rattle.image.specs.Check.{rowId, rowOffset, rowLength}
 use Rattle.image.proofs.BodyLaws.{read-in}
@@ -54,17 +54,17 @@ modes-small b = go (reading b) refl
 -- ---- lengths
 
 -- The header has 8 bytes.
-pub header-length : (n : ℕ) → length (header n) ≡ 8
+pub header-length : (n : ℕ) → length (header n) ≡ headerSize
 unfolding header
 header-length n = simp (length-append, length-bigEndian)
 
 -- A row has 32 bytes.
-pub row-length : (at : ℕ) (b : List ℕ) → length (row at b) ≡ 32
+pub row-length : (at : ℕ) (b : List ℕ) → length (row at b) ≡ rowSize
 unfolding row
 row-length at b = simp (length-append, id-length, length-bigEndian)
 
 -- Rows have 32 bytes each.
-pub rows-length : (at : ℕ) (bs : List (List ℕ)) → length (rowsOf at bs) ≡ 32 * length bs
+pub rows-length : (at : ℕ) (bs : List (List ℕ)) → length (rowsOf at bs) ≡ rowSize * length bs
 unfolding rowsOf
 rows-length at [] = refl
 rows-length at (b ∷ bs) = omega (arith, length-append (row at b) (rowsOf (at + length b) bs), row-length at b, rows-length (at + length b) bs)
@@ -109,15 +109,15 @@ row-parts s r at b h =
     let m : List ℕ = bigEndian 1 (modesOf b) in
     let n : List ℕ = bigEndian 4 (length b) in
     let o : List ℕ = bigEndian 4 at in
-    let h₁ : Has s (r + 16) (o ++ (n ++ (m ++ z))) = has-after s r 16 (r + 16) (idOf b) _ (id-length b) refl h in
-    let h₂ : Has s (r + 20) (n ++ (m ++ z)) = has-after s (r + 16) 4 (r + 20) o _ (length-bigEndian 4 at) (omega arith) h₁ in
-    let h₃ : Has s (r + 24) (m ++ z) = has-after s (r + 20) 4 (r + 24) n _ (length-bigEndian 4 (length b)) (omega arith) h₂ in
-    let h₄ : Has s (r + 25) z = has-after s (r + 24) 1 (r + 25) m z (length-bigEndian 1 (modesOf b)) (omega arith) h₃ in
+    let h₁ : Has s (r + offsetPlace) (o ++ (n ++ (m ++ z))) = has-after s r 16 (r + offsetPlace) (idOf b) _ (id-length b) refl h in
+    let h₂ : Has s (r + lengthPlace) (n ++ (m ++ z)) = has-after s (r + offsetPlace) 4 (r + lengthPlace) o _ (length-bigEndian 4 at) (omega arith) h₁ in
+    let h₃ : Has s (r + maskPlace) (m ++ z) = has-after s (r + lengthPlace) 4 (r + maskPlace) n _ (length-bigEndian 4 (length b)) (omega arith) h₂ in
+    let h₄ : Has s (r + zeroPlace) z = has-after s (r + maskPlace) 1 (r + zeroPlace) m z (length-bigEndian 1 (modesOf b)) (omega arith) h₃ in
     record {
       id = has-left s r (idOf b) _ h;
-      offset = has-left s (r + 16) o _ h₁;
-      size = has-left s (r + 20) n _ h₂;
-      mask = has-left s (r + 24) m z h₃;
+      offset = has-left s (r + offsetPlace) o _ h₁;
+      size = has-left s (r + lengthPlace) n _ h₂;
+      mask = has-left s (r + maskPlace) m z h₃;
       zeros = h₄;
     }
 
@@ -125,43 +125,43 @@ row-parts s r at b h =
 pub parts-row : (s : List ℕ) (r at : ℕ) (b : List ℕ) → RowParts s r at b → Has s r (row at b)
 unfolding row
 parts-row s r at b p =
-    has-both s r 16 (r + 16) (idOf b) _ (id-length b) refl (p .id)
-    (has-both s (r + 16) 4 (r + 20) (bigEndian 4 at) _ (length-bigEndian 4 at) (omega arith) (p .offset)
-    (has-both s (r + 20) 4 (r + 24) (bigEndian 4 (length b)) _ (length-bigEndian 4 (length b)) (omega arith) (p .size)
-    (has-both s (r + 24) 1 (r + 25) (bigEndian 1 (modesOf b)) _ (length-bigEndian 1 (modesOf b)) (omega arith) (p .mask) (p .zeros))))
+    has-both s r 16 (r + offsetPlace) (idOf b) _ (id-length b) refl (p .id)
+    (has-both s (r + offsetPlace) 4 (r + lengthPlace) (bigEndian 4 at) _ (length-bigEndian 4 at) (omega arith) (p .offset)
+    (has-both s (r + lengthPlace) 4 (r + maskPlace) (bigEndian 4 (length b)) _ (length-bigEndian 4 (length b)) (omega arith) (p .size)
+    (has-both s (r + maskPlace) 1 (r + zeroPlace) (bigEndian 1 (modesOf b)) _ (length-bigEndian 1 (modesOf b)) (omega arith) (p .mask) (p .zeros))))
 
 -- What the numbers of the row at r say.
 pub record RowSays (s : List ℕ) (r at : ℕ) (b : List ℕ) : Type 0 where
-  pub inside : r + 32 ≤ length s
+  pub inside : r + rowSize ≤ length s
   pub id : rowId s r ≡ idOf b
   pub offset : rowOffset s r ≡ at
   pub size : rowLength s r ≡ length b
-  pub mask : numberAt s (r + 24) 1 ≡ modesOf b
-  pub zeros : numberAt s (r + 25) 7 ≡ 0
+  pub mask : numberAt s (r + maskPlace) 1 ≡ modesOf b
+  pub zeros : numberAt s (r + zeroPlace) 7 ≡ 0
 
 -- The row of a body that lies below 2 ^ 32 and is shorter than that says where it lies and how long it is.
 pub row-says : (s : List ℕ) (r at : ℕ) (b : List ℕ) → at < 4294967296 → length b < 4294967296 → Has s r (row at b) → RowSays s r at b
 row-says s r at b small short h =
     let p : RowParts s r at b = row-parts s r at b h in
-    let l : length (row at b) ≡ 32 = row-length at b in
-    let i : r + 32 ≤ length s = omega (arith, has-fits s r (row at b) (omega arith) h) in
+    let l : length (row at b) ≡ rowSize = row-length at b in
+    let i : r + rowSize ≤ length s = omega (arith, has-fits s r (row at b) (omega arith) h) in
     record {
       inside = i;
       id = ap (part s r) (sym (id-length b)) ∙ has-part s r (idOf b) (p .id);
-      offset = number-of-has s (r + 16) 4 at small (omega arith) (p .offset);
-      size = number-of-has s (r + 20) 4 (length b) short (omega arith) (p .size);
-      mask = number-of-has s (r + 24) 1 (modesOf b) (omega (arith, modes-small b)) (omega arith) (p .mask);
-      zeros = number-of-has s (r + 25) 7 0 (omega arith) (omega arith) (p .zeros);
+      offset = number-of-has s (r + offsetPlace) 4 at small (omega arith) (p .offset);
+      size = number-of-has s (r + lengthPlace) 4 (length b) short (omega arith) (p .size);
+      mask = number-of-has s (r + maskPlace) 1 (modesOf b) (omega (arith, modes-small b)) (omega arith) (p .mask);
+      zeros = number-of-has s (r + zeroPlace) 7 0 (omega arith) (omega arith) (p .zeros);
     }
 
 -- Bytes of which the numbers say so are the row of the body.
 pub says-row : (s : List ℕ) (r at : ℕ) (b : List ℕ) → AreBytes s → RowSays s r at b → Has s r (row at b)
 says-row s r at b bytes q =
-    let i : r + 32 ≤ length s = q .inside in
+    let i : r + rowSize ≤ length s = q .inside in
     parts-row s r at b (record {
       id = subst (Has s r) (q .id) (part-has s r 16 (omega arith) .0);
-      offset = subst (λ (n : ℕ). Has s (r + 16) (bigEndian 4 n)) (q .offset) (has-of-number s (r + 16) 4 bytes (omega arith));
-      size = subst (λ (n : ℕ). Has s (r + 20) (bigEndian 4 n)) (q .size) (has-of-number s (r + 20) 4 bytes (omega arith));
-      mask = subst (λ (n : ℕ). Has s (r + 24) (bigEndian 1 n)) (q .mask) (has-of-number s (r + 24) 1 bytes (omega arith));
-      zeros = subst (λ (n : ℕ). Has s (r + 25) (bigEndian 7 n)) (q .zeros) (has-of-number s (r + 25) 7 bytes (omega arith));
+      offset = subst (λ (n : ℕ). Has s (r + offsetPlace) (bigEndian 4 n)) (q .offset) (has-of-number s (r + offsetPlace) 4 bytes (omega arith));
+      size = subst (λ (n : ℕ). Has s (r + lengthPlace) (bigEndian 4 n)) (q .size) (has-of-number s (r + lengthPlace) 4 bytes (omega arith));
+      mask = subst (λ (n : ℕ). Has s (r + maskPlace) (bigEndian 1 n)) (q .mask) (has-of-number s (r + maskPlace) 1 bytes (omega arith));
+      zeros = subst (λ (n : ℕ). Has s (r + zeroPlace) (bigEndian 7 n)) (q .zeros) (has-of-number s (r + zeroPlace) 7 bytes (omega arith));
     })

@@ -11,7 +11,7 @@ use Rattle.octets.proofs.BytesLaws.{has-left, has-right, has-join, has-nil, has
 use Rattle.exact.proofs.ReadsLaws.{bind-got}
 use Rattle.descriptor.specs.declared.Fields.{Fields}
 use Rattle.image.specs.declared.Held.{Held}
-use Rattle.image.specs.Layout.{rowPlace}
+use Rattle.image.specs.Layout.{rowPlace, rowSize}
 use Rattle.image.specs.Image.{reading, idOf, row, rowsOf, joined, BodyOk, seenWith}
 use Rattle.image.specs.Check.{rowId, rowOffset, rowLength, rowAt, noted, rowsFrom, bodiesFrom}
 use Rattle.image.proofs.BodyLaws.{read-in}
@@ -53,7 +53,7 @@ pub run-rest : (s : List ℕ) (seen : List (List ℕ)) (i at : ℕ) (b : List �
 unfolding rowsOf joined
 run-rest s seen i at b bs g = record {
   each = g .each .1;
-  has-rows = has-after s (rowPlace i) 32 (rowPlace (i + 1)) (row at b) (rowsOf (at + length b) bs) (row-length at b) (omega arith) (g .has-rows);
+  has-rows = has-after s (rowPlace i) rowSize (rowPlace (i + 1)) (row at b) (rowsOf (at + length b) bs) (row-length at b) (omega arith) (g .has-rows);
   has-bodies = has-right s at b (joined bs) (g .has-bodies);
 }
 
@@ -63,7 +63,7 @@ pub run-more : (s : List ℕ) (seen : List (List ℕ)) (i at : ℕ) (b : List �
 unfolding rowsOf joined
 run-more s seen i at b f bs h g = record {
   each = (record { reads = is-read b f (h .reads); new = h .new }, g .each);
-  has-rows = has-both s (rowPlace i) 32 (rowPlace (i + 1)) (row at b) (rowsOf (at + length b) bs) (row-length at b) (omega arith) (h .has-row) (g .has-rows);
+  has-rows = has-both s (rowPlace i) rowSize (rowPlace (i + 1)) (row at b) (rowsOf (at + length b) bs) (row-length at b) (omega arith) (h .has-row) (g .has-rows);
   has-bodies = has-join s at b (joined bs) (h .has-body) (g .has-bodies);
 }
 

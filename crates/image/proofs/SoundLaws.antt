@@ -16,7 +16,7 @@ use Rattle.octets.proofs.NumberLaws.{length-bigEndian, number-of-has, has-of-nu
 use Rattle.octets.proofs.OverLaws.{has-front}
 use Rattle.image.specs.declared.Held.{Held}
 use Rattle.image.specs.declared.Held.the-variants.{Missing}
-use Rattle.image.specs.Layout.{imageEdition, modeEdition, headerSize, mostRows, rowPlace}
+use Rattle.image.specs.Layout.{imageEdition, modeEdition, headerSize, mostRows, rowPlace, countPlace}
 use Rattle.image.specs.Image.{header, rowsOf, joined, imageOf, BodiesOk, Holds}
 use Rattle.image.specs.Check.{rowCount, headerFits, rowsFrom, checked, bodiesFrom, bodiesOf}
 use Rattle.image.specs.Laws.{ImageParts, ImageStands}
@@ -34,7 +34,7 @@ pub record HeaderSays (s : List ℕ) (n : ℕ) : Type 0 where
   pub inside : 8 ≤ length s
   pub edition : numberAt s 0 2 ≡ imageEdition
   pub modes : numberAt s 2 2 ≡ modeEdition
-  pub count : numberAt s 4 2 ≡ n
+  pub count : numberAt s countPlace 2 ≡ n
   pub zeros : numberAt s 6 2 ≡ 0
 
 -- The header of fewer than 65536 rows says how many.
@@ -69,23 +69,23 @@ says-header s n bytes q =
     (has-both s 4 2 6 (bigEndian 2 n) _ (length-bigEndian 2 n) refl (number 4 n (omega arith) (q .count)) (number 6 0 (omega arith) (q .zeros))))
 
 -- The test of the header holds where its numbers say so.
-pub says-fits : (s : List ℕ) (n : ℕ) → n ≤ 64 → HeaderSays s n → headerFits s ≡ true
+pub says-fits : (s : List ℕ) (n : ℕ) → n ≤ mostRows → HeaderSays s n → headerFits s ≡ true
 unfolding headerFits rowCount
 says-fits s n few q =
     rw (
       eq-eqb (numberAt s 0 2) imageEdition (q .edition),
       eq-eqb (numberAt s 2 2) modeEdition (q .modes),
-      le-leb (numberAt s 4 2) mostRows (omega (arith, q .count)),
+      le-leb (numberAt s countPlace 2) mostRows (omega (arith, q .count)),
       eq-eqb (numberAt s 6 2) 0 (q .zeros),
     )
 
 -- The numbers say so where the test of the header holds.
-pub fits-says : (s : List ℕ) → 8 ≤ length s → headerFits s ≡ true → HeaderSays s (rowCount s) × (rowCount s ≤ 64)
+pub fits-says : (s : List ℕ) → 8 ≤ length s → headerFits s ≡ true → HeaderSays s (rowCount s) × (rowCount s ≤ mostRows)
 unfolding headerFits rowCount
 fits-says s l e =
     let a : Bool = eqb (numberAt s 0 2) imageEdition in
     let b : Bool = eqb (numberAt s 2 2) modeEdition in
-    let c : Bool = leb (numberAt s 4 2) mostRows in
+    let c : Bool = leb (numberAt s countPlace 2) mostRows in
     let d : Bool = eqb (numberAt s 6 2) 0 in
     let e₁ = and-right a (b && (c && d)) e in
     let e₂ = and-right b (c && d) e₁ in (
@@ -96,7 +96,7 @@ fits-says s l e =
         count = refl;
         zeros = eqb-true (numberAt s 6 2) 0 (and-right c d e₂);
       },
-      leb-true (numberAt s 4 2) mostRows (and-left c d e₂),
+      leb-true (numberAt s countPlace 2) mostRows (and-left c d e₂),
     )
 
 -- ---- the whole image
@@ -160,7 +160,7 @@ pub check-complete : (s id : List ℕ) (bs : List (List ℕ)) → Holds s bs →
 unfolding checked guard heldIn
 check-complete s id bs h =
     let n : ℕ = length bs in
-    let few : n ≤ 64 = h .bodies .few in
+    let few : n ≤ mostRows = h .bodies .few in
     let q : HeaderSays s n = holds-says s bs h in
     let room : rowPlace n ≤ length s = omega (arith, holds-room s bs h, image-length bs) in
     rw (count-of s bs h, le-leb headerSize (length s) (q .inside), says-fits s n few q, le-leb (rowPlace n) (length s) room)
@@ -214,5 +214,5 @@ check-sound s id bytes h end e =
 pub holds-bodies : (s : List ℕ) (bs : List (List ℕ)) → Holds s bs → bodiesOf s ≡ bs
 unfolding bodiesOf
 holds-bodies s bs h =
-    let few : length bs ≤ 64 = h .bodies .few in
+    let few : length bs ≤ mostRows = h .bodies .few in
     ap (λ (n : ℕ). bodiesFrom s n 0) (count-of s bs h) ∙ rows-bodies s bs [] 0 (rowPlace (length bs)) (omega arith) (holds-run s bs h)

@@ -20,14 +20,14 @@ use Rattle.image.specs.declared.StoredNumbers.{StoredNumbers}
 use Rattle.image.specs.declared.Finding.the-variants.{Found, BadId, BadImage, NotHeld}
 use Rattle.image.specs.declared.rows.RowRead.{RowRead}
 use Rattle.image.specs.declared.rows.RowRead.the-variants.{IsRow, NoRow}
-use Rattle.image.specs.Layout.{imageEdition, modeEdition, headerSize, idSize, mostRows, rowPlace}
+use Rattle.image.specs.Layout.{imageEdition, modeEdition, headerSize, idSize, mostRows, countPlace, offsetPlace, lengthPlace, maskPlace, zeroPlace, rowPlace}
 use Rattle.image.specs.Image.{reading}
 
 -- ---- numbers of the header and of the row at r
 
 -- the row count
 unfoldable pub rowCount : List ℕ → ℕ
-rowCount s = numberAt s 4 2
+rowCount s = numberAt s countPlace 2
 
 -- the id of the row
 abbrev pub rowId : List ℕ → ℕ → List ℕ
@@ -35,11 +35,11 @@ rowId s r = part s r idSize
 
 -- the body's offset
 abbrev pub rowOffset : List ℕ → ℕ → ℕ
-rowOffset s r = numberAt s (r + 16) 4
+rowOffset s r = numberAt s (r + offsetPlace) 4
 
 -- the body's length
 abbrev pub rowLength : List ℕ → ℕ → ℕ
-rowLength s r = numberAt s (r + 20) 4
+rowLength s r = numberAt s (r + lengthPlace) 4
 
 -- the editions are known, the row count is at most 64, and zero follows
 unfoldable pub headerFits : List ℕ → Bool
@@ -57,7 +57,7 @@ idAmong s id (suc n) = elim (same (rowId s (rowPlace n)) id) [ true ↦ true | f
 unfoldable pub rowFits : List ℕ → ℕ → ℕ → Fields → Bool
 rowFits s r at f =
     same (rowId s r) (part s (at + f .id) idSize)
-    && (eqb (rowOffset s r) at && (eqb (numberAt s (r + 24) 1) (f .mask) && eqb (numberAt s (r + 25) 7) 0))
+    && (eqb (rowOffset s r) at && (eqb (numberAt s (r + maskPlace) 1) (f .mask) && eqb (numberAt s (r + zeroPlace) 7) 0))
 
 -- what was read, and then a reader
 abbrev pub onRead : {R : Type 0} → Reading → (Fields → Got R) → Got R

@@ -27,7 +27,7 @@ use Rattle.image.specs.Check.{surveyOf, bodiesOf}
 pub record BodyIn (b : List ℕ) (f : Fields) : Type 0 where
   pub short : length b ≤ 32768
   pub filled : 0 < length b
-  pub id : f .id + 16 ≤ length b
+  pub id : f .id + idSize ≤ length b
   pub fay : f .fay + 40 ≤ length b
   pub terminal : f .terminal + 45 ≤ length b
   pub mask : f .mask < 16

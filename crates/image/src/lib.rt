@@ -1,5 +1,5 @@
 // The stored image of document 01: a table of contents, then the bodies. What is promised is in specs/Promises.antt.
-mod layout;
+pub mod layout;
 mod rows;
 
 use descriptor::Fields;

@@ -1,19 +1,25 @@
 // The check of an image, row by row.
 use crate::Held;
 use crate::Survey;
+use crate::layout::COUNT_PLACE;
 use crate::layout::HEADER_SIZE;
 use crate::layout::ID_SIZE;
 use crate::layout::IMAGE_EDITION;
+use crate::layout::LENGTH_PLACE;
+use crate::layout::MASK_PLACE;
 use crate::layout::MODE_EDITION;
 use crate::layout::MOST_ROWS;
+use crate::layout::OFFSET_PLACE;
 use crate::layout::ROW_SIZE;
+use crate::layout::ZERO_PLACE;
 use descriptor::Fields;
 use descriptor::Reading;
 use octets::number_at;
 use octets::same_bytes;
 ghost use mathlib.Core.Path.{_≡_};
-ghost use Prim.Native.Nat.{_+_, _*_, _≤_, _<_};
+ghost use Prim.Native.Nat.{_+_, _≤_, _<_};
 ghost use lib.ListN.{length};
+ghost use Rattle.image.specs.Layout.{headerSize, rowSize, idSize, mostRows, rowPlace};
 ghost use Rattle.image.specs.Check.{headerFits, idAmong, rowFits, rowAt, rowRead, noted, rowCount, rowsFrom, surveyed, surveyOf};
 
 // What was read of a row's body, and the place after it.
@@ -24,18 +30,18 @@ pub(crate) enum RowRead {
 
 // Whether the header has known editions, at most 64 rows and zero.
 fn header_fits(s: &[u8]) -> bool
-    requires { ⌜ 8 ≤ length (now s) ⌝ }
+    requires { ⌜ headerSize ≤ length (now s) ⌝ }
     ensures { λ r. ⌜ r ≡ headerFits (now (s .entry)) ⌝ }
 {
     (number_at(s, 0, 2) == IMAGE_EDITION)
         & (number_at(s, 2, 2) == MODE_EDITION)
-        & (number_at(s, 4, 2) <= MOST_ROWS)
+        & (number_at(s, COUNT_PLACE, 2) <= MOST_ROWS)
         & (number_at(s, 6, 2) == 0)
 }
 
 // Whether one of the first n rows has the id.
 fn id_among(s: &[u8], id: &[u8], n: usize) -> bool
-    requires { ⌜ (n ≤ 64) × (8 + 32 * n ≤ length (now s)) ⌝ }
+    requires { ⌜ (n ≤ mostRows) × (rowPlace n ≤ length (now s)) ⌝ }
     ensures { λ r. ⌜ r ≡ idAmong (now (s .entry)) (now (id .entry)) n ⌝ }
 {
     let mut i = n;
@@ -51,25 +57,25 @@ fn id_among(s: &[u8], id: &[u8], n: usize) -> bool
 
 // Whether the row at r is that of the body at `at`.
 fn row_fits(s: &[u8], r: usize, at: usize, fields: Fields) -> bool
-    requires { ⌜ (r + 32 ≤ length (now s)) × (at + (fields .id + 16) ≤ length (now s)) ⌝ }
+    requires { ⌜ (r + rowSize ≤ length (now s)) × (at + (fields .id + idSize) ≤ length (now s)) ⌝ }
     ensures { λ o. ⌜ o ≡ rowFits (now (s .entry)) r at fields ⌝ }
 {
     let id = at + fields.id;
     if !same_bytes(&s[r..r + ID_SIZE], &s[id..id + ID_SIZE]) {
         return false;
     }
-    (number_at(s, r + 16, 4) == at as u64)
-        & (number_at(s, r + 24, 1) == fields.mask)
-        & (number_at(s, r + 25, 7) == 0)
+    (number_at(s, r + OFFSET_PLACE, 4) == at as u64)
+        & (number_at(s, r + MASK_PLACE, 1) == fields.mask)
+        & (number_at(s, r + ZERO_PLACE, 7) == 0)
 }
 
 // Row i, whose body begins at `at`.
 fn row_at(s: &[u8], i: usize, at: usize) -> RowRead
-    requires { ⌜ (i < 64) × (8 + 32 * i + 32 ≤ length (now s)) × (at ≤ length (now s)) ⌝ }
+    requires { ⌜ (i < mostRows) × (rowPlace i + rowSize ≤ length (now s)) × (at ≤ length (now s)) ⌝ }
     ensures { λ o. ⌜ rowRead o ≡ rowAt (now (s .entry)) i at ⌝ }
 {
     let r = HEADER_SIZE + ROW_SIZE * i;
-    let n = number_at(s, r + 20, 4) as usize;
+    let n = number_at(s, r + LENGTH_PLACE, 4) as usize;
     if s.len() - at < n {
         return RowRead::NoRow;
     }
@@ -103,8 +109,8 @@ fn note(hit: bool, held: Held, at: usize, len: usize, fields: Fields) -> Held
 
 // All n rows, and the body with the id.
 fn all_rows(s: &[u8], id: &[u8], n: usize) -> Survey
-    requires { ⌜ (n ≤ 64) × (8 + 32 * n ≤ length (now s)) ⌝ }
-    ensures { λ r. ⌜ r ≡ surveyed n (rowsFrom (now (s .entry)) (now (id .entry)) n 0 (8 + 32 * n) Held.Missing) ⌝ }
+    requires { ⌜ (n ≤ mostRows) × (rowPlace n ≤ length (now s)) ⌝ }
+    ensures { λ r. ⌜ r ≡ surveyed n (rowsFrom (now (s .entry)) (now (id .entry)) n 0 (rowPlace n) Held.Missing) ⌝ }
 {
     let mut i = 0;
     let mut at = HEADER_SIZE + ROW_SIZE * n;
@@ -138,7 +144,7 @@ pub(crate) fn check(s: &[u8], id: &[u8]) -> Survey
     if !header_fits(s) {
         return Survey::Unsound;
     }
-    let n = number_at(s, 4, 2) as usize;
+    let n = number_at(s, COUNT_PLACE, 2) as usize;
     if s.len() < HEADER_SIZE + ROW_SIZE * n {
         return Survey::Unsound;
     }

@@ -64,8 +64,8 @@ pub record Storing (d b : List ℕ) (clock verdict : ℕ) (window : Window) (r :
   pub reads : r ≡ Read fields
   pub named : id ≡ fields .id
   pub modes : mask ≡ fields .mask
-  pub few : n < 64
-  pub room : end + 32 + length b ≤ length d
+  pub few : n < mostRows
+  pub room : end + rowSize + length b ≤ length d
 
 -- An answer is what the steps come to, and leaves the buffer as it was; a body that is to be stored has passed every step.
 abbrev pub ChoiceIs : List ℕ → List ℕ → ℕ → ℕ → Window → Reading → Survey → Choice → Type 0

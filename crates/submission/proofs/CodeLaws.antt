@@ -2,7 +2,7 @@
 use mathlib.Core.Path.{_≡_, sym, ap, _∙_, subst}
 use mathlib.Core.Bool.{Bool, true, false, not}
 use mathlib.Core.List.{List}
-use Prim.Native.Nat.{ℕ, suc, _+_, _-_, _*_, _≤_, _<_}
+use Prim.Native.Nat.{ℕ, suc, _+_, _-_, _≤_, _<_}
 use native.Mathlib.Omega.{arith}
 use lib.ListN.{length, take, drop, replicate}
 use borrow.Author.Tests.{lt-ltb, le-ltb, le-leb, lt-leb, eq-eqb, ne-eqb, not-true, not-false}
@@ -24,6 +24,7 @@ use Rattle.image.specs.Image.{reading, idIn, idOf}
 use Rattle.image.specs.Check.{surveyOf}
 use Rattle.image.specs.Laws.{HeldFits}
 use Rattle.image.proofs.Laws.{read-in}
+use Rattle.image.specs.Layout.{rowSize, idSize, mostRows, countPlace, offsetPlace, lengthPlace, maskPlace, zeroPlace, rowPlace}
 use Rattle.octets.proofs.ListLaws.{lent-part}
 use Rattle.submission.specs.declared.Submission.{Submission}
 use Rattle.submission.specs.declared.Submission.the-variants as answers
@@ -87,19 +88,19 @@ module _ (d b : List ℕ) (n end : ℕ) (h : Held) (f : Fields) where
 
   module _ (e : h ≡ Missing) where
     -- There are 64 rows.
-    pub place-full : 64 ≤ n → Answer answers.Full ≡ placed d b n end h f
+    pub place-full : mostRows ≤ n → Answer answers.Full ≡ placed d b n end h f
     unfolding placed
-    place-full l = sym (ap (λ (x : Held). placed d b n end x f) e ∙ rw (le-ltb n 64 l))
+    place-full l = sym (ap (λ (x : Held). placed d b n end x f) e ∙ rw (le-ltb n mostRows l))
 
     -- The larger image would exceed the buffer.
-    pub place-long : n < 64 → length d < end + 32 + length b → Answer answers.Full ≡ placed d b n end h f
+    pub place-long : n < mostRows → length d < end + rowSize + length b → Answer answers.Full ≡ placed d b n end h f
     unfolding placed
-    place-long l m = sym (ap (λ (x : Held). placed d b n end x f) e ∙ rw (lt-ltb n 64 l, lt-leb (end + 32 + length b) (length d) m))
+    place-long l m = sym (ap (λ (x : Held). placed d b n end x f) e ∙ rw (lt-ltb n mostRows l, lt-leb (end + rowSize + length b) (length d) m))
 
     -- Else the body is to be stored.
-    pub place-store : n < 64 → end + 32 + length b ≤ length d → Store n end (f .id) (f .mask) ≡ placed d b n end h f
+    pub place-store : n < mostRows → end + rowSize + length b ≤ length d → Store n end (f .id) (f .mask) ≡ placed d b n end h f
     unfolding placed
-    place-store l m = sym (ap (λ (x : Held). placed d b n end x f) e ∙ rw (lt-ltb n 64 l, le-leb (end + 32 + length b) (length d) m))
+    place-store l m = sym (ap (λ (x : Held). placed d b n end x f) e ∙ rw (lt-ltb n mostRows l, le-leb (end + rowSize + length b) (length d) m))
 
 -- ---- by the survey of the image
 
@@ -144,7 +145,7 @@ unfolding reading
 reading-is b o x k e = sym k ∙ e
 
 -- The id that was read lies in the body.
-pub id-room : (b : List ℕ) (o : Reading) (f : Fields) → o ≡ readingOf (readOf b) → o ≡ Read f → f .id + 16 ≤ length b
+pub id-room : (b : List ℕ) (o : Reading) (f : Fields) → o ≡ readingOf (readOf b) → o ≡ Read f → f .id + idSize ≤ length b
 id-room b o f k e = read-in b f (reading-is b o (Read f) k e) .id
 
 -- A verdict that is none of the three is refused.
@@ -161,19 +162,19 @@ module _ (d b : List ℕ) (clock verdict : ℕ) (window : Window) (h : verdict �
       ∙ rw (le-leb verdict 2 h)
 
   -- A body that reads.
-  pub choice-read : (f : Fields) (v : Survey) (r : Choice) → o ≡ Read f → v ≡ surveyOf d (take (f .id + 16 - f .id) (drop (f .id) b))
+  pub choice-read : (f : Fields) (v : Survey) (r : Choice) → o ≡ Read f → v ≡ surveyOf d (take (f .id + idSize - f .id) (drop (f .id) b))
       → r ≡ chosenRead d b clock verdict window f v → r ≡ choiceOf d b clock verdict window
   choice-read f v r e s p =
       p
-      ∙ ap (chosenRead d b clock verdict window f) (s ∙ ap (surveyOf d) (lent-part b (f .id) 16))
+      ∙ ap (chosenRead d b clock verdict window f) (s ∙ ap (surveyOf d) (lent-part b (f .id) idSize))
       ∙ choice-by (Read f) e
 
   -- A body with a fault of structure.
-  pub choice-structure : (r : Choice) → o ≡ Structure → r ≡ chosenUnread answers.Structure (surveyOf d (replicate 16 0)) → r ≡ choiceOf d b clock verdict window
+  pub choice-structure : (r : Choice) → o ≡ Structure → r ≡ chosenUnread answers.Structure (surveyOf d (replicate idSize 0)) → r ≡ choiceOf d b clock verdict window
   choice-structure r e p = p ∙ choice-by Structure e
 
   -- A body with a period that is not valid.
-  pub choice-validity : (r : Choice) → o ≡ Validity → r ≡ chosenUnread answers.Validity (surveyOf d (replicate 16 0)) → r ≡ choiceOf d b clock verdict window
+  pub choice-validity : (r : Choice) → o ≡ Validity → r ≡ chosenUnread answers.Validity (surveyOf d (replicate idSize 0)) → r ≡ choiceOf d b clock verdict window
   choice-validity r e p = p ∙ choice-by Validity e
 
 -- ---- the offsets are raised
@@ -183,14 +184,14 @@ pub raise-begin : (d : List ℕ) (n : ℕ) → raised d n 0 ≡ raised d (n - 0)
 raise-begin d n = let k : n ≡ n - 0 = omega arith in ap (λ (m : ℕ). raised d m 0) k
 
 -- A row whose offset was raised leaves the rows after it.
-pub raise-next : (d d′ : List ℕ) (n i v : ℕ) → i < n → v ≡ numberIn d (8 + 32 * i + 16) 4 → d′ ≡ putAt d (8 + 32 * i + 16) (bigEndian 4 (v + 32))
+pub raise-next : (d d′ : List ℕ) (n i v : ℕ) → i < n → v ≡ numberIn d (rowPlace i + offsetPlace) 4 → d′ ≡ putAt d (rowPlace i + offsetPlace) (bigEndian 4 (v + rowSize))
     → raised d (n - i) i ≡ raised d′ (n - (i + 1)) (i + 1)
 unfolding raised
 raise-next d d′ n i v l e p =
     let k : n - i ≡ suc (n - (i + 1)) = omega arith in
     ap (λ (m : ℕ). raised d m i) k
     ∙ ap (λ (x : List ℕ). raised x (n - (i + 1)) (i + 1))
-    (ap (λ (w : ℕ). putAt d (8 + 32 * i + 16) (bigEndian 4 (w + 32))) (sym e) ∙ sym p)
+    (ap (λ (w : ℕ). putAt d (rowPlace i + offsetPlace) (bigEndian 4 (w + rowSize))) (sym e) ∙ sym p)
 
 -- After the last row nothing is left.
 pub raise-end : (d : List ℕ) (n i : ℕ) → n ≤ i → raised d (n - i) i ≡ d
@@ -201,14 +202,14 @@ raise-end d n i l = let k : n - i ≡ 0 = omega arith in ap (λ (m : ℕ). raise
 
 -- The five writes of a row.
 pub row-done : (d d₁ d₂ d₃ d₄ d₅ : List ℕ) (r at : ℕ) (b : List ℕ) (id mask : ℕ)
-    → d₁ ≡ putAt d r (take (id + 16 - id) (drop id b)) → d₂ ≡ putAt d₁ (r + 16) (bigEndian 4 at) → d₃ ≡ putAt d₂ (r + 20) (bigEndian 4 (length b))
-    → d₄ ≡ putAt d₃ (r + 24) (bigEndian 1 mask) → d₅ ≡ putAt d₄ (r + 25) (bigEndian 7 0) → d₅ ≡ withRow d r at b id mask
+    → d₁ ≡ putAt d r (take (id + idSize - id) (drop id b)) → d₂ ≡ putAt d₁ (r + offsetPlace) (bigEndian 4 at) → d₃ ≡ putAt d₂ (r + lengthPlace) (bigEndian 4 (length b))
+    → d₄ ≡ putAt d₃ (r + maskPlace) (bigEndian 1 mask) → d₅ ≡ putAt d₄ (r + zeroPlace) (bigEndian 7 0) → d₅ ≡ withRow d r at b id mask
 unfolding withRow
-row-done d d₁ d₂ d₃ d₄ d₅ r at b id mask e₁ e₂ e₃ e₄ e₅ = rw (e₅, e₄, e₃, e₂, e₁, lent-part b id 16)
+row-done d d₁ d₂ d₃ d₄ d₅ r at b id mask e₁ e₂ e₃ e₄ e₅ = rw (e₅, e₄, e₃, e₂, e₁, lent-part b id idSize)
 
 -- The five writes of one more row and body.
 pub grow-done : (d d₁ d₂ d₃ d₄ d₅ : List ℕ) (n end : ℕ) (b : List ℕ) (id mask : ℕ)
-    → d₁ ≡ movedUp d (8 + 32 * n) end 32 → d₂ ≡ raised d₁ n 0 → d₃ ≡ withRow d₂ (8 + 32 * n) (end + 32) b id mask
-    → d₄ ≡ putAt d₃ (end + 32) b → d₅ ≡ putAt d₄ 4 (bigEndian 2 (n + 1)) → d₅ ≡ grown d n end b id mask
+    → d₁ ≡ movedUp d (rowPlace n) end rowSize → d₂ ≡ raised d₁ n 0 → d₃ ≡ withRow d₂ (rowPlace n) (end + rowSize) b id mask
+    → d₄ ≡ putAt d₃ (end + rowSize) b → d₅ ≡ putAt d₄ countPlace (bigEndian 2 (n + 1)) → d₅ ≡ grown d n end b id mask
 unfolding grown
 grow-done d d₁ d₂ d₃ d₄ d₅ n end b id mask e₁ e₂ e₃ e₄ e₅ = rw (e₅, e₄, e₃, e₂, e₁)

@@ -12,7 +12,7 @@ use Rattle.octets.specs.Write.{over, putAt, moved, movedUp}
 use Rattle.octets.proofs.OverLaws.{over-has, has-front, Kept, kept-over, kept-has, put-fits, moved-fits}
 use Rattle.descriptor.specs.declared.Fields.{Fields}
 use Rattle.descriptor.specs.declared.Reading.the-variants.{Read}
-use Rattle.image.specs.Layout.{rowPlace, rowSize}
+use Rattle.image.specs.Layout.{rowPlace, rowSize, headerSize, mostRows, countPlace}
 use Rattle.image.specs.Image.{reading, header, row, rowsOf, joined, imageOf, Holds}
 use Rattle.image.specs.Laws.{ImageParts}
 use Rattle.image.proofs.Laws.{lengths, image-stands, one-more}
@@ -21,80 +21,80 @@ use Rattle.submission.proofs.RaiseLaws.{rows-raised, with-row, header-c
 
 -- What is written, from what each write leaves.
 writes : (d : List ℕ) (n end : ℕ) (b : List ℕ) (id mask : ℕ) (d₁ d₃ d₄ d₅ : List ℕ) → movedUp d (rowPlace n) end rowSize ≡ d₁
-    → withRow (raised d₁ n 0) (rowPlace n) (end + rowSize) b id mask ≡ d₃ → putAt d₃ (end + rowSize) b ≡ d₄ → putAt d₄ 4 (bigEndian 2 (n + 1)) ≡ d₅
+    → withRow (raised d₁ n 0) (rowPlace n) (end + rowSize) b id mask ≡ d₃ → putAt d₃ (end + rowSize) b ≡ d₄ → putAt d₄ countPlace (bigEndian 2 (n + 1)) ≡ d₅
     → grown d n end b id mask ≡ d₅
 unfolding grown
 writes d n end b id mask d₁ d₃ d₄ d₅ e₁ e₃ e₄ e₅ = rw (e₁, e₃, e₄) e₅
 
 -- In the image of the bodies bs, with room for a row and the body, the writes leave the image of those bodies and the new one, and the old bytes beyond its end.
-pub grown-image : (d : List ℕ) (bs : List (List ℕ)) (b : List ℕ) (f : Fields) → Holds d bs → reading b ≡ Read f → length (imageOf bs) + 32 + length b ≤ length d
+pub grown-image : (d : List ℕ) (bs : List (List ℕ)) (b : List ℕ) (f : Fields) → Holds d bs → reading b ≡ Read f → length (imageOf bs) + rowSize + length b ≤ length d
     → grown d (length bs) (length (imageOf bs)) b (f .id) (f .mask) ≡ imageOf (bs ++ (b ∷ [])) ++ drop (length (imageOf (bs ++ (b ∷ [])))) d
 unfolding moved
 grown-image d bs b f h e room =
     let n : ℕ = length bs in
     let end : ℕ = length (imageOf bs) in
     let start : ℕ = rowPlace n in
-    let r : List ℕ = row (end + 32) b in
+    let r : List ℕ = row (end + rowSize) b in
     let count : List ℕ = bigEndian 2 (n + 1) in
     let w : ImageParts d bs = image-stands d bs h in
     let il : end ≡ start + length (joined bs) = lengths .of-image bs in
-    let rl : length r ≡ 32 = lengths .of-row (end + 32) b in
-    let few : n ≤ 64 = h .bodies .few in
+    let rl : length r ≡ rowSize = lengths .of-row (end + rowSize) b in
+    let few : n ≤ mostRows = h .bodies .few in
     let short : length (joined bs) ≤ 32768 * n = lengths .of-bodies bs (h .bodies) in
-    let low : length (rowsOf start bs) ≡ 32 * n = lengths .of-rows start bs in
-    let up : length (rowsOf (start + 32) bs) ≡ 32 * n = lengths .of-rows (start + 32) bs in
-    let hl : length (header n) ≡ 8 = lengths .of-header n in
+    let low : length (rowsOf start bs) ≡ rowSize * n = lengths .of-rows start bs in
+    let up : length (rowsOf (start + rowSize) bs) ≡ rowSize * n = lengths .of-rows (start + rowSize) bs in
+    let hl : length (header n) ≡ headerSize = lengths .of-header n in
     -- the bodies, moved
     let sub : end - start ≡ length (joined bs) = omega arith in
     let js : part d start (end - start) ≡ joined bs = ap (part d start) sub ∙ has-part d start (joined bs) (w .has-bodies) in
-    let d₁ : List ℕ = over d (start + 32) (joined bs) in
-    let f₁ : (start + 32) + length (joined bs) ≤ length d = omega arith in
-    let e₁ : movedUp d start end 32 ≡ d₁ = moved-fits d start end 32 (omega arith) (omega arith) ∙ ap (over d (start + 32)) js in
-    let k₁ : Kept d d₁ (start + 32) ((start + 32) + length (joined bs)) = kept-over d (start + 32) (joined bs) f₁ in
+    let d₁ : List ℕ = over d (start + rowSize) (joined bs) in
+    let f₁ : (start + rowSize) + length (joined bs) ≤ length d = omega arith in
+    let e₁ : movedUp d start end rowSize ≡ d₁ = moved-fits d start end rowSize (omega arith) (omega arith) ∙ ap (over d (start + rowSize)) js in
+    let k₁ : Kept d d₁ (start + rowSize) ((start + rowSize) + length (joined bs)) = kept-over d (start + rowSize) (joined bs) f₁ in
     let head₁ : Has d₁ 0 (header n) = k₁ .before 0 (header n) (omega arith) (w .has-header) in
-    let rows₁ : Has d₁ 8 (rowsOf start bs) = k₁ .before 8 (rowsOf start bs) (omega arith) (w .has-rows) in
-    let bod₁ : Has d₁ (start + 32) (joined bs) = over-has d (start + 32) (joined bs) f₁ in
+    let rows₁ : Has d₁ headerSize (rowsOf start bs) = k₁ .before headerSize (rowsOf start bs) (omega arith) (w .has-rows) in
+    let bod₁ : Has d₁ (start + rowSize) (joined bs) = over-has d (start + rowSize) (joined bs) f₁ in
     -- the offsets
     let d₂ : List ℕ = raised d₁ n 0 in
     let y = rows-raised d₁ 0 start bs (omega arith) rows₁ in
-    let rows₂ : Has d₂ 8 (rowsOf (start + 32) bs) = y .0 in
-    let k₂ : Kept d₁ d₂ 8 (8 + 32 * n) = y .1 in
+    let rows₂ : Has d₂ headerSize (rowsOf (start + rowSize) bs) = y .0 in
+    let k₂ : Kept d₁ d₂ headerSize (rowPlace n) = y .1 in
     let head₂ : Has d₂ 0 (header n) = k₂ .before 0 (header n) (omega arith) head₁ in
-    let bod₂ : Has d₂ (start + 32) (joined bs) = kept-has d₁ d₂ 8 (8 + 32 * n) (start + 32) (joined bs) k₂ (omega arith) bod₁ in
+    let bod₂ : Has d₂ (start + rowSize) (joined bs) = kept-has d₁ d₂ headerSize (rowPlace n) (start + rowSize) (joined bs) k₂ (omega arith) bod₁ in
     -- the row
     let d₃ : List ℕ = over d₂ start r in
     let f₃ : start + length r ≤ length d₂ = omega (arith, k₂ .long, k₁ .long) in
-    let e₃ : withRow d₂ start (end + 32) b (f .id) (f .mask) ≡ d₃ = with-row d₂ start (end + 32) b f e (omega arith) in
+    let e₃ : withRow d₂ start (end + rowSize) b (f .id) (f .mask) ≡ d₃ = with-row d₂ start (end + rowSize) b f e (omega arith) in
     let k₃ : Kept d₂ d₃ start (start + length r) = kept-over d₂ start r f₃ in
     let head₃ : Has d₃ 0 (header n) = k₃ .before 0 (header n) (omega arith) head₂ in
-    let rows₃ : Has d₃ 8 (rowsOf (start + 32) bs) = k₃ .before 8 (rowsOf (start + 32) bs) (omega arith) rows₂ in
+    let rows₃ : Has d₃ headerSize (rowsOf (start + rowSize) bs) = k₃ .before headerSize (rowsOf (start + rowSize) bs) (omega arith) rows₂ in
     let row₃ : Has d₃ start r = over-has d₂ start r f₃ in
-    let bod₃ : Has d₃ (start + 32) (joined bs) = kept-has d₂ d₃ start (start + length r) (start + 32) (joined bs) k₃ (omega arith) bod₂ in
+    let bod₃ : Has d₃ (start + rowSize) (joined bs) = kept-has d₂ d₃ start (start + length r) (start + rowSize) (joined bs) k₃ (omega arith) bod₂ in
     -- the body
-    let d₄ : List ℕ = over d₃ (end + 32) b in
-    let f₄ : (end + 32) + length b ≤ length d₃ = omega (arith, k₃ .long, k₂ .long, k₁ .long) in
-    let e₄ : putAt d₃ (end + 32) b ≡ d₄ = put-fits d₃ (end + 32) b f₄ in
-    let k₄ : Kept d₃ d₄ (end + 32) ((end + 32) + length b) = kept-over d₃ (end + 32) b f₄ in
+    let d₄ : List ℕ = over d₃ (end + rowSize) b in
+    let f₄ : (end + rowSize) + length b ≤ length d₃ = omega (arith, k₃ .long, k₂ .long, k₁ .long) in
+    let e₄ : putAt d₃ (end + rowSize) b ≡ d₄ = put-fits d₃ (end + rowSize) b f₄ in
+    let k₄ : Kept d₃ d₄ (end + rowSize) ((end + rowSize) + length b) = kept-over d₃ (end + rowSize) b f₄ in
     let head₄ : Has d₄ 0 (header n) = k₄ .before 0 (header n) (omega arith) head₃ in
-    let rows₄ : Has d₄ 8 (rowsOf (start + 32) bs) = k₄ .before 8 (rowsOf (start + 32) bs) (omega arith) rows₃ in
+    let rows₄ : Has d₄ headerSize (rowsOf (start + rowSize) bs) = k₄ .before headerSize (rowsOf (start + rowSize) bs) (omega arith) rows₃ in
     let row₄ : Has d₄ start r = k₄ .before start r (omega arith) row₃ in
-    let bod₄ : Has d₄ (start + 32) (joined bs) = k₄ .before (start + 32) (joined bs) (omega arith) bod₃ in
-    let new₄ : Has d₄ (end + 32) b = over-has d₃ (end + 32) b f₄ in
+    let bod₄ : Has d₄ (start + rowSize) (joined bs) = k₄ .before (start + rowSize) (joined bs) (omega arith) bod₃ in
+    let new₄ : Has d₄ (end + rowSize) b = over-has d₃ (end + rowSize) b f₄ in
     -- the row count
-    let d₅ : List ℕ = over d₄ 4 count in
+    let d₅ : List ℕ = over d₄ countPlace count in
     let cl : length count ≡ 2 = length-bigEndian 2 (n + 1) in
-    let f₅ : 4 + length count ≤ length d₄ = omega (arith, k₄ .long, k₃ .long, k₂ .long, k₁ .long) in
-    let e₅ : putAt d₄ 4 count ≡ d₅ = put-fits d₄ 4 count f₅ in
-    let k₅ : Kept d₄ d₅ 4 (4 + length count) = kept-over d₄ 4 count f₅ in
+    let f₅ : countPlace + length count ≤ length d₄ = omega (arith, k₄ .long, k₃ .long, k₂ .long, k₁ .long) in
+    let e₅ : putAt d₄ countPlace count ≡ d₅ = put-fits d₄ countPlace count f₅ in
+    let k₅ : Kept d₄ d₅ countPlace (countPlace + length count) = kept-over d₄ countPlace count f₅ in
     let has : Has d₅ 0 (imageOf (bs ++ (b ∷ []))) =
     one-more .stands d₅ bs b
     (header-counted d₄ n (n + 1) head₄)
-    (kept-has d₄ d₅ 4 (4 + length count) 8 _ k₅ (omega arith) rows₄)
-    (kept-has d₄ d₅ 4 (4 + length count) start r k₅ (omega arith) row₄)
-    (kept-has d₄ d₅ 4 (4 + length count) (start + 32) (joined bs) k₅ (omega arith) bod₄)
-    (kept-has d₄ d₅ 4 (4 + length count) (end + 32) b k₅ (omega arith) new₄) in
+    (kept-has d₄ d₅ countPlace (countPlace + length count) headerSize _ k₅ (omega arith) rows₄)
+    (kept-has d₄ d₅ countPlace (countPlace + length count) start r k₅ (omega arith) row₄)
+    (kept-has d₄ d₅ countPlace (countPlace + length count) (start + rowSize) (joined bs) k₅ (omega arith) bod₄)
+    (kept-has d₄ d₅ countPlace (countPlace + length count) (end + rowSize) b k₅ (omega arith) new₄) in
     let m : ℕ = length (imageOf (bs ++ (b ∷ []))) in
-    let ml : m ≡ end + 32 + length b = one-more .of-image bs b in
+    let ml : m ≡ end + rowSize + length b = one-more .of-image bs b in
     let rest : drop m d₅ ≡ drop m d
     = k₅ .after m (omega arith) ∙ k₄ .after m (omega arith) ∙ k₃ .after m (omega arith) ∙ k₂ .after m (omega arith) ∙ k₁ .after m (omega arith) in
     writes d n end b (f .id) (f .mask) d₁ d₃ d₄ d₅ e₁ e₃ e₄ e₅

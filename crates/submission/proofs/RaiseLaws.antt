@@ -12,7 +12,7 @@ use Rattle.octets.specs.Write.{over, putAt}
 use Rattle.octets.proofs.OverLaws.{over-has, over-append, Kept, kept-over, kept-has, kept-join, kept-self, put-fits}
 use Rattle.descriptor.specs.declared.Fields.{Fields}
 use Rattle.descriptor.specs.declared.Reading.the-variants.{Read}
-use Rattle.image.specs.Layout.{imageEdition, modeEdition, rowSize, rowPlace}
+use Rattle.image.specs.Layout.{imageEdition, modeEdition, rowSize, rowPlace, idSize, offsetPlace, lengthPlace, maskPlace, zeroPlace}
 use Rattle.image.specs.Image.{reading, idOf, modesOf, header, row, rowsOf, joined}
 use Rattle.octets.proofs.ListLaws.{has-after, has-both}
 use Rattle.image.specs.Laws.{RowParts}
@@ -28,50 +28,50 @@ kept-wide d d′ from to a b k h l = kept-join d d d′ from to from to a b (kep
 
 -- The offset of a row raised by a row's size: the row of the body that lies so much higher, and no other byte is changed.
 pub row-raised : (d : List ℕ) (r at : ℕ) (b : List ℕ) → at < 4294967296 → Has d r (row at b)
-    → Has (putAt d (r + 16) (bigEndian 4 (numberIn d (r + 16) 4 + rowSize))) r (row (at + 32) b)
-    × Kept d (putAt d (r + 16) (bigEndian 4 (numberIn d (r + 16) 4 + rowSize))) r (r + 32)
+    → Has (putAt d (r + offsetPlace) (bigEndian 4 (numberIn d (r + offsetPlace) 4 + rowSize))) r (row (at + rowSize) b)
+    × Kept d (putAt d (r + offsetPlace) (bigEndian 4 (numberIn d (r + offsetPlace) 4 + rowSize))) r (r + rowSize)
 row-raised d r at b small h =
     let p : RowParts d r at b = row-exactly d r at b .0 h in
-    let l : length (row at b) ≡ 32 = lengths .of-row at b in
-    let i : r + 32 ≤ length d = omega (arith, has-fits d r (row at b) (omega arith) h) in
-    let v : numberIn d (r + 16) 4 ≡ at = number-in d (r + 16) 4 (omega arith) (omega arith) ∙ number-of-has d (r + 16) 4 at small (omega arith) (p .offset) in
-    let new : List ℕ = bigEndian 4 (at + 32) in
-    let m : length new ≡ 4 = length-bigEndian 4 (at + 32) in
-    let fit : (r + 16) + length new ≤ length d = omega arith in
-    let d′ : List ℕ = over d (r + 16) new in
-    let k : Kept d d′ (r + 16) ((r + 16) + length new) = kept-over d (r + 16) new fit in
-    let q : RowParts d′ r (at + 32) b = record {
+    let l : length (row at b) ≡ rowSize = lengths .of-row at b in
+    let i : r + rowSize ≤ length d = omega (arith, has-fits d r (row at b) (omega arith) h) in
+    let v : numberIn d (r + offsetPlace) 4 ≡ at = number-in d (r + offsetPlace) 4 (omega arith) (omega arith) ∙ number-of-has d (r + offsetPlace) 4 at small (omega arith) (p .offset) in
+    let new : List ℕ = bigEndian 4 (at + rowSize) in
+    let m : length new ≡ 4 = length-bigEndian 4 (at + rowSize) in
+    let fit : (r + offsetPlace) + length new ≤ length d = omega arith in
+    let d′ : List ℕ = over d (r + offsetPlace) new in
+    let k : Kept d d′ (r + offsetPlace) ((r + offsetPlace) + length new) = kept-over d (r + offsetPlace) new fit in
+    let q : RowParts d′ r (at + rowSize) b = record {
       id = k .before r (idOf b) (omega (arith, layout-fixed .1 b)) (p .id);
-      offset = over-has d (r + 16) new fit;
-      size = kept-has d d′ _ _ (r + 20) _ k (omega arith) (p .size);
-      mask = kept-has d d′ _ _ (r + 24) _ k (omega arith) (p .mask);
-      zeros = kept-has d d′ _ _ (r + 25) _ k (omega arith) (p .zeros);
+      offset = over-has d (r + offsetPlace) new fit;
+      size = kept-has d d′ _ _ (r + lengthPlace) _ k (omega arith) (p .size);
+      mask = kept-has d d′ _ _ (r + maskPlace) _ k (omega arith) (p .mask);
+      zeros = kept-has d d′ _ _ (r + zeroPlace) _ k (omega arith) (p .zeros);
     } in
-    let e : putAt d (r + 16) (bigEndian 4 (numberIn d (r + 16) 4 + 32)) ≡ d′
-    = ap (λ (n : ℕ). putAt d (r + 16) (bigEndian 4 (n + 32))) v ∙ put-fits d (r + 16) new fit in
-    subst (λ (x : List ℕ). Has x r (row (at + 32) b) × Kept d x r (r + 32)) (sym e)
-    (row-exactly d′ r (at + 32) b .1 q, kept-wide d d′ (r + 16) ((r + 16) + length new) r (r + 32) k (omega arith) (omega arith))
+    let e : putAt d (r + offsetPlace) (bigEndian 4 (numberIn d (r + offsetPlace) 4 + rowSize)) ≡ d′
+    = ap (λ (n : ℕ). putAt d (r + offsetPlace) (bigEndian 4 (n + rowSize))) v ∙ put-fits d (r + offsetPlace) new fit in
+    subst (λ (x : List ℕ). Has x r (row (at + rowSize) b) × Kept d x r (r + rowSize)) (sym e)
+    (row-exactly d′ r (at + rowSize) b .1 q, kept-wide d d′ (r + offsetPlace) ((r + offsetPlace) + length new) r (r + rowSize) k (omega arith) (omega arith))
 
 -- The offsets of all rows raised: the rows of the bodies that lie so much higher, and no other byte is changed.
 pub rows-raised : (d : List ℕ) (i at : ℕ) (bs : List (List ℕ)) → at + length (joined bs) < 4294967296 → Has d (rowPlace i) (rowsOf at bs)
-    → Has (raised d (length bs) i) (rowPlace i) (rowsOf (at + 32) bs) × Kept d (raised d (length bs) i) (rowPlace i) (rowPlace i + 32 * length bs)
+    → Has (raised d (length bs) i) (rowPlace i) (rowsOf (at + rowSize) bs) × Kept d (raised d (length bs) i) (rowPlace i) (rowPlace i + rowSize * length bs)
 unfolding raised rowsOf joined
 rows-raised d i at [] small h = (h, kept-self d (rowPlace i) (rowPlace i + 0))
 rows-raised d i at (b ∷ bs) small h =
     let r : ℕ = rowPlace i in
     let next : ℕ = rowPlace (i + 1) in
-    let step : r + 32 ≡ next = omega arith in
+    let step : r + rowSize ≡ next = omega arith in
     let rest : List ℕ = rowsOf (at + length b) bs in
     let short : at + (length b + length (joined bs)) < 4294967296 = omega (arith, length-append b (joined bs)) in
-    let d′ : List ℕ = putAt d (r + 16) (bigEndian 4 (numberIn d (r + 16) 4 + rowSize)) in
+    let d′ : List ℕ = putAt d (r + offsetPlace) (bigEndian 4 (numberIn d (r + offsetPlace) 4 + rowSize)) in
     let x = row-raised d r at b (omega arith) (has-left d r (row at b) rest h) in
-    let g : Has d′ next rest = kept-has d d′ r (r + 32) next rest (x .1) (omega arith) (has-after d r 32 next (row at b) rest (lengths .of-row at b) step h) in
+    let g : Has d′ next rest = kept-has d d′ r (r + rowSize) next rest (x .1) (omega arith) (has-after d r rowSize next (row at b) rest (lengths .of-row at b) step h) in
     let y = rows-raised d′ (i + 1) (at + length b) bs (omega arith) g in
     let d″ : List ℕ = raised d′ (length bs) (i + 1) in
-    let s : (at + length b) + 32 ≡ (at + 32) + length b = omega arith in
-    let first : Has d″ r (row (at + 32) b) = y .1 .before r (row (at + 32) b) (omega (arith, lengths .of-row (at + 32) b)) (x .0) in (
-      has-both d″ r 32 next (row (at + 32) b) (rowsOf ((at + 32) + length b) bs) (lengths .of-row (at + 32) b) step first (subst (λ (n : ℕ). Has d″ next (rowsOf n bs)) s (y .0)),
-      kept-join d d′ d″ r (r + 32) next (next + 32 * length bs) r (r + 32 * suc (length bs)) (x .1) (y .1) (omega arith) (omega arith) (omega arith) (omega arith),
+    let s : (at + length b) + rowSize ≡ (at + rowSize) + length b = omega arith in
+    let first : Has d″ r (row (at + rowSize) b) = y .1 .before r (row (at + rowSize) b) (omega (arith, lengths .of-row (at + rowSize) b)) (x .0) in (
+      has-both d″ r rowSize next (row (at + rowSize) b) (rowsOf ((at + rowSize) + length b) bs) (lengths .of-row (at + rowSize) b) step first (subst (λ (n : ℕ). Has d″ next (rowsOf n bs)) s (y .0)),
+      kept-join d d′ d″ r (r + rowSize) next (next + rowSize * length bs) r (r + rowSize * suc (length bs)) (x .1) (y .1) (omega arith) (omega arith) (omega arith) (omega arith),
     )
 
 -- ---- a row in pieces
@@ -87,7 +87,7 @@ five : (a b c d e : List ℕ) → (((a ++ b) ++ c) ++ d) ++ e ≡ a ++ (b ++ (c 
 five a b c d e = simp append-assoc
 
 -- The row of a body, written in its five pieces, is the row written.
-pub with-row : (d : List ℕ) (r at : ℕ) (b : List ℕ) (f : Fields) → reading b ≡ Read f → r + 32 ≤ length d → withRow d r at b (f .id) (f .mask) ≡ over d r (row at b)
+pub with-row : (d : List ℕ) (r at : ℕ) (b : List ℕ) (f : Fields) → reading b ≡ Read f → r + rowSize ≤ length d → withRow d r at b (f .id) (f .mask) ≡ over d r (row at b)
 unfolding withRow row
 with-row d r at b f e room =
     let i : List ℕ = idOf b in
@@ -95,20 +95,20 @@ with-row d r at b f e room =
     let n : List ℕ = bigEndian 4 (length b) in
     let m : List ℕ = bigEndian 1 (modesOf b) in
     let z : List ℕ = bigEndian 7 0 in
-    let li : length i ≡ 16 = layout-fixed .1 b in
+    let li : length i ≡ idSize = layout-fixed .1 b in
     let lo : length o ≡ 4 = length-bigEndian 4 at in
     let ln : length n ≡ 4 = length-bigEndian 4 (length b) in
     let lm : length m ≡ 1 = length-bigEndian 1 (modesOf b) in
     let lz : length z ≡ 7 = length-bigEndian 7 0 in
-    let l₂ : length (i ++ o) ≡ 20 = omega (arith, length-append i o) in
-    let l₃ : length ((i ++ o) ++ n) ≡ 24 = omega (arith, length-append (i ++ o) n) in
-    let l₄ : length (((i ++ o) ++ n) ++ m) ≡ 25 = omega (arith, length-append ((i ++ o) ++ n) m) in
-    let e₁ : putAt d r (part b (f .id) 16) ≡ over d r i = ap (putAt d r) (sym (read-named b f e .0)) ∙ put-fits d r i (omega arith) in
-    let e₂ : putAt (over d r i) (r + 16) o ≡ over d r (i ++ o) = put-next d r i o (r + 16) (omega arith) (omega arith) in
-    let e₃ : putAt (over d r (i ++ o)) (r + 20) n ≡ over d r ((i ++ o) ++ n) = put-next d r (i ++ o) n (r + 20) (omega arith) (omega arith) in
-    let e₄ : putAt (over d r ((i ++ o) ++ n)) (r + 24) m ≡ over d r (((i ++ o) ++ n) ++ m) = put-next d r ((i ++ o) ++ n) m (r + 24) (omega arith) (omega arith) in
-    let e₅ : putAt (over d r (((i ++ o) ++ n) ++ m)) (r + 25) z ≡ over d r ((((i ++ o) ++ n) ++ m) ++ z)
-    = put-next d r (((i ++ o) ++ n) ++ m) z (r + 25) (omega arith) (omega arith) in
+    let l₂ : length (i ++ o) ≡ lengthPlace = omega (arith, length-append i o) in
+    let l₃ : length ((i ++ o) ++ n) ≡ maskPlace = omega (arith, length-append (i ++ o) n) in
+    let l₄ : length (((i ++ o) ++ n) ++ m) ≡ zeroPlace = omega (arith, length-append ((i ++ o) ++ n) m) in
+    let e₁ : putAt d r (part b (f .id) idSize) ≡ over d r i = ap (putAt d r) (sym (read-named b f e .0)) ∙ put-fits d r i (omega arith) in
+    let e₂ : putAt (over d r i) (r + offsetPlace) o ≡ over d r (i ++ o) = put-next d r i o (r + offsetPlace) (omega arith) (omega arith) in
+    let e₃ : putAt (over d r (i ++ o)) (r + lengthPlace) n ≡ over d r ((i ++ o) ++ n) = put-next d r (i ++ o) n (r + lengthPlace) (omega arith) (omega arith) in
+    let e₄ : putAt (over d r ((i ++ o) ++ n)) (r + maskPlace) m ≡ over d r (((i ++ o) ++ n) ++ m) = put-next d r ((i ++ o) ++ n) m (r + maskPlace) (omega arith) (omega arith) in
+    let e₅ : putAt (over d r (((i ++ o) ++ n) ++ m)) (r + zeroPlace) z ≡ over d r ((((i ++ o) ++ n) ++ m) ++ z)
+    = put-next d r (((i ++ o) ++ n) ++ m) z (r + zeroPlace) (omega arith) (omega arith) in
     rw (e₁, e₂, e₃, ← read-named b f e .1, e₄, e₅) (ap (over d r) (five i o n m z))
 
 -- ---- the row count

@@ -3,7 +3,7 @@
 use mathlib.Core.Path.{_≡_, sym, ap, ap₂, _∙_, subst}
 use mathlib.Core.Bool.{Bool, true, false}
 use mathlib.Core.List.{List, [], _∷_, _++_}
-use Prim.Native.Nat.{ℕ, _+_, _*_, _≤_, _<_}
+use Prim.Native.Nat.{ℕ, _+_, _≤_, _<_}
 use native.Mathlib.Omega.{arith}
 use lib.ListN.{length, drop}
 use Rattle.octets.specs.Bytes.{AreBytes}
@@ -14,6 +14,7 @@ use Rattle.image.specs.declared.Survey.{Survey}
 use Rattle.image.specs.Image.{reading, idOf, joined, imageOf}
 use Rattle.image.specs.Check.{surveyOf, bodiesOf, isHeld}
 use Rattle.image.proofs.Laws.{read-in, survey-says, lengths}
+use Rattle.image.specs.Layout.{rowSize, mostRows, rowPlace}
 use Rattle.submission.specs.declared.Submission.{Submission}
 use Rattle.submission.specs.declared.Submission.the-variants as answers
 use Rattle.submission.specs.declared.choose.Choice.the-variants.{Answer, Store}
@@ -41,9 +42,9 @@ after-new d b clock verdict window e f = ap₂ (afterAnswer d b) e f
 pub record Stores (d b : List ℕ) (clock verdict : ℕ) (window : Window) (n end at mask : ℕ) : Type 0 where
   pub done : answers.Done ≡ submitted d b clock verdict window
   pub after : grown d n end b at mask ≡ afterOf d b clock verdict window
-  pub few : n < 64
-  pub start : 8 + 32 * n ≤ end
-  pub room : end + 32 + length b ≤ length d
+  pub few : n < mostRows
+  pub start : rowPlace n ≤ end
+  pub room : end + rowSize + length b ≤ length d
   pub id : at + 16 ≤ length b
 
 -- An answer is the submission's, and the buffer is as it was.
@@ -68,8 +69,8 @@ choice-store d b clock verdict window n end id mask bytes e =
     let s = survey-says d (idOf b) bytes n end Missing (k .found) in
     let many : n ≡ length bs = s .rows in
     let last : end ≡ length (imageOf bs) = s .ends in
-    let size : length (imageOf bs) ≡ 8 + 32 * length bs + length (joined bs) = lengths .of-image bs in
-    let room : end + 32 + length b ≤ length d = k .room in
+    let size : length (imageOf bs) ≡ rowPlace (length bs) + length (joined bs) = lengths .of-image bs in
+    let room : end + rowSize + length b ≤ length d = k .room in
     let writes : grown d n end b id mask ≡ grown d (length bs) (length (imageOf bs)) b (f .id) (f .mask)
     = ap₂ (λ (x y : ℕ). grown d x y b id mask) many last ∙ ap₂ (grown d (length bs) (length (imageOf bs)) b) (k .named) (k .modes) in
     record {

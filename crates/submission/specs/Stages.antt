@@ -17,7 +17,7 @@ use Rattle.image.specs.declared.Held.{Held}
 use Rattle.image.specs.declared.Held.the-variants.{Missing, Body}
 use Rattle.image.specs.declared.Survey.{Survey}
 use Rattle.image.specs.declared.Survey.the-variants.{Sound, Unsound}
-use Rattle.image.specs.Layout.{rowSize, idSize, mostRows, rowPlace}
+use Rattle.image.specs.Layout.{rowSize, idSize, mostRows, countPlace, offsetPlace, lengthPlace, maskPlace, zeroPlace, rowPlace}
 use Rattle.image.specs.Image.{reading, idOf}
 use Rattle.image.specs.Check.{surveyOf}
 use Rattle.submission.specs.declared.Submission.{Submission}
@@ -74,16 +74,16 @@ choiceOf d b clock verdict window =
 -- the offsets of k rows from row i on are raised by a row
 unfoldable pub raised : List ℕ → ℕ → ℕ → List ℕ
 raised d zero i = d
-raised d (suc k) i = raised (putAt d (rowPlace i + 16) (bigEndian 4 (numberIn d (rowPlace i + 16) 4 + rowSize))) k (i + 1)
+raised d (suc k) i = raised (putAt d (rowPlace i + offsetPlace) (bigEndian 4 (numberIn d (rowPlace i + offsetPlace) 4 + rowSize))) k (i + 1)
 
 -- the row at r of a body at `at`: its id, which stands at `id` in it, its offset and length, its mask, and zero
 unfoldable pub withRow : List ℕ → ℕ → ℕ → List ℕ → ℕ → ℕ → List ℕ
 withRow d r at b id mask =
     let d₁ = putAt d r (part b id idSize) in
-    let d₂ = putAt d₁ (r + 16) (bigEndian 4 at) in
-    let d₃ = putAt d₂ (r + 20) (bigEndian 4 (length b)) in
-    let d₄ = putAt d₃ (r + 24) (bigEndian 1 mask) in
-    putAt d₄ (r + 25) (bigEndian 7 0)
+    let d₂ = putAt d₁ (r + offsetPlace) (bigEndian 4 at) in
+    let d₃ = putAt d₂ (r + lengthPlace) (bigEndian 4 (length b)) in
+    let d₄ = putAt d₃ (r + maskPlace) (bigEndian 1 mask) in
+    putAt d₄ (r + zeroPlace) (bigEndian 7 0)
 
 -- n rows are held, which end at `end`: the bodies move up by a row, the offsets follow, row and body are added last, and the row count is one more
 unfoldable pub grown : List ℕ → ℕ → ℕ → List ℕ → ℕ → ℕ → List ℕ
@@ -92,4 +92,4 @@ grown d n end b id mask =
     let d₂ = raised d₁ n 0 in
     let d₃ = withRow d₂ (rowPlace n) (end + rowSize) b id mask in
     let d₄ = putAt d₃ (end + rowSize) b in
-    putAt d₄ 4 (bigEndian 2 (n + 1))
+    putAt d₄ countPlace (bigEndian 2 (n + 1))

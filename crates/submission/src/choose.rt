@@ -4,11 +4,15 @@ use descriptor::Fields;
 use descriptor::Reading;
 use image::Held;
 use image::Survey;
+use image::layout::ID_SIZE;
+use image::layout::MOST_ROWS;
+use image::layout::ROW_SIZE;
 use steps::Window;
 ghost use mathlib.Core.Path.{_≡_};
 ghost use Prim.Native.Nat.{_+_, _≤_};
 ghost use lib.ListN.{length, replicate};
 ghost use Rattle.image.specs.Check.{surveyOf};
+ghost use Rattle.image.specs.Layout.{idSize};
 ghost use Rattle.image.specs.Laws.{HeldFits, SurveyFits};
 ghost use Rattle.octets.specs.Bytes.{AreBytes};
 ghost use Rattle.submission.specs.Stages.{admitted, placed, chosenRead, chosenUnread, choiceOf};
@@ -67,14 +71,14 @@ fn place(image: &[u8], body: &[u8], rows: u64, end: usize, held: Held, fields: F
             Choice::Answer(Submission::Duplicate)
         }
         Held::Missing => {
-            if 64 <= rows {
+            if MOST_ROWS <= rows {
                 return Choice::Answer(Submission::Full);
             }
             let left = image.len() - end;
-            if left < 32 {
+            if left < ROW_SIZE {
                 return Choice::Answer(Submission::Full);
             }
-            if left - 32 < body.len() {
+            if left - ROW_SIZE < body.len() {
                 return Choice::Answer(Submission::Full);
             }
             Choice::Store {
@@ -113,9 +117,9 @@ fn choose_read(
 
 // A body that does not read: the image is looked at first.
 fn choose_unread(image: &[u8], answer: Submission) -> Choice
-    ensures { λ r. ⌜ r ≡ chosenUnread answer (surveyOf (now (image .entry)) (replicate 16 0)) ⌝ }
+    ensures { λ r. ⌜ r ≡ chosenUnread answer (surveyOf (now (image .entry)) (replicate idSize 0)) ⌝ }
 {
-    let none = [0u8; 16];
+    let none = [0u8; ID_SIZE];
     match image::check(image, &none) {
         Survey::Sound {
             rows: _,
@@ -136,7 +140,7 @@ pub(crate) fn choose(image: &[u8], body: &[u8], clock: u64, verdict: u64, window
     match descriptor::read_descriptor(body) {
         Reading::Read(fields) => {
             let id = fields.id;
-            let found = image::check(image, &body[id..id + 16]);
+            let found = image::check(image, &body[id..id + ID_SIZE]);
             choose_read(image, body, clock, verdict, window, fields, found)
         }
         Reading::Structure => choose_unread(image, Submission::Structure),

@@ -8,12 +8,13 @@ use Rattle.image.specs.Check.{rowRead, rowsFrom, surveyed}
 use Rattle.image.proofs.StepLaws.{row-next-is, rows-stop, rows-done, rows-begin}
 use Rattle.image.proofs.CodeLaws.{rows-noted}
 use borrow.Author.Needs.{needs}
+use Rattle.image.specs.Layout.{rowPlace}
 use Rattle.image.proofs.rows.all_rows.Statement.{statement}
 use Rattle.image.proofs.rows.all_rows.Tie as tie
 
 abbrev Inv-loop : tie.InvT-loop
 Inv-loop s id n i₀ at₀ held₀ i at held =
-    (i ≤ n) × (at ≤ length s) × (rowsFrom s id n 0 (8 + 32 * n) Missing ≡ rowsFrom s id (n - i) i at held)
+    (i ≤ n) × (at ≤ length s) × (rowsFrom s id n 0 (rowPlace n) Missing ≡ rowsFrom s id (n - i) i at held)
 
 abbrev μ-loop : tie.MeasureT-loop
 μ-loop s id n i₀ at₀ held₀ i at held = n - i

@@ -6,6 +6,7 @@ use Rattle.image.specs.Check.{idAmong}
 use Rattle.image.proofs.StepLaws.{among-next, among-hit, among-none}
 use Rattle.image.proofs.CodeLaws.{id-is}
 use borrow.Author.Needs.{needs}
+use Rattle.image.specs.Layout.{rowPlace}
 use Rattle.image.proofs.rows.id_among.Statement.{statement}
 use Rattle.image.proofs.rows.id_among.Tie as tie
 
@@ -46,7 +47,7 @@ returns : tie.Need-returns Inv-loop μ-loop
 returns c =
     let t = c .before .before .before in
     let l = t .before .loop in
-    sym (l .inv .1 ∙ among-hit _ _ _ (t .loop-test .taken) (sym (id-is _ _ (8 + 32 * (l .i - 1)) _ (c .before .same-bytes .ensures)) ∙ c .if1 .taken))
+    sym (l .inv .1 ∙ among-hit _ _ _ (t .loop-test .taken) (sym (id-is _ _ (rowPlace (l .i - 1)) _ (c .before .same-bytes .ensures)) ∙ c .if1 .taken))
 
 loop-less : tie.Need-loop-less Inv-loop μ-loop
 loop-less c = search needs
@@ -55,7 +56,7 @@ loop-again : tie.Need-loop-again Inv-loop μ-loop
 loop-again c =
     let t = c .before .before .before in
     let l = t .before .loop in
-    (omega arith, l .inv .1 ∙ among-next _ _ _ (t .loop-test .taken) (sym (id-is _ _ (8 + 32 * (l .i - 1)) _ (c .before .same-bytes .ensures)) ∙ c .if1 .left))
+    (omega arith, l .inv .1 ∙ among-next _ _ _ (t .loop-test .taken) (sym (id-is _ _ (rowPlace (l .i - 1)) _ (c .before .same-bytes .ensures)) ∙ c .if1 .left))
 
 returns-2 : tie.Need-returns-2 Inv-loop μ-loop
 returns-2 c =

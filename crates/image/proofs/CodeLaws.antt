@@ -29,7 +29,7 @@ use Rattle.image.specs.declared.Survey.{Survey}
 use Rattle.image.specs.declared.Survey.the-variants.{Unsound}
 use Rattle.image.specs.declared.Finding.the-variants.{BadId}
 use Rattle.image.specs.declared.Made.the-variants.{Done, TooShort}
-use Rattle.image.specs.Layout.{imageEdition, modeEdition, mostRows, rowPlace, rowSize, idSize, countPlace, offsetPlace, lengthPlace, maskPlace, zeroPlace}
+use Rattle.image.specs.Layout.{imageEdition, modeEdition, mostRows, rowPlace, rowSize, idSize, countPlace, offsetPlace, lengthPlace, maskPlace, zeroPlace, headerSize}
 use Rattle.image.specs.Image.{reading}
 use Rattle.image.specs.Check.{rowCount, rowId, rowLength, headerFits, idAmong, rowFits, onRead, rowAt, noted, rowsFrom, checked, surveyed, surveyOf, foundIn, findOf}
 use Rattle.image.specs.Fresh.{fresh, madeOf, afterNew}
@@ -39,14 +39,14 @@ use Rattle.image.proofs.StepLaws.{row-next-is, rows-next}
 -- ---- a new image
 
 -- A buffer under 8 bytes is too short, and stays.
-pub new-short : (d : List ℕ) → length d < 8 → (TooShort ≡ madeOf d) × (d ≡ afterNew d)
+pub new-short : (d : List ℕ) → length d < headerSize → (TooShort ≡ madeOf d) × (d ≡ afterNew d)
 unfolding madeOf afterNew
-new-short d h = let e = lt-ltb (length d) 8 h in (rw e, rw e)
+new-short d h = let e = lt-ltb (length d) headerSize h in (rw e, rw e)
 
 -- Another one has the 8 bytes first.
-pub new-done : (d e : List ℕ) → 8 ≤ length d → e ≡ putAt d 0 fresh → (Done ≡ madeOf d) × (e ≡ afterNew d)
+pub new-done : (d e : List ℕ) → headerSize ≤ length d → e ≡ putAt d 0 fresh → (Done ≡ madeOf d) × (e ≡ afterNew d)
 unfolding madeOf afterNew over
-new-done d e h p = let t = le-ltb (length d) 8 h in (rw t, p ∙ put-fits d 0 fresh h ∙ rw t)
+new-done d e h p = let t = le-ltb (length d) headerSize h in (rw t, p ∙ put-fits d 0 fresh h ∙ rw t)
 
 -- ---- the header
 
@@ -55,7 +55,7 @@ and-four : (a b c d : Bool) → (((a && b) && c) && d) ≡ (a && (b && (c && d))
 and-four a b c d = and-assoc (a && b) c d ∙ and-assoc a b (c && d)
 
 -- The four tests of the code are those of the header.
-pub header-is : (s : List ℕ) (a b c d : ℕ) → 8 ≤ length s → a ≡ numberIn s 0 2 → b ≡ numberIn s 2 2 → c ≡ numberIn s countPlace 2 → d ≡ numberIn s 6 2
+pub header-is : (s : List ℕ) (a b c d : ℕ) → headerSize ≤ length s → a ≡ numberIn s 0 2 → b ≡ numberIn s 2 2 → c ≡ numberIn s countPlace 2 → d ≡ numberIn s 6 2
     → (((eqb a imageEdition && eqb b modeEdition) && leb c mostRows) && eqb d 0) ≡ headerFits s
 unfolding headerFits rowCount
 header-is s a b c d h ea eb ec ed =
@@ -190,12 +190,12 @@ unfolding surveyOf
 unsound s id e = ap (surveyed (rowCount s)) e
 
 -- The row count is the number that the code reads.
-count-is : (s : List ℕ) (n : ℕ) → 8 ≤ length s → n ≡ numberIn s countPlace 2 → n ≡ rowCount s
+count-is : (s : List ℕ) (n : ℕ) → headerSize ≤ length s → n ≡ numberIn s countPlace 2 → n ≡ rowCount s
 unfolding rowCount
 count-is s n h e = e ∙ number-in s countPlace 2 (omega arith) (omega arith)
 
 -- A header that fits has at most 64 rows.
-pub header-few : (s : List ℕ) (n : ℕ) (b : Bool) → 8 ≤ length s → b ≡ headerFits s → not b ≡ false → n ≡ numberIn s countPlace 2 → n ≤ mostRows
+pub header-few : (s : List ℕ) (n : ℕ) (b : Bool) → headerSize ≤ length s → b ≡ headerFits s → not b ≡ false → n ≡ numberIn s countPlace 2 → n ≤ mostRows
 unfolding headerFits
 header-few s n b h p t e =
     let y : headerFits s ≡ true = sym p ∙ not-false b t in
@@ -203,21 +203,21 @@ header-few s n b h p t e =
     omega (arith, leb-true (rowCount s) mostRows (and-left (leb (rowCount s) mostRows) (eqb (numberAt s 6 2) 0) u), count-is s n h e)
 
 -- Bytes under a header are not sound.
-pub survey-short : (s id : List ℕ) → length s < 8 → Unsound ≡ surveyOf s id
+pub survey-short : (s id : List ℕ) → length s < headerSize → Unsound ≡ surveyOf s id
 unfolding checked
-survey-short s id h = unsound s id (failed-leb 8 (length s) _ h)
+survey-short s id h = unsound s id (failed-leb headerSize (length s) _ h)
 
-module _ (s id : List ℕ) (h : 8 ≤ length s) (b : Bool) (p : b ≡ headerFits s) where
+module _ (s id : List ℕ) (h : headerSize ≤ length s) (b : Bool) (p : b ≡ headerFits s) where
   -- Another header is not sound.
   pub survey-header : not b ≡ true → Unsound ≡ surveyOf s id
   unfolding checked
-  survey-header t = unsound s id (passed-leb 8 (length s) h (failed (headerFits s) _ (not-T-of b p t)))
+  survey-header t = unsound s id (passed-leb headerSize (length s) h (failed (headerFits s) _ (not-T-of b p t)))
 
   -- Rows that would end after the bytes are not sound.
   pub survey-long : not b ≡ false → (n : ℕ) → n ≡ numberIn s countPlace 2 → length s < rowPlace n → Unsound ≡ surveyOf s id
   unfolding checked
   survey-long t n e l =
-      unsound s id (passed-leb 8 (length s) h (passed (headerFits s) (T-of-not b p t)
+      unsound s id (passed-leb headerSize (length s) h (passed (headerFits s) (T-of-not b p t)
       (failed-leb (rowPlace (rowCount s)) (length s) _ (omega (arith, count-is s n h e)))))
 
   -- Else the rows tell.
@@ -227,17 +227,17 @@ module _ (s id : List ℕ) (h : 8 ≤ length s) (b : Bool) (p : b ≡ headerFits
   survey-rows t n e l r q =
       q
       ∙ ap (λ (m : ℕ). surveyed m (rowsFrom s id m 0 (rowPlace m) Missing)) (count-is s n h e)
-      ∙ ap (surveyed (rowCount s)) (passed-leb 8 (length s) h (passed (headerFits s) (T-of-not b p t)
+      ∙ ap (surveyed (rowCount s)) (passed-leb headerSize (length s) h (passed (headerFits s) (T-of-not b p t)
       (passed-leb (rowPlace (rowCount s)) (length s) (omega (arith, count-is s n h e)) refl)))
 
 -- ---- a lookup
 
 -- An id that is not 16 bytes is refused.
-pub find-bad : (s id : List ℕ) → (length id ≡ 16 → ⊥) → BadId ≡ findOf s id
+pub find-bad : (s id : List ℕ) → (length id ≡ idSize → ⊥) → BadId ≡ findOf s id
 unfolding findOf
-find-bad s id h = rw (ne-eqb (length id) 16 h, findOf)
+find-bad s id h = rw (ne-eqb (length id) idSize h, findOf)
 
 -- Else the survey tells.
-pub find-in : (s id : List ℕ) (v : Survey) → length id ≡ 16 → v ≡ surveyOf s id → foundIn v ≡ findOf s id
+pub find-in : (s id : List ℕ) (v : Survey) → length id ≡ idSize → v ≡ surveyOf s id → foundIn v ≡ findOf s id
 unfolding findOf
-find-in s id v h e = ap foundIn e ∙ rw (eq-eqb (length id) 16 h, findOf)
+find-in s id v h e = ap foundIn e ∙ rw (eq-eqb (length id) idSize h, findOf)

@@ -32,11 +32,11 @@ unfolding modesOf
 modes-read b f e = ap maskIn e
 
 -- The id of a body has 16 bytes, whatever reading says.
-pub id-length : (b : List ℕ) → length (idOf b) ≡ 16
+pub id-length : (b : List ℕ) → length (idOf b) ≡ idSize
 unfolding idOf
 id-length b = go (reading b) refl
   where
-    go : (r : Reading) → reading b ≡ r → length (idIn b r) ≡ 16
+    go : (r : Reading) → reading b ≡ r → length (idIn b r) ≡ idSize
     go (Read f) e = part-has b (f .id) idSize (read-in b f e .id) .1
     go Structure e = refl
     go Validity e = refl
@@ -109,7 +109,7 @@ row-parts s r at b h =
     let m : List ℕ = bigEndian 1 (modesOf b) in
     let n : List ℕ = bigEndian 4 (length b) in
     let o : List ℕ = bigEndian 4 at in
-    let h₁ : Has s (r + offsetPlace) (o ++ (n ++ (m ++ z))) = has-after s r 16 (r + offsetPlace) (idOf b) _ (id-length b) refl h in
+    let h₁ : Has s (r + offsetPlace) (o ++ (n ++ (m ++ z))) = has-after s r idSize (r + offsetPlace) (idOf b) _ (id-length b) refl h in
     let h₂ : Has s (r + lengthPlace) (n ++ (m ++ z)) = has-after s (r + offsetPlace) 4 (r + lengthPlace) o _ (length-bigEndian 4 at) (omega arith) h₁ in
     let h₃ : Has s (r + maskPlace) (m ++ z) = has-after s (r + lengthPlace) 4 (r + maskPlace) n _ (length-bigEndian 4 (length b)) (omega arith) h₂ in
     let h₄ : Has s (r + zeroPlace) z = has-after s (r + maskPlace) 1 (r + zeroPlace) m z (length-bigEndian 1 (modesOf b)) (omega arith) h₃ in
@@ -125,7 +125,7 @@ row-parts s r at b h =
 pub parts-row : (s : List ℕ) (r at : ℕ) (b : List ℕ) → RowParts s r at b → Has s r (row at b)
 unfolding row
 parts-row s r at b p =
-    has-both s r 16 (r + offsetPlace) (idOf b) _ (id-length b) refl (p .id)
+    has-both s r idSize (r + offsetPlace) (idOf b) _ (id-length b) refl (p .id)
     (has-both s (r + offsetPlace) 4 (r + lengthPlace) (bigEndian 4 at) _ (length-bigEndian 4 at) (omega arith) (p .offset)
     (has-both s (r + lengthPlace) 4 (r + maskPlace) (bigEndian 4 (length b)) _ (length-bigEndian 4 (length b)) (omega arith) (p .size)
     (has-both s (r + maskPlace) 1 (r + zeroPlace) (bigEndian 1 (modesOf b)) _ (length-bigEndian 1 (modesOf b)) (omega arith) (p .mask) (p .zeros))))
@@ -159,7 +159,7 @@ pub says-row : (s : List ℕ) (r at : ℕ) (b : List ℕ) → AreBytes s → Row
 says-row s r at b bytes q =
     let i : r + rowSize ≤ length s = q .inside in
     parts-row s r at b (record {
-      id = subst (Has s r) (q .id) (part-has s r 16 (omega arith) .0);
+      id = subst (Has s r) (q .id) (part-has s r idSize (omega arith) .0);
       offset = subst (λ (n : ℕ). Has s (r + offsetPlace) (bigEndian 4 n)) (q .offset) (has-of-number s (r + offsetPlace) 4 bytes (omega arith));
       size = subst (λ (n : ℕ). Has s (r + lengthPlace) (bigEndian 4 n)) (q .size) (has-of-number s (r + lengthPlace) 4 bytes (omega arith));
       mask = subst (λ (n : ℕ). Has s (r + maskPlace) (bigEndian 1 n)) (q .mask) (has-of-number s (r + maskPlace) 1 bytes (omega arith));

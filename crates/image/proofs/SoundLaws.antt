@@ -31,7 +31,7 @@ use Rattle.image.proofs.RunLaws.{Run, rows-sound, rows-complete, rows-b
 
 -- What the numbers of the header say.
 pub record HeaderSays (s : List ℕ) (n : ℕ) : Type 0 where
-  pub inside : 8 ≤ length s
+  pub inside : headerSize ≤ length s
   pub edition : numberAt s 0 2 ≡ imageEdition
   pub modes : numberAt s 2 2 ≡ modeEdition
   pub count : numberAt s countPlace 2 ≡ n
@@ -48,7 +48,7 @@ header-says s n small h =
     let h₁ : Has s 2 (b ++ (c ++ d)) = has-after s 0 2 2 a (b ++ (c ++ d)) (length-bigEndian 2 imageEdition) refl h in
     let h₂ : Has s 4 (c ++ d) = has-after s 2 2 4 b (c ++ d) (length-bigEndian 2 modeEdition) refl h₁ in
     let h₃ : Has s 6 d = has-after s 4 2 6 c d (length-bigEndian 2 n) refl h₂ in
-    let l : 8 ≤ length s = omega (arith, has-fits s 6 d (omega (arith, length-bigEndian 2 0)) h₃, length-bigEndian 2 0) in
+    let l : headerSize ≤ length s = omega (arith, has-fits s 6 d (omega (arith, length-bigEndian 2 0)) h₃, length-bigEndian 2 0) in
     record {
       inside = l;
       edition = number-of-has s 0 2 imageEdition (omega arith) (omega arith) (has-left s 0 a (b ++ (c ++ d)) h);
@@ -61,7 +61,7 @@ header-says s n small h =
 pub says-header : (s : List ℕ) (n : ℕ) → AreBytes s → HeaderSays s n → Has s 0 (header n)
 unfolding header
 says-header s n bytes q =
-    let l : 8 ≤ length s = q .inside in
+    let l : headerSize ≤ length s = q .inside in
     let number : (at m : ℕ) → at + 2 ≤ length s → numberAt s at 2 ≡ m → Has s at (bigEndian 2 m) = λ at m i e.
     subst (λ (k : ℕ). Has s at (bigEndian 2 k)) e (has-of-number s at 2 bytes i) in
     has-both s 0 2 2 (bigEndian 2 imageEdition) _ (length-bigEndian 2 imageEdition) refl (number 0 imageEdition (omega arith) (q .edition))
@@ -80,7 +80,7 @@ says-fits s n few q =
     )
 
 -- The numbers say so where the test of the header holds.
-pub fits-says : (s : List ℕ) → 8 ≤ length s → headerFits s ≡ true → HeaderSays s (rowCount s) × (rowCount s ≤ mostRows)
+pub fits-says : (s : List ℕ) → headerSize ≤ length s → headerFits s ≡ true → HeaderSays s (rowCount s) × (rowCount s ≤ mostRows)
 unfolding headerFits rowCount
 fits-says s l e =
     let a : Bool = eqb (numberAt s 0 2) imageEdition in
@@ -110,7 +110,7 @@ pub has-holds : (s : List ℕ) (bs : List (List ℕ)) → BodiesOk bs → Has s 
 has-holds s bs o h = record { bodies = o; rest = drop (length (imageOf bs)) s; whole = has-front s (imageOf bs) h }
 
 -- The rows end where the bodies begin.
-pub rows-end : (bs : List (List ℕ)) → 8 + length (rowsOf (rowPlace (length bs)) bs) ≡ rowPlace (length bs)
+pub rows-end : (bs : List (List ℕ)) → headerSize + length (rowsOf (rowPlace (length bs)) bs) ≡ rowPlace (length bs)
 rows-end bs = omega (arith, rows-length (rowPlace (length bs)) bs)
 
 -- `ImageStands`.
@@ -120,11 +120,11 @@ image-stands s bs h =
     let n : ℕ = length bs in
     let rows : List ℕ = rowsOf (rowPlace n) bs in
     let w : Has s 0 (header n ++ (rows ++ joined bs)) = holds-has s bs h in
-    let r : Has s 8 (rows ++ joined bs) = has-after s 0 8 8 (header n) (rows ++ joined bs) (header-length n) refl w in
+    let r : Has s headerSize (rows ++ joined bs) = has-after s 0 headerSize headerSize (header n) (rows ++ joined bs) (header-length n) refl w in
     record {
       has-header = has-left s 0 (header n) (rows ++ joined bs) w;
-      has-rows = has-left s 8 rows (joined bs) r;
-      has-bodies = has-after s 8 (length rows) (rowPlace n) rows (joined bs) refl (rows-end bs) r;
+      has-rows = has-left s headerSize rows (joined bs) r;
+      has-bodies = has-after s headerSize (length rows) (rowPlace n) rows (joined bs) refl (rows-end bs) r;
     }
 
 -- Where the header, the rows and the bodies of an image stand one after the other, it stands.
@@ -133,8 +133,8 @@ unfolding imageOf
 run-whole s bs w =
     let n : ℕ = length bs in
     let rows : List ℕ = rowsOf (rowPlace n) bs in
-    has-both s 0 8 8 (header n) (rows ++ joined bs) (header-length n) refl (w .has-header)
-    (has-both s 8 (length rows) (rowPlace n) rows (joined bs) refl (rows-end bs) (w .has-rows) (w .has-bodies))
+    has-both s 0 headerSize headerSize (header n) (rows ++ joined bs) (header-length n) refl (w .has-header)
+    (has-both s headerSize (length rows) (rowPlace n) rows (joined bs) refl (rows-end bs) (w .has-rows) (w .has-bodies))
 
 -- The rows and the bodies of an image that s begins with stand.
 pub holds-run : (s : List ℕ) (bs : List (List ℕ)) → Holds s bs → Run s [] 0 (rowPlace (length bs)) bs

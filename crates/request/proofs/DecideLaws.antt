@@ -23,7 +23,7 @@ use Rattle.request.specs.declared.Decision.the-variants as answers
 use Rattle.request.specs.declared.search.Matched.{Matched}
 use Rattle.request.specs.declared.search.Matched.the-variants.{IsAt, Nothing}
 use Rattle.request.specs.Asked.{Asked, wellFormed}
-use Rattle.request.specs.Decision.{laterSteps, stepsBy, grantedBy, factsOf, firstFrom, matchedOn, decidedOn, factsIn, matchedIn, stepsOf, decisionOf}
+use Rattle.request.specs.Decision.{keySteps, laterSteps, stepsBy, grantedBy, factsOf, firstFrom, matchedOn, decidedOn, factsIn, matchedIn, stepsOf, decisionOf}
 use Rattle.request.specs.Stages.{signedBy}
 
 -- The code compares a part that it lends.
@@ -90,8 +90,8 @@ module _ (q : Asked) (b : List ℕ) (f : Fields) where
 
   -- Where a grant serves, the last two steps come to what the key and the signature come to.
   pub on-signed : (grant mask : ℕ) {x : Decision} → x ≡ signedBy grant mask (f .after) (q .clock) (q .session) (q .verdict) (q .window)
-      → Decides (drop 6 (laterSteps q (factsOf b f) (IsAt grant mask))) (grantedBy q (factsOf b f) (IsAt grant mask)) x
-  unfolding laterSteps grantedBy signedBy
+      → Decides (keySteps q) (grantedBy q (factsOf b f) (IsAt grant mask)) x
+  unfolding grantedBy signedBy
   on-signed grant mask e = last-two (not (isThat (q .verdict) noKey) && keyOpen (q .window) (q .clock)) (not (isThat (q .verdict) bad)) _ _ _ e
 
 -- ---- all steps

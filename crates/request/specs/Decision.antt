@@ -36,6 +36,13 @@ abbrev pub isMatched : Matched → Bool
 isMatched (IsAt grant mask) = true
 isMatched Nothing = false
 
+-- the last steps: the key and the signature
+abbrev pub keySteps : Asked → List (Step Decision)
+keySteps q =
+    step (not (isThat (q .verdict) noKey) && keyOpen (q .window) (q .clock)) answers.KeyInvalid
+    ∷ step (not (isThat (q .verdict) bad)) answers.BadSignature
+    ∷ []
+
 -- the steps on a descriptor that was found, by its facts and the first grant that serves
 unfoldable pub laterSteps : Asked → Facts → Matched → List (Step Decision)
 laterSteps q x m =
@@ -45,9 +52,7 @@ laterSteps q x m =
     ∷ step (same (x .fay) (q .fay)) answers.SubjectMismatch
     ∷ step (same (x .terminal) (q .terminal)) answers.TerminalMismatch
     ∷ step (isMatched m) answers.Insufficient
-    ∷ step (not (isThat (q .verdict) noKey) && keyOpen (q .window) (q .clock)) answers.KeyInvalid
-    ∷ step (not (isThat (q .verdict) bad)) answers.BadSignature
-    ∷ []
+    ∷ keySteps q
 
 -- all steps: the arguments, the image, that the id is held, and those
 unfoldable pub stepsBy : Asked → Bool → Bool → Facts → Matched → List (Step Decision)

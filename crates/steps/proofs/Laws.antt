@@ -1,11 +1,11 @@
 -- Laws of steps in order that the crates above cite (specs/Laws.antt). Assumes nothing.
-use mathlib.Core.Path.{_≡_, refl, sym, ap, _∙_}
+use mathlib.Core.Path.{_≡_, refl, ap}
 use mathlib.Core.Bool.{Bool, true, false, not, cond, _&&_, _||_, false≢true}
 use mathlib.Core.List.{List, [], _∷_}
 use Prim.Native.Nat.{ℕ}
 use lib.Dec.{eqb}
-use borrow.Author.Tests.{eqb-true, eqb-false, not-true}
-use Rattle.steps.specs.Order.{Step, step, orElse, inOrder, AllPass, NoneIs}
+use borrow.Author.Tests.{eqb-true, eqb-false}
+use Rattle.steps.specs.Order.{Step, orElse, inOrder, AllPass, NoneIs}
 use Rattle.steps.specs.Laws.{Decides, ends, passes, fails, mapped, allPass, noneHas, passesBy, failsBy}
 
 -- ---- how an answer comes about
@@ -45,10 +45,6 @@ order-mapped f (s ∷ steps) r = go (s .passes) (order-mapped f steps r)
     go : (t : Bool) → f (inOrder steps r) ≡ inOrder (mapped f steps) (f r) → f (orElse t (s .refusal) (inOrder steps r)) ≡ orElse t (f (s .refusal)) (inOrder (mapped f steps) (f r))
     go true e = e
     go false e = refl
-
--- Steps that pass alike and have the same refusal, before steps that do so.
-pub alike : {R : Type 0} {t u : Bool} {a b : R} {ss us : List (Step R)} → t ≡ u → a ≡ b → ss ≡ us → (step t a ∷ ss) ≡ (step u b ∷ us)
-alike e f g = rw (e, f, g)
 
 -- ---- steps named by the number of their refusal
 

@@ -14,7 +14,7 @@ use Rattle.image.specs.declared.Survey.{Survey}
 use Rattle.image.specs.Image.{reading, idOf, joined, imageOf}
 use Rattle.image.specs.Check.{surveyOf, bodiesOf, isHeld}
 use Rattle.image.proofs.Laws.{read-in, survey-says, lengths}
-use Rattle.image.specs.Layout.{rowSize, mostRows, rowPlace}
+use Rattle.image.specs.Layout.{rowSize, mostRows, rowPlace, idSize}
 use Rattle.submission.specs.declared.Submission.{Submission}
 use Rattle.submission.specs.declared.Submission.the-variants as answers
 use Rattle.submission.specs.declared.choose.Choice.the-variants.{Answer, Store}
@@ -45,7 +45,7 @@ pub record Stores (d b : List ℕ) (clock verdict : ℕ) (window : Window) (n en
   pub few : n < mostRows
   pub start : rowPlace n ≤ end
   pub room : end + rowSize + length b ≤ length d
-  pub id : at + 16 ≤ length b
+  pub id : at + idSize ≤ length b
 
 -- An answer is the submission's, and the buffer is as it was.
 pub choice-answer : (d b : List ℕ) (clock verdict : ℕ) (window : Window) (a : Submission) → choiceOf d b clock verdict window ≡ Answer a

@@ -2,7 +2,7 @@
 use mathlib.Core.Path.{_≡_, refl, sym, ap, _∙_}
 use mathlib.Core.Logic.{_↔_}
 use mathlib.Core.Bool.{true, not, cond, _||_}
-use mathlib.Core.List.{List}
+use mathlib.Core.List.{List, [], _∷_}
 use Prim.Native.Nat.{ℕ, _≤_}
 use lib.Dec.{eqb}
 use borrow.Author.Tests.{le-leb}
@@ -24,18 +24,15 @@ use Rattle.submission.specs.Submission.{isStructure, isValidity, agrees,
 
 -- ---- the steps and the answer 0
 
--- The answers and their numbers, back from the number.
+-- The first of some answers that has the number, or done.
+abbrev pick : List Submission → ℕ → Submission
+pick [] n = answers.Done
+pick (a ∷ rest) n = cond (eqb (numberOf a) n) a (pick rest n)
+
+-- The answer with a number.
 abbrev answerWith : ℕ → Submission
-answerWith n =
-    cond (eqb n 1) answers.Structure (
-    cond (eqb n 2) answers.Validity (
-    cond (eqb n 3) answers.UnknownIssuer (
-    cond (eqb n 4) answers.BadSignature (
-    cond (eqb n 5) answers.Duplicate (
-    cond (eqb n 6) answers.Full (
-    cond (eqb n 14) answers.KeyInvalid (
-    cond (eqb n 15) answers.Malformed (
-    cond (eqb n 16) answers.BadImage answers.Done))))))))
+answerWith =
+    pick (answers.Structure ∷ answers.Validity ∷ answers.UnknownIssuer ∷ answers.BadSignature ∷ answers.Duplicate ∷ answers.Full ∷ answers.KeyInvalid ∷ answers.Malformed ∷ answers.BadImage ∷ [])
 
 -- It is the one that has the number.
 with-number : (a : Submission) → answerWith (numberOf a) ≡ a
@@ -83,10 +80,10 @@ done-passed d b clock verdict window e =
     let p : AllPass (steps d b clock verdict window) = done-exactly d b clock verdict window .0 e in
     let by : (n : ℕ) → passesBy numberOf n (steps d b clock verdict window) ≡ true = λ n. passed-by numberOf n (steps d b clock verdict window) p in
     record {
-      sound = and-left _ true (by 16);
-      reads = read-passes (reading b) (and-left _ true (by 1)) (and-left (not (isValidity (reading b))) _ (by 2));
-      same-bytes = and-left _ true (by 5);
-      room = and-left _ true (by 6);
+      sound = and-left _ true (by (numberOf answers.BadImage));
+      reads = read-passes (reading b) (and-left _ true (by (numberOf answers.Structure))) (and-left (not (isValidity (reading b))) _ (by (numberOf answers.Validity)));
+      same-bytes = and-left _ true (by (numberOf answers.Duplicate));
+      room = and-left _ true (by (numberOf answers.Full));
     }
 
 -- An image that is not sound is answered with 16, where the verdict is one of the three.
@@ -95,4 +92,4 @@ pub unsound-refused : (d b : List ℕ) (clock verdict : ℕ) (window : Window) �
 unfolding submitted steps stepsBy isVerdict
 unsound-refused d b clock verdict window h e =
     number-is (submitted d b clock verdict window) answers.BadImage
-    (failed-by numberOf 16 (steps d b clock verdict window) answers.Done (rw (le-leb verdict 2 h, e)))
+    (failed-by numberOf (numberOf answers.BadImage) (steps d b clock verdict window) answers.Done (rw (le-leb verdict 2 h, e)))

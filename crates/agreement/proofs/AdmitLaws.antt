@@ -1,8 +1,8 @@
 -- What a descriptor admits is what steps 9, 10 and 13 let pass (specs/Promises.antt). Assumes nothing.
 use mathlib.Core.Path.{_≡_, refl, sym, ap, ap₂, _∙_, subst}
 use mathlib.Core.Logic.{_↔_, _⊎_, inl, inr, ⊎-elim}
-use mathlib.Core.Bool.{Bool, true, false, _&&_, _||_, and-true}
-use mathlib.Core.List.{List, [], _∷_}
+use mathlib.Core.Bool.{Bool, true, false, cond, _&&_, _||_, and-true, false≢true}
+use mathlib.Core.List.{List, [], _∷_, _++_}
 use Prim.Native.Nat.{ℕ, zero, suc, _≤_, _<_}
 use native.Mathlib.Omega.{arith}
 use lib.ListN.{length}
@@ -21,7 +21,16 @@ use Rattle.narrowing.specs.Meaning.{grantAdmits, anyAdmits, Admits}
 use Rattle.narrowing.specs.Promises.{NoPairs, Reads, Inside, answerOnly}
 use Rattle.narrowing.specs.Narrow.{narrow, numbersOf as narrowNumbers}
 use Rattle.narrowing.proofs.Promises.{constrained-exactly, accepted-exactly}
-use Rattle.agreement.specs.Promises.{Serves, AcceptedUnder, AsksSame, StepsAdmit}
+use Rattle.octets.proofs.ListLaws.{or-assoc}
+use Rattle.resource.specs.Characters.{oneOf}
+use Rattle.steps.specs.Order.{Step, AllPass}
+use Rattle.request.specs.declared.DecisionNumbers.{DecisionNumbers}
+use Rattle.agreement.specs.Promises.{numbered, Serves, AcceptedUnder, AsksSame, StepsAdmit}
+
+-- a number is one of two lists exactly where it is one of the first or of the second
+one-either : (c : ℕ) (xs ys : List ℕ) → oneOf c (xs ++ ys) ≡ (oneOf c xs || oneOf c ys)
+one-either c [] ys = refl
+one-either c (x ∷ xs) ys = ap (λ (t : Bool). eqb c x || t) (one-either c xs ys) ∙ or-assoc (eqb c x) (oneOf c xs) (oneOf c ys)
 
 -- ---- grants
 
@@ -43,6 +52,41 @@ pairs-or-none (g ∷ gs) = go (pairCount (g .constraints)) refl (pairs-or-none g
     go zero e (inl p) = inl (e, p)
     go zero e (inr p) = inr (λ q. p (q .1))
     go (suc n) e r = inr (λ q. omega (arith, q .0))
+
+-- ---- steps by their numbers
+
+-- where all steps pass, those of some numbers do
+pub some-pass : (ns : List ℕ) (steps : List (Step DecisionNumbers)) → AllPass steps → AllPass (numbered ns steps)
+some-pass ns [] a = tt
+some-pass ns (s ∷ steps) a = go (oneOf (s .refusal .answer) ns) (some-pass ns steps (a .1))
+  where
+    go : (t : Bool) → AllPass (numbered ns steps) → AllPass (cond t (s ∷ numbered ns steps) (numbered ns steps))
+    go true r = (a .0, r)
+    go false r = r
+
+-- each step has one of the numbers
+abbrev pub allOf : List ℕ → List (Step DecisionNumbers) → Bool
+allOf ns [] = true
+allOf ns (s ∷ steps) = oneOf (s .refusal .answer) ns && allOf ns steps
+
+-- where the steps of some numbers pass and those of the others do, all pass
+pub all-pass : (ns ms : List ℕ) (steps : List (Step DecisionNumbers)) → allOf (ns ++ ms) steps ≡ true → AllPass (numbered ns steps) → AllPass (numbered ms steps) → AllPass steps
+all-pass ns ms [] e a b = tt
+all-pass ns ms (s ∷ steps) e a b =
+    go (oneOf (s .refusal .answer) ns) (oneOf (s .refusal .answer) ms) refl refl a b
+    (all-pass ns ms steps (and-right (oneOf (s .refusal .answer) (ns ++ ms)) (allOf (ns ++ ms) steps) e))
+  where
+    here : (t u : Bool) → oneOf (s .refusal .answer) ns ≡ t → oneOf (s .refusal .answer) ms ≡ u → (t || u) ≡ true
+    here t u f g =
+        sym (ap₂ _||_ f g) ∙ sym (one-either (s .refusal .answer) ns ms) ∙ and-left (oneOf (s .refusal .answer) (ns ++ ms)) (allOf (ns ++ ms) steps) e
+
+    go : (t u : Bool) → oneOf (s .refusal .answer) ns ≡ t → oneOf (s .refusal .answer) ms ≡ u → AllPass (cond t (s ∷ numbered ns steps) (numbered ns steps))
+        → AllPass (cond u (s ∷ numbered ms steps) (numbered ms steps)) → (AllPass (numbered ns steps) → AllPass (numbered ms steps) → AllPass steps)
+        → AllPass (s ∷ steps)
+    go true true f g x y rest = (x .0, rest (x .1) (y .1))
+    go true false f g x y rest = (x .0, rest (x .1) y)
+    go false true f g x y rest = (y .0, rest x (y .1))
+    go false false f g x y rest = absurd (false≢true (here false false f g))
 
 -- ---- one descriptor
 

@@ -1,11 +1,11 @@
 -- The promises of specs/Promises.antt, each from its law. Assumes nothing.
-use mathlib.Core.Path.{_≡_, ap, subst}
+use mathlib.Core.Path.{_≡_, refl}
+use mathlib.Core.List.{List, [], _∷_}
 use Prim.Native.Nat.{ℕ}
-use Rattle.resource.specs.Pattern.{Path}
 use Rattle.resource.specs.Text.{pathOf}
 use Rattle.descriptor.specs.Model.{Descriptor}
 use Rattle.request.specs.Asked.{Asked}
-use Rattle.request.specs.Promises.{held}
+use Rattle.request.specs.Promises.{held, stepsFor}
 use Rattle.request.proofs.Promises.{granted-exactly}
 use Rattle.narrowing.specs.Meaning.{Admits}
 use Rattle.agreement.specs.Promises.{StepsAdmit, GrantedAdmits, AcceptedServes, AcceptedGrants}
@@ -14,13 +14,18 @@ use Rattle.agreement.proofs.AdmitLaws as laws
 pub steps-admit : StepsAdmit
 steps-admit = laws.steps-admit
 
+-- the numbers of the steps that say what a descriptor admits, and of the others
+abbrev theirs : List ℕ
+theirs = 9 ∷ 10 ∷ 13 ∷ []
+
+abbrev others : List ℕ
+others = 15 ∷ 16 ∷ 7 ∷ 8 ∷ 11 ∷ 12 ∷ 14 ∷ 4 ∷ []
+
 pub granted-admits : GrantedAdmits
 granted-admits s q d u n o =
     let x = granted-exactly s q (held d) u in (
-      λ e. let p = x .0 e in laws.steps-admit q d n .0 (p .1 .1 .1 .1 .0, (p .1 .1 .1 .1 .1 .0, (p .1 .1 .1 .1 .1 .1 .1 .1 .0, tt))),
-      λ a.
-          let p = laws.steps-admit q d n .1 a in
-          x .1 (o .0, (o .1 .0, (o .1 .1 .0, (o .1 .1 .1 .0, (p .0, (p .1 .0, (o .1 .1 .1 .1 .0, (o .1 .1 .1 .1 .1 .0, (p .1 .1 .0, (o .1 .1 .1 .1 .1 .1 .0, (o .1 .1 .1 .1 .1 .1 .1 .0, tt))))))))))),
+      λ e. laws.steps-admit q d n .0 (laws.some-pass theirs (stepsFor q (held d)) (x .0 e)),
+      λ a. x .1 (laws.all-pass theirs others (stepsFor q (held d)) refl (laws.steps-admit q d n .1 a) o),
     )
 
 -- the moment, the path and the mode of a request that asks the same
@@ -32,7 +37,7 @@ pub accepted-serves : AcceptedServes
 accepted-serves s q r parent child a u e same =
     let n = laws.none-accepted parent child a in
     let p = granted-exactly s q (held child) u .0 e in
-    let admitted = laws.steps-admit q child (n .1) .0 (p .1 .1 .1 .1 .0, (p .1 .1 .1 .1 .1 .0, (p .1 .1 .1 .1 .1 .1 .1 .1 .0, tt))) in
+    let admitted = laws.steps-admit q child (n .1) .0 (laws.some-pass theirs (stepsFor q (held child)) p) in
     let inside = laws.inside-accepted parent child a (q .clock) (pathOf (q .resource)) (q .mode) (laws.path-formed q (p .0)) admitted in
     laws.steps-admit r parent (n .0) .1 (same-asked q r parent (same .clock) (same .resource) (same .mode) inside)
 

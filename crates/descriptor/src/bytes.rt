@@ -11,11 +11,5 @@ pub(crate) fn same_terminal(a: &[u8], b: &[u8]) -> bool
     requires { ⌜ (terminalSize ≤ length (now a)) × (terminalSize ≤ length (now b)) ⌝ }
     ensures { λ o. ⌜ o ≡ same (take terminalSize (now (a .entry))) (take terminalSize (now (b .entry))) ⌝ }
 {
-    let mut ok = true;
-    let mut i = 0;
-    while i < TERMINAL_SIZE {
-        ok = ok & (a[i] == b[i]);
-        i += 1;
-    }
-    ok
+    octets::same_start(a, b, TERMINAL_SIZE)
 }

@@ -1,4 +1,4 @@
--- Numbers that stand in bytes, in network byte order. A reader of the promises does not need this page but for `bigEndian` and `numberAt`.
+-- Numbers that stand in bytes, in network byte order.
 use mathlib.Core.Bool.{cond, _&&_}
 use mathlib.Core.List.{List, [], _∷_, _++_}
 use Prim.Native.Nat.{ℕ, zero, suc, _+_, _*_, _/_, _%_}

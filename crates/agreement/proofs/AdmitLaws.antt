@@ -70,7 +70,8 @@ allOf ns [] = true
 allOf ns (s ∷ steps) = oneOf (s .refusal .answer) ns && allOf ns steps
 
 -- where the steps of some numbers pass and those of the others do, all pass
-pub all-pass : (ns ms : List ℕ) (steps : List (Step DecisionNumbers)) → allOf (ns ++ ms) steps ≡ true → AllPass (numbered ns steps) → AllPass (numbered ms steps) → AllPass steps
+pub all-pass : (ns ms : List ℕ) (steps : List (Step DecisionNumbers)) → allOf (ns ++ ms) steps ≡ true → AllPass (numbered ns steps)
+    → AllPass (numbered ms steps) → AllPass steps
 all-pass ns ms [] e a b = tt
 all-pass ns ms (s ∷ steps) e a b =
     go (oneOf (s .refusal .answer) ns) (oneOf (s .refusal .answer) ms) refl refl a b
@@ -78,10 +79,13 @@ all-pass ns ms (s ∷ steps) e a b =
   where
     here : (t u : Bool) → oneOf (s .refusal .answer) ns ≡ t → oneOf (s .refusal .answer) ms ≡ u → (t || u) ≡ true
     here t u f g =
-        sym (ap₂ _||_ f g) ∙ sym (one-either (s .refusal .answer) ns ms) ∙ and-left (oneOf (s .refusal .answer) (ns ++ ms)) (allOf (ns ++ ms) steps) e
+        sym (ap₂ _||_ f g) ∙ sym (one-either (s .refusal .answer) ns ms)
+        ∙ and-left (oneOf (s .refusal .answer) (ns ++ ms)) (allOf (ns ++ ms) steps) e
 
-    go : (t u : Bool) → oneOf (s .refusal .answer) ns ≡ t → oneOf (s .refusal .answer) ms ≡ u → AllPass (cond t (s ∷ numbered ns steps) (numbered ns steps))
-        → AllPass (cond u (s ∷ numbered ms steps) (numbered ms steps)) → (AllPass (numbered ns steps) → AllPass (numbered ms steps) → AllPass steps)
+    go : (t u : Bool) → oneOf (s .refusal .answer) ns ≡ t → oneOf (s .refusal .answer) ms ≡ u
+        → AllPass (cond t (s ∷ numbered ns steps) (numbered ns steps))
+        → AllPass (cond u (s ∷ numbered ms steps) (numbered ms steps))
+        → (AllPass (numbered ns steps) → AllPass (numbered ms steps) → AllPass steps)
         → AllPass (s ∷ steps)
     go true true f g x y rest = (x .0, rest (x .1) (y .1))
     go true false f g x y rest = (x .0, rest (x .1) y)
@@ -109,7 +113,8 @@ steps-admit q d n = (
 -- ---- an accepted child
 
 -- a child and a parent of which the answer is 0 have no constraint pairs
-pub none-accepted : (parent child : Descriptor) → AcceptedUnder parent child → NoPairs (parent .payload .grants) × NoPairs (child .payload .grants)
+pub none-accepted : (parent child : Descriptor) → AcceptedUnder parent child
+    → NoPairs (parent .payload .grants) × NoPairs (child .payload .grants)
 none-accepted parent child a = go (pairs-or-none (parent .payload .grants)) (pairs-or-none (child .payload .grants))
   where
     refused : ((NoPairs (parent .payload .grants) × NoPairs (child .payload .grants)) → ⊥) → ⊥
@@ -117,7 +122,8 @@ none-accepted parent child a = go (pairs-or-none (parent .payload .grants)) (pai
         let e = constrained-exactly (encode parent) (encode child) parent child (a .parentBytes) (a .childBytes) (a .parentAllowed) (a .childAllowed) refl refl .1 f in
         omega (arith, ap (λ n. n .answer) (sym (a .accepted) ∙ e))
 
-    go : NoPairs (parent .payload .grants) ⊎ (NoPairs (parent .payload .grants) → ⊥) → NoPairs (child .payload .grants) ⊎ (NoPairs (child .payload .grants) → ⊥)
+    go : NoPairs (parent .payload .grants) ⊎ (NoPairs (parent .payload .grants) → ⊥)
+        → NoPairs (child .payload .grants) ⊎ (NoPairs (child .payload .grants) → ⊥)
         → NoPairs (parent .payload .grants) × NoPairs (child .payload .grants)
     go (inl p) (inl q) = (p, q)
     go (inl p) (inr q) = absurd (refused (λ r. q (r .1)))

@@ -1,5 +1,5 @@
--- What is promised of narrowing and requests together, and nothing else: one meaning of "admits". Each statement `NameOfIt` is proved in proofs/Promises.antt as
--- `name-of-it`.
+-- What is promised of narrowing and requests together, and nothing else: one meaning of "admits". Each statement `NameOfIt` is proved
+-- in proofs/Promises.antt as `name-of-it`.
 use mathlib.Core.Path.{_≡_}
 use mathlib.Core.Logic.{_↔_}
 use mathlib.Core.Bool.{cond}
@@ -36,7 +36,8 @@ OthersPass q d = AllPass (numbered (15 ∷ 16 ∷ 7 ∷ 8 ∷ 11 ∷ 12 ∷ 14 �
 abbrev pub StepsAdmit : Type 0
 StepsAdmit = (q : Asked) (d : Descriptor) → NoPairs (d .payload .grants) → Serves q d ↔ Admits d (q .clock) (pathOf (q .resource)) (q .mode)
 
--- where the other steps pass, a request for such a descriptor is answered 0 exactly when the descriptor admits its moment, path and mode together
+-- where the other steps pass, a request for such a descriptor is answered 0 exactly when the descriptor admits its moment, path and
+-- mode together
 abbrev pub GrantedAdmits : Type 0
 GrantedAdmits = (s : List ℕ) (q : Asked) (d : Descriptor) → Under s (q .id) (held d) → NoPairs (d .payload .grants) → OthersPass q d
     → (numbersOf (decisionOf s q) .answer ≡ 0) ↔ Admits d (q .clock) (pathOf (q .resource)) (q .mode)
@@ -63,4 +64,5 @@ AcceptedServes = (s : List ℕ) (q r : Asked) (parent child : Descriptor) → Ac
 -- so that an image that holds the parent grants it, where the other steps pass
 abbrev pub AcceptedGrants : Type 0
 AcceptedGrants = (s t : List ℕ) (q r : Asked) (parent child : Descriptor) → AcceptedUnder parent child → Under s (q .id) (held child)
-    → numbersOf (decisionOf s q) .answer ≡ 0 → AsksSame q r → Under t (r .id) (held parent) → OthersPass r parent → numbersOf (decisionOf t r) .answer ≡ 0
+    → numbersOf (decisionOf s q) .answer ≡ 0 → AsksSame q r → Under t (r .id) (held parent) → OthersPass r parent
+    → numbersOf (decisionOf t r) .answer ≡ 0

@@ -8,4 +8,5 @@ use Rattle.cap.specs.Numbers.{windowOf}
 
 -- the clock is in the key's window exactly when it is not before valid_from and, unless has_valid_until is 0, not after valid_until
 abbrev pub WindowExactly : Type 0
-WindowExactly = (from has until clock : ℕ) → (keyOpen (windowOf from has until) clock ≡ true) ↔ ((from ≤ clock) × ((has ≡ 0) ⊎ (clock ≤ until)))
+WindowExactly = (from has until clock : ℕ) → (keyOpen (windowOf from has until) clock ≡ true)
+    ↔ ((from ≤ clock) × ((has ≡ 0) ⊎ (clock ≤ until)))

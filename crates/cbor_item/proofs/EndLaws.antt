@@ -52,7 +52,8 @@ content-ends s start n h =
     record { after = omega arith; ends = refl; fits = omega (arith, ltb-false) }
 
 -- the same of a string that was answered
-pub span-in : (s : List ℕ) (start n : ℕ) {c : Span} {next : ℕ} → start ≤ length s → got c next ≡ spanIn s start n → c .start + c .len ≤ length s
+pub span-in : (s : List ℕ) (start n : ℕ) {c : Span} {next : ℕ} → start ≤ length s → got c next ≡ spanIn s start n
+    → c .start + c .len ≤ length s
 span-in s start n h e = let t = held (SpanTo s start) (content-ends s start n h) e in omega (arith, t .ends, t .fits)
 
 -- every string begins after its place and ends within s

@@ -74,8 +74,10 @@ word-bounds good least long s at =
     (i, omega (arith, e, long _ (T-true _ .0 t)))))
 
 -- a value after its key ends not before the key's place
-pub key-on : {R : Type 0} (s : List ℕ) (at : ℕ) (k : List ℕ) (o : Got R) → Holds (λ r n. at + length k ≤ n) o → Holds (λ r n. at ≤ n) (guard (hasAt s at k) o)
-key-on s at k o h = holds-guard (λ r n. at ≤ n) (hasAt s at k) o (λ t. holds-map (λ r n. at + length k ≤ n) (λ r n. at ≤ n) o h (λ r n i. omega (arith, i)))
+pub key-on : {R : Type 0} (s : List ℕ) (at : ℕ) (k : List ℕ) (o : Got R) → Holds (λ r n. at + length k ≤ n) o
+    → Holds (λ r n. at ≤ n) (guard (hasAt s at k) o)
+key-on s at k o h = holds-guard (λ r n. at ≤ n) (hasAt s at k) o
+    (λ t. holds-map (λ r n. at + length k ≤ n) (λ r n. at ≤ n) o h (λ r n i. omega (arith, i)))
 
 -- ---- pairs and modes
 
@@ -97,7 +99,8 @@ one-on s at i (k ∷ ks) = by-cond (Holds (λ m n. at ≤ n)) (hasAt s at k) (λ
 mode-on : (s : List ℕ) (mask b at : ℕ) → b ≤ at → Holds (λ c n. b ≤ n) (modeAt s mask at)
 unfolding modeAt
 mode-on s mask b at h =
-    holds-bind (λ m n. at ≤ n) (λ c n. b ≤ n) _ _ (one-on s at 0 modeNames) (λ m n i. holds-guard (λ c n. b ≤ n) _ _ (λ t. omega (arith, i)))
+    holds-bind (λ m n. at ≤ n) (λ c n. b ≤ n) _ _ (one-on s at 0 modeNames)
+    (λ m n i. holds-guard (λ c n. b ≤ n) _ _ (λ t. omega (arith, i)))
 
 -- pairs are at most as many as allowed
 pub pairs-bounds : (s : List ℕ) (most at : ℕ) → Holds (λ c n. (c ≤ most) × (at ≤ n)) (pairsAt s most at)
@@ -146,7 +149,8 @@ grant-bounds s at =
     (λ mask m j.
     holds-bind (λ pairs k. (m ≤ k) × (pairsOf pairs ≤ 8)) (GrantIn s at) _ _ (few-opt s m)
     (λ pairs k l.
-    holds-bind (WordTo s (k + length kResourcePattern) 46) (GrantIn s at) _ _ (holds-guard (WordTo s (k + length kResourcePattern) 46) _ _ (λ t. pattern-to s (k + length kResourcePattern)))
+    holds-bind (WordTo s (k + length kResourcePattern) 46) (GrantIn s at) _ _
+    (holds-guard (WordTo s (k + length kResourcePattern) 46) _ _ (λ t. pattern-to s (k + length kResourcePattern)))
     (λ pattern p q. holds-guard (GrantIn s at) _ _
     (λ t. record { after = omega (arith, i, q .0 .after, q .0 .ends); long = q .1; fits = omega (arith, q .0 .ends, q .0 .fits); few = l .1 })))))
 
@@ -186,11 +190,13 @@ pub key-room : (s : List ℕ) (at : ℕ) (k : List ℕ) (b : Bool) → 0 < lengt
 key-room s at k b h e t = key-fits s at k h (T-of-not b e t)
 
 -- an optional value's key lies within s
-pub opt-room : {R : Type 0} {r : R} {n : ℕ} (s : List ℕ) (at : ℕ) (k : List ℕ) (o : Got R) → 0 < length k → got (some r) n ≡ optAt (hasAt s at k) o at → at + length k ≤ length s
+pub opt-room : {R : Type 0} {r : R} {n : ℕ} (s : List ℕ) (at : ℕ) (k : List ℕ) (o : Got R) → 0 < length k
+    → got (some r) n ≡ optAt (hasAt s at k) o at → at + length k ≤ length s
 opt-room s at k o h e = key-fits s at k h (opt-key (hasAt s at k) o at e)
 
 -- a word after its key ends within s
-pub word-ends : {c : Span} {n : ℕ} (good : List ℕ → Bool) (b : Bool) (s : List ℕ) (at : ℕ) → got c n ≡ guard b (wordAt good s at) → n ≤ length s
+pub word-ends : {c : Span} {n : ℕ} (good : List ℕ → Bool) (b : Bool) (s : List ℕ) (at : ℕ) → got c n ≡ guard b (wordAt good s at)
+    → n ≤ length s
 word-ends good b s at e =
     held (λ c n. n ≤ length s)
     (holds-guard (λ c n. n ≤ length s) b (wordAt good s at)
@@ -211,7 +217,8 @@ OptTo s none n = Unit {0}
 OptTo s (some c) n = n ≤ length s
 
 -- an optional text that was read ends within s
-pub opt-text-ends : {c : Span} {n : ℕ} (b : Bool) (s : List ℕ) (from lo hi at : ℕ) → got (some c) n ≡ optAt b (textAt s from lo hi) at → n ≤ length s
+pub opt-text-ends : {c : Span} {n : ℕ} (b : Bool) (s : List ℕ) (from lo hi at : ℕ) → got (some c) n ≡ optAt b (textAt s from lo hi) at
+    → n ≤ length s
 opt-text-ends b s from lo hi at e =
     held (OptTo s)
     (holds-opt (OptTo s) b (textAt s from lo hi) at tt
@@ -231,7 +238,8 @@ pub count-room : {v n : ℕ} (s : List ℕ) (at major lo hi : ℕ) → got v n �
 count-room s at major lo hi e = let b = held (CountTo at lo hi) (count-bounds s at major lo hi) e in (b .0, b .1)
 
 -- the pattern of a grant that was read lies within s, and its pairs are few
-pub grant-room : {g : GrantSeen} {n : ℕ} (s : List ℕ) (at : ℕ) → got g n ≡ grantAt s at → (g .pattern .start + 46 ≤ length s) × (g .pairs ≤ 8)
+pub grant-room : {g : GrantSeen} {n : ℕ} (s : List ℕ) (at : ℕ) → got g n ≡ grantAt s at
+    → (g .pattern .start + 46 ≤ length s) × (g .pairs ≤ 8)
 grant-room s at e = let b = held (GrantIn s at) (grant-bounds s at) e in (omega (arith, b .long, b .fits), b .few)
 
 -- that pattern has at least 46 bytes, and ends within s
@@ -240,12 +248,14 @@ pub pattern-room : {g : GrantSeen} {n : ℕ} (s : List ℕ) (at : ℕ) → got g
 pattern-room s at e = let b = held (GrantIn s at) (grant-bounds s at) e in (b .long, b .fits)
 
 -- one more grant that was read adds few pairs
-pub more-room : {more : Sum} {n : ℕ} (s : List ℕ) (first : ℕ) (sum : Sum) (at : ℕ) → got more n ≡ moreAt s first sum at → more .pairs ≤ sum .pairs + 8
+pub more-room : {more : Sum} {n : ℕ} (s : List ℕ) (first : ℕ) (sum : Sum) (at : ℕ) → got more n ≡ moreAt s first sum at
+    → more .pairs ≤ sum .pairs + 8
 more-room s first sum at e = held (MoreIn sum at) (more-bounds s first sum at) e .1
 
 -- the bytes from a place on are enough
 pub tail-long : (s : List ℕ) (a : ℕ) → a + 45 ≤ length s → 45 ≤ length (take (length s - a) (drop a s))
-tail-long s a h = let e : length (take (length s - a) (drop a s)) ≡ length s - a = simp (length-take, length-drop) (omega arith) in omega (arith, e)
+tail-long s a h = let e : length (take (length s - a) (drop a s))
+    ≡ length s - a = simp (length-take, length-drop) (omega arith) in omega (arith, e)
 
 -- the first of the bytes from a place on are a part
 tail-part : (s : List ℕ) (a : ℕ) → a + 45 ≤ length s → take 45 (take (length s - a) (drop a s)) ≡ part s a 45
@@ -259,12 +269,14 @@ same-tails o s a b h k e = e ∙ ap₂ same (tail-part s a h) (tail-part s b k)
 
 -- the parts are equal where the code found them so
 pub tails-agree : (o : Bool) (s : List ℕ) (a b : ℕ) → a + 45 ≤ length s → b + 45 ≤ length s
-    → o ≡ same (take 45 (take (length s - a) (drop a s))) (take 45 (take (length s - b) (drop b s))) → not o ≡ false → same (part s a 45) (part s b 45) ≡ true
+    → o ≡ same (take 45 (take (length s - a) (drop a s))) (take 45 (take (length s - b) (drop b s))) → not o ≡ false
+    → same (part s a 45) (part s b 45) ≡ true
 tails-agree o s a b h k e t = T-true (same (part s a 45) (part s b 45)) .0 (T-of-not o (same-tails o s a b h k e) t)
 
 -- and differ where it did not
 pub tails-differ : (o : Bool) (s : List ℕ) (a b : ℕ) → a + 45 ≤ length s → b + 45 ≤ length s
-    → o ≡ same (take 45 (take (length s - a) (drop a s))) (take 45 (take (length s - b) (drop b s))) → not o ≡ true → same (part s a 45) (part s b 45) ≡ false
+    → o ≡ same (take 45 (take (length s - a) (drop a s))) (take 45 (take (length s - b) (drop b s))) → not o ≡ true
+    → same (part s a 45) (part s b 45) ≡ false
 tails-differ o s a b h k e t = T-false (same (part s a 45) (part s b 45)) .0 (not-T-of o (same-tails o s a b h k e) t)
 
 -- the grants, where so many are left to read from the place `here` on
@@ -279,7 +291,8 @@ unfolding grantsAt
 grants-begin s at e f = took _ e (took _ f refl)
 
 -- one grant more was read
-pub grants-next : (s : List ℕ) (count start first left : ℕ) (sum : Sum) (here : ℕ) {more : Sum} {next : ℕ} → 0 < left → got more next ≡ moreAt s first sum here
+pub grants-next : (s : List ℕ) (count start first left : ℕ) (sum : Sum) (here : ℕ) {more : Sum} {next : ℕ} → 0 < left
+    → got more next ≡ moreAt s first sum here
     → grantsFrom s count start first (left - 1) more next ≡ grantsFrom s count start first left sum here
 grants-next s count start first left sum here {more} {next} h e =
     ap (λ (o : Got Sum). bind o (λ sum n. got (record { count = count; start = start; first = first; sum = sum }) n))

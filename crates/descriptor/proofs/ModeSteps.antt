@@ -26,7 +26,8 @@ use Rattle.exact.proofs.HoldsLaws.{held, holds-guard}
 -- the mask has the bit already
 pub with-no : (mask bit next : ℕ) → mask / bit % 2 ≡ 1 → refused ≡ withMode mask bit next
 unfolding withMode
-with-no mask bit next e = failed (not (eqb (mask / bit % 2) 1)) _ (T-false (not (eqb (mask / bit % 2) 1)) .1 (rw (eq-eqb (mask / bit % 2) 1 e)))
+with-no mask bit next e = failed (not (eqb (mask / bit % 2) 1)) _
+    (T-false (not (eqb (mask / bit % 2) 1)) .1 (rw (eq-eqb (mask / bit % 2) 1 e)))
 
 -- the mask has not yet the bit
 pub with-yes : (mask bit next : ℕ) → (mask / bit % 2 ≡ 1 → ⊥) → got (mask + bit) next ≡ withMode mask bit next
@@ -47,13 +48,15 @@ unfolding modeAt modeNames oneOf bind hasMode withMode mWrite
 mode-write s mask at a b e = e ∙ rw (a, b)
 
 -- the third name stands at the place
-pub mode-execute : (s : List ℕ) (mask at : ℕ) {q : Got ℕ} → hasAt s at mRead ≡ false → hasAt s at mWrite ≡ false → hasAt s at mExecute ≡ true
+pub mode-execute : (s : List ℕ) (mask at : ℕ) {q : Got ℕ} → hasAt s at mRead ≡ false → hasAt s at mWrite ≡ false
+    → hasAt s at mExecute ≡ true
     → q ≡ withMode mask 4 (at + 8) → q ≡ modeAt s mask at
 unfolding modeAt modeNames oneOf bind hasMode withMode mExecute
 mode-execute s mask at a b c e = e ∙ rw (a, b, c)
 
 -- the fourth name stands at the place
-pub mode-configure : (s : List ℕ) (mask at : ℕ) {q : Got ℕ} → hasAt s at mRead ≡ false → hasAt s at mWrite ≡ false → hasAt s at mExecute ≡ false
+pub mode-configure : (s : List ℕ) (mask at : ℕ) {q : Got ℕ} → hasAt s at mRead ≡ false → hasAt s at mWrite ≡ false
+    → hasAt s at mExecute ≡ false
     → hasAt s at mConfigure ≡ true → q ≡ withMode mask 8 (at + 10) → q ≡ modeAt s mask at
 unfolding modeAt modeNames oneOf bind hasMode withMode mConfigure
 mode-configure s mask at a b c d e = e ∙ rw (a, b, c, d)

@@ -65,10 +65,12 @@ pair-bound s last at len next e = held (λ c n. c .start + c .len ≤ length s) 
 
 -- one pair of those that are left is wrong
 pub pairs-no : (s : List ℕ) (most at value next left last len here : ℕ) → got value next ≡ countAt s at 5 0 most
-    → many (pairAt s) left (spanOf last len) here ≡ many (pairAt s) value (spanOf 0 0) next → 0 < left → refused ≡ pairAt s (spanOf last len) here
+    → many (pairAt s) left (spanOf last len) here ≡ many (pairAt s) value (spanOf 0 0) next → 0 < left
+    → refused ≡ pairAt s (spanOf last len) here
     → refused ≡ pairsAt s most at
 unfolding pairsAt
-pairs-no s most at value next left last len here e i l f = took _ e (stopped _ (sym (many-refused (pairAt s) left (spanOf last len) here l f) ∙ i))
+pairs-no s most at value next left last len here e i l f = took _ e
+    (stopped _ (sym (many-refused (pairAt s) left (spanOf last len) here l f) ∙ i))
 
 -- no pair is left
 pub pairs-yes : (s : List ℕ) (most at value next left last len here : ℕ) → got value next ≡ countAt s at 5 0 most

@@ -13,28 +13,35 @@ use Rattle.exact.specs.Reads.{Got, got, optAt}
 use Rattle.octets.specs.Span.{spanOf}
 use Rattle.resource.specs.Identifier.{isFay, isTerminal}
 use Rattle.descriptor.specs.declared.payload.PayloadFields.{PayloadFields}
-use Rattle.descriptor.specs.Keys.{kGrants, kMetadata, kIssuedAt, kIssuerId, kNotAfter, kGrantorId, kNotBefore, kTerminalId, kDescriptorId, kSubjectFayId}
+use Rattle.descriptor.specs.Keys.{kGrants, kMetadata, kIssuedAt, kIssuerId, kNotAfter, kGrantorId, kNotBefore, kTerminalId}
+use Rattle.descriptor.specs.Keys.{kDescriptorId, kSubjectFayId}
 use Rattle.descriptor.specs.Model.{size}
 use Rattle.descriptor.specs.Value.{timeAt, textAt, wordAt, bytesAt}
-use Rattle.descriptor.specs.Reader.{pairsAt, grantsAt, Opening, openingAt, middleAt, Closing, closingAt, PayloadSeen, payloadFits, payloadAt}
+use Rattle.descriptor.specs.Reader.{pairsAt, grantsAt, Opening, openingAt, middleAt, Closing, closingAt, PayloadSeen, payloadFits}
+use Rattle.descriptor.specs.Reader.{payloadAt}
 use Rattle.descriptor.specs.Answer.{optOf, flag, payloadOf}
 use Rattle.resource.proofs.Laws.{terminal-length}
-use Rattle.descriptor.proofs.GrantBounds.{GrantsIn, WordTo, CountTo, count-bounds, text-bounds, bytes-bounds, word-bounds, key-on, pairs-bounds, grants-bounds}
+use Rattle.descriptor.proofs.GrantBounds.{GrantsIn, WordTo, CountTo, count-bounds, text-bounds, bytes-bounds, word-bounds, key-on}
+use Rattle.descriptor.proofs.GrantBounds.{pairs-bounds, grants-bounds}
 use Rattle.cbor_item.specs.Laws.{SpanTo}
 use Rattle.exact.specs.Holds.{Holds}
 use Rattle.exact.proofs.HoldsLaws.{held, holds-map, holds-bind, holds-guard, holds-opt}
 
 -- an optional value after its key ends not before the key's place
-opt-on : {R : Type 0} (s : List ℕ) (at : ℕ) (k : List ℕ) (o : Got R) → Holds (λ r n. at + length k ≤ n) o → Holds (λ r n. at ≤ n) (optAt (hasAt s at k) o at)
-opt-on s at k o h = holds-opt (λ r n. at ≤ n) (hasAt s at k) o at (omega arith) (holds-map (λ r n. at + length k ≤ n) (λ r n. at ≤ n) o h (λ r n i. omega (arith, i)))
+opt-on : {R : Type 0} (s : List ℕ) (at : ℕ) (k : List ℕ) (o : Got R) → Holds (λ r n. at + length k ≤ n) o
+    → Holds (λ r n. at ≤ n) (optAt (hasAt s at k) o at)
+opt-on s at k o h = holds-opt (λ r n. at ≤ n) (hasAt s at k) o at (omega arith)
+    (holds-map (λ r n. at + length k ≤ n) (λ r n. at ≤ n) o h (λ r n i. omega (arith, i)))
 
 -- a time ends not before its place
 time-on : (s : List ℕ) (at : ℕ) → Holds (λ t n. at ≤ n) (timeAt s at)
-time-on s at = holds-map (CountTo at 0 18446744073709551615) (λ t n. at ≤ n) (timeAt s at) (count-bounds s at 0 0 18446744073709551615) (λ t n i. i .2)
+time-on s at = holds-map (CountTo at 0 18446744073709551615) (λ t n. at ≤ n) (timeAt s at) (count-bounds s at 0 0 18446744073709551615)
+    (λ t n i. i .2)
 
 -- nor does a text
 text-on : (s : List ℕ) (at lo hi : ℕ) → Holds (λ c n. at ≤ n) (textAt s at lo hi)
-text-on s at lo hi = holds-map (SpanTo s at) (λ c n. at ≤ n) (textAt s at lo hi) (text-bounds s at lo hi) (λ c n i. omega (arith, i .after, i .ends))
+text-on s at lo hi = holds-map (SpanTo s at) (λ c n. at ≤ n) (textAt s at lo hi) (text-bounds s at lo hi)
+    (λ c n i. omega (arith, i .after, i .ends))
 
 -- nor do pairs
 pairs-on : (s : List ℕ) (most at : ℕ) → Holds (λ c n. at ≤ n) (pairsAt s most at)
@@ -126,7 +133,8 @@ flag-size false x = refl
 module _ (s : List ℕ) (p : PayloadFields) (r : ℕ) (k : r ≡ 8 + (flag (p .opening .present) + flag (p .middle .present))) where
   -- the number of keys that there are, as it is tested
   there : r ≡ 8 + (size (payloadOf p .opening .pairs) + size (payloadOf p .middle .grantor))
-  there = k ∙ ap₂ (λ (a b : ℕ). 8 + (a + b)) (flag-size (p .opening .present) (p .opening .pairs)) (flag-size (p .middle .present) (spanOf (p .middle .grantor) (p .middle .long)))
+  there = k ∙ ap₂ (λ (a b : ℕ). 8 + (a + b)) (flag-size (p .opening .present) (p .opening .pairs))
+      (flag-size (p .middle .present) (spanOf (p .middle .grantor) (p .middle .long)))
 
   -- another number of keys does not fit
   pub unfit-keys : (p .opening .keys ≡ r → ⊥) → false ≡ payloadFits s (payloadOf p)
@@ -136,7 +144,8 @@ module _ (s : List ℕ) (p : PayloadFields) (r : ℕ) (k : r ≡ 8 + (flag (p .o
       rw (ne-eqb _ _ e) refl
 
   -- nor does another terminal
-  pub unfit-terminal : p .opening .keys ≡ r → same (part s (p .opening .grants .first) 45) (part s (p .closing .terminal) 45) ≡ false → false ≡ payloadFits s (payloadOf p)
+  pub unfit-terminal : p .opening .keys ≡ r → same (part s (p .opening .grants .first) 45) (part s (p .closing .terminal) 45) ≡ false
+      → false ≡ payloadFits s (payloadOf p)
   unfolding payloadFits
   unfit-terminal h t = rw (eq-eqb _ _ (h ∙ there), t) refl
 
@@ -163,5 +172,6 @@ pub closing-room : {c : Closing} {n : ℕ} (s : List ℕ) (at : ℕ) → got c n
 closing-room s at e = held (ClosingIn s at) (closing-bounds s at) e .1
 
 -- a payload that was read ends not before its place, and its period is not empty
-pub payload-room : {p : PayloadSeen} {n : ℕ} (s : List ℕ) (at : ℕ) → got p n ≡ payloadAt s at → (at ≤ n) × (p .middle .notBefore < p .middle .notAfter)
+pub payload-room : {p : PayloadSeen} {n : ℕ} (s : List ℕ) (at : ℕ) → got p n ≡ payloadAt s at
+    → (at ≤ n) × (p .middle .notBefore < p .middle .notAfter)
 payload-room s at e = held (PayloadIn at) (payload-bounds s at) e

@@ -16,12 +16,14 @@ use Rattle.descriptor.specs.Answer.{fieldsOf, readingOf}
 -- ---- one of a table
 
 -- the first entry stands at the place
-pub one-first : (s : List ℕ) (at i : ℕ) (k : List ℕ) (ks : List (List ℕ)) (b : Bool) → b ≡ hasAt s at k → b ≡ true → got i (at + length k) ≡ oneOf s at i (k ∷ ks)
+pub one-first : (s : List ℕ) (at i : ℕ) (k : List ℕ) (ks : List (List ℕ)) (b : Bool) → b ≡ hasAt s at k → b ≡ true
+    → got i (at + length k) ≡ oneOf s at i (k ∷ ks)
 unfolding oneOf
 one-first s at i k ks b e t = rw (sym e ∙ t) refl
 
 -- it does not, and the others decide
-pub one-next : (s : List ℕ) (at i : ℕ) (k : List ℕ) (ks : List (List ℕ)) (b : Bool) → b ≡ hasAt s at k → b ≡ false → oneOf s at (suc i) ks ≡ oneOf s at i (k ∷ ks)
+pub one-next : (s : List ℕ) (at i : ℕ) (k : List ℕ) (ks : List (List ℕ)) (b : Bool) → b ≡ hasAt s at k → b ≡ false
+    → oneOf s at (suc i) ks ≡ oneOf s at i (k ∷ ks)
 unfolding oneOf
 one-next s at i k ks b e t = rw (sym e ∙ t) refl
 
@@ -58,9 +60,11 @@ module _ (s : List ℕ) where
       read-more h = (rw (ne-eqb _ _ h) refl) ∙ after
 
       -- a period that is too long
-      pub read-period : n ≡ length s → longestPeriod < v .payload .middle .notAfter - v .payload .middle .notBefore → Validity ≡ readingOf (readOf s)
+      pub read-period : n ≡ length s → longestPeriod < v .payload .middle .notAfter - v .payload .middle .notBefore
+          → Validity ≡ readingOf (readOf s)
       read-period h l = (rw (eq-eqb _ _ h, lt-leb _ _ l) refl) ∙ after
 
       -- an allowed descriptor
-      pub read-all : n ≡ length s → v .payload .middle .notAfter - v .payload .middle .notBefore ≤ longestPeriod → Read (fieldsOf v) ≡ readingOf (readOf s)
+      pub read-all : n ≡ length s → v .payload .middle .notAfter - v .payload .middle .notBefore ≤ longestPeriod
+          → Read (fieldsOf v) ≡ readingOf (readOf s)
       read-all h l = (rw (eq-eqb _ _ h, le-leb _ _ l) refl) ∙ after

@@ -90,7 +90,8 @@ count-no s at major lo hi kind n next e f =
     (no-T (eqb kind major && within lo hi n) (λ t. let p = count-test kind major lo hi n .0 t in f (p .0) (p .1) (p .2))))
 
 -- a text that is valid, of a length between the limits
-pub text-yes : (s : List ℕ) (at lo hi start len : ℕ) (valid : Bool) → got (spanOf start len) (start + len) ≡ spanAt s at 3 → lo ≤ len → len ≤ hi
+pub text-yes : (s : List ℕ) (at lo hi start len : ℕ) (valid : Bool) → got (spanOf start len) (start + len) ≡ spanAt s at 3 → lo ≤ len
+    → len ≤ hi
     → valid ≡ isUtf8 (take ((start + len) - start) (drop start s)) → valid ≡ true → got (spanOf start len) (start + len) ≡ textAt s at lo hi
 unfolding textAt
 text-yes s at lo hi start len valid e l h v t =
@@ -149,7 +150,8 @@ pub span-bound : (s : List ℕ) (at major start len : ℕ) → got (spanOf start
 span-bound s at major start len e = held (SpanTo s at) (spans-end s at major) e .fits
 
 -- a text at a place lies in s, and after that place
-pub text-bound : (s : List ℕ) (at lo hi start len : ℕ) → got (spanOf start len) (start + len) ≡ textAt s at lo hi → (at ≤ start) × (start + len ≤ length s)
+pub text-bound : (s : List ℕ) (at lo hi start len : ℕ) → got (spanOf start len) (start + len) ≡ textAt s at lo hi
+    → (at ≤ start) × (start + len ≤ length s)
 text-bound s at lo hi start len e = let i = held (SpanTo s at) (text-bounds s at lo hi) e in (i .after, i .fits)
 
 -- ---- kinds of words

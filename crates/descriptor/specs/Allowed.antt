@@ -1,5 +1,5 @@
--- What document 01 allows, "Descriptor bytes": every written limit. Nothing of places or of reading. A reader of the promises does not need this page: `AllowedExactly`
--- of `descriptor_laws` has each limit with its number.
+-- What document 01 allows, "Descriptor bytes": every written limit. Nothing of places or of reading. A reader of the promises does not
+-- need this page: `AllowedExactly` of `descriptor_laws` has each limit with its number.
 use mathlib.Core.Path.{_≡_}
 use mathlib.Core.Bool.{Bool, true, false, _||_}
 use mathlib.Core.List.{List, [], _∷_}
@@ -24,8 +24,8 @@ pub record TextOk (lo hi : ℕ) (c : List ℕ) : Type 0 where
 abbrev pub TimeOk : ℕ → Type 0
 TimeOk t = t < 2 ^ 64
 
--- a pair after a key whose encoding is `last`: from text of 1 to 64 bytes to text of 0 to 256, the key's encoding after `last`; before the first key `last` is
--- empty
+-- a pair after a key whose encoding is `last`: from text of 1 to 64 bytes to text of 0 to 256, the key's encoding after `last`; before
+-- the first key `last` is empty
 pub record PairOk (last : List ℕ) (p : Pair) : Type 0 where
   pub key : TextOk 1 64 (p .key)
   pub value : TextOk 0 256 (p .value)

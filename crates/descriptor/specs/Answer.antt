@@ -48,7 +48,8 @@ use Rattle.descriptor.specs.declared.Reading.{Reading}
 use Rattle.descriptor.specs.declared.Reading.the-variants.{Read, Structure, Validity}
 use Rattle.descriptor.specs.Keys.{kResourcePattern, kIssuedAt, kNotBefore}
 use Rattle.descriptor.specs.Value.{timeAt, wordAt}
-use Rattle.descriptor.specs.Reader.{GrantSeen, Sum, GrantsSeen, Opening, Middle, Closing, PayloadSeen, SignatureSeen, Seen, Answer, read, structure, validity}
+use Rattle.descriptor.specs.Reader.{GrantSeen, Sum, GrantsSeen, Opening, Middle, Closing, PayloadSeen, SignatureSeen, Seen, Answer}
+use Rattle.descriptor.specs.Reader.{read, structure, validity}
 
 -- ---- values
 
@@ -91,7 +92,13 @@ withMode mask bit next = guard (not (eqb (mask / bit % 2) 1)) (got (mask + bit) 
 -- what is seen of a grant
 abbrev pub grantRead : GrantRead → Got GrantSeen
 grantRead (IsGrant f next) =
-    got (record { mask = f .mask; modes = f .modes; constraints = f .constraints; pairs = f .pairs; pattern = spanOf (f .pattern) (f .len) }) next
+    got (record {
+      mask = f .mask;
+      modes = f .modes;
+      constraints = f .constraints;
+      pairs = f .pairs;
+      pattern = spanOf (f .pattern) (f .len);
+    }) next
 grantRead NoGrant = refused
 
 -- the end of a grant, from its pattern on, where the number of its keys is right or not
@@ -129,7 +136,13 @@ flag true = 1
 flag false = 0
 
 abbrev pub openingOf : OpeningFields → Opening
-openingOf f = record { keys = f .keys; grants = grantsOf (f .grants); metadata = f .metadata; pairs = optOf (f .present) (f .pairs); issuedAt = f .issued }
+openingOf f = record {
+  keys = f .keys;
+  grants = grantsOf (f .grants);
+  metadata = f .metadata;
+  pairs = optOf (f .present) (f .pairs);
+  issuedAt = f .issued;
+}
 
 abbrev pub openingRead : OpeningRead → Got Opening
 openingRead (IsOpening f next) = got (openingOf f) next
@@ -142,7 +155,12 @@ openingEnd s at count grants present metadata pairs =
     got (record { keys = count; grants = grantsOf grants; metadata = metadata; pairs = optOf present pairs; issuedAt = issued }) n)
 
 abbrev pub middleOf : MiddleFields → Middle
-middleOf f = record { issuer = spanOf (f .issuer) (f .len); notAfter = f .after; grantor = optOf (f .present) (spanOf (f .grantor) (f .long)); notBefore = f .before }
+middleOf f = record {
+  issuer = spanOf (f .issuer) (f .len);
+  notAfter = f .after;
+  grantor = optOf (f .present) (spanOf (f .grantor) (f .long));
+  notBefore = f .before;
+}
 
 abbrev pub middleRead : MiddleRead → Got Middle
 middleRead (IsMiddle f next) = got (middleOf f) next

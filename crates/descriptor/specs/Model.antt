@@ -1,5 +1,5 @@
--- The data model of a descriptor and its deterministic encoding, as source 002 section 2.3 and document 01, "Descriptor bytes", have them. Nothing of places
--- or of reading.
+-- The data model of a descriptor and its deterministic encoding, as source 002 section 2.3 and document 01, "Descriptor bytes", have
+-- them. Nothing of places or of reading.
 use mathlib.Core.List.{List, [], _∷_, _++_}
 use mathlib.Core.Option.{Option, none, some}
 use Prim.Native.Nat.{ℕ, _+_}
@@ -7,7 +7,9 @@ use lib.ListN.{length, getD}
 use Rattle.cbor_item.specs.Encoding.{head}
 use Rattle.cbor_item.specs.Head.{encodeString}
 use Rattle.exact.specs.Reads.{encOpt, encAll}
-use Rattle.descriptor.specs.Keys.{kPayload, kVersion, kSignature, kGrants, kMetadata, kIssuedAt, kIssuerId, kNotAfter, kGrantorId, kNotBefore, kTerminalId, kDescriptorId, kSubjectFayId, kKeyId, kAlgorithm, kSignatureValue, kModes, kConstraints, kResourcePattern, algorithms, modeNames}
+use Rattle.descriptor.specs.Keys.{kPayload, kVersion, kSignature, kGrants, kMetadata, kIssuedAt, kIssuerId, kNotAfter, kGrantorId}
+use Rattle.descriptor.specs.Keys.{kNotBefore, kTerminalId, kDescriptorId, kSubjectFayId, kKeyId, kAlgorithm, kSignatureValue}
+use Rattle.descriptor.specs.Keys.{kModes, kConstraints, kResourcePattern, algorithms, modeNames}
 
 -- ---- what there is
 

@@ -1,5 +1,6 @@
--- A reader of the promises does not need this page: what each number is of the descriptor or the grant that was read is promised in specs/Promises.antt of
--- `descriptor_laws`. What reading hands back, in document 01's numbers; the names and the order are those of include/cap.h.
+-- A reader of the promises does not need this page: what each number is of the descriptor or the grant that was read is promised in
+-- specs/Promises.antt of `descriptor_laws`. What reading hands back, in document 01's numbers; the names and the order are those of
+-- include/cap.h.
 use mathlib.Core.List.{List}
 use Prim.Native.Nat.{ℕ}
 use Rattle.octets.specs.Span.{Span, spanOf, inside}
@@ -97,4 +98,12 @@ grantNumbers (got g next) =
       «constraints_at» = g .constraints;
       «constraint_pairs» = g .pairs;
     }
-grantNumbers refused = record { found = 0; «pattern_at» = 0; «pattern_len» = 0; mask = 0; «modes_at» = 0; «constraints_at» = 0; «constraint_pairs» = 0 }
+grantNumbers refused = record {
+  found = 0;
+  «pattern_at» = 0;
+  «pattern_len» = 0;
+  mask = 0;
+  «modes_at» = 0;
+  «constraints_at» = 0;
+  «constraint_pairs» = 0;
+}

@@ -12,7 +12,9 @@ use Rattle.exact.specs.Reads.{Got, got, refused, bind, guard, optAt, many}
 use Rattle.octets.specs.Span.{Span, spanOf}
 use Rattle.resource.specs.Identifier.{isFay, isTerminal}
 use Rattle.resource.specs.Text.{patternOk}
-use Rattle.descriptor.specs.Keys.{kPayload, kVersion, kSignature, kGrants, kMetadata, kIssuedAt, kIssuerId, kNotAfter, kGrantorId, kNotBefore, kTerminalId, kDescriptorId, kSubjectFayId, kKeyId, kAlgorithm, kSignatureValue, kModes, kConstraints, kResourcePattern, algorithms, modeNames}
+use Rattle.descriptor.specs.Keys.{kPayload, kVersion, kSignature, kGrants, kMetadata, kIssuedAt, kIssuerId, kNotAfter, kGrantorId}
+use Rattle.descriptor.specs.Keys.{kNotBefore, kTerminalId, kDescriptorId, kSubjectFayId, kKeyId, kAlgorithm, kSignatureValue}
+use Rattle.descriptor.specs.Keys.{kModes, kConstraints, kResourcePattern, algorithms, modeNames}
 use Rattle.descriptor.specs.Model.{size}
 use Rattle.octets.specs.Order.{before}
 use Rattle.descriptor.specs.Allowed.{idSize, terminalSize, longest, longestPeriod}
@@ -73,7 +75,13 @@ grantAt s at =
     bind (optAt (hasAt s n₁ kConstraints) (pairsAt s 8 (n₁ + length kConstraints)) n₁) (λ pairs n₂.
     bind (guard (hasAt s n₂ kResourcePattern) (wordAt patternOk s (n₂ + length kResourcePattern))) (λ pattern n₃.
     guard (eqb c (2 + size pairs))
-    (got (record { mask = mask; modes = n + length kModes; constraints = placeOf pairs (n₁ + length kConstraints); pairs = pairsOf pairs; pattern = pattern }) n₃)))))
+    (got (record {
+      mask = mask;
+      modes = n + length kModes;
+      constraints = placeOf pairs (n₁ + length kConstraints);
+      pairs = pairsOf pairs;
+      pattern = pattern;
+    }) n₃)))))
 
 -- what is summed over grants: the union of their masks, and the number of their constraint pairs
 pub record Sum : Type 0 where
@@ -86,7 +94,8 @@ addGrant sum g = record { mask = bitOr (sum .mask) (g .mask); pairs = sum .pairs
 
 -- one more grant, whose pattern has the terminal id of the first, which stands at `first`
 unfoldable pub moreAt : List ℕ → ℕ → Sum → ℕ → Got Sum
-moreAt s first sum at = bind (grantAt s at) (λ g n. guard (same (part s (g .pattern .start) terminalSize) (part s first terminalSize)) (got (addGrant sum g) n))
+moreAt s first sum at = bind (grantAt s at) (λ g n. guard (same (part s (g .pattern .start) terminalSize) (part s first terminalSize))
+    (got (addGrant sum g) n))
 
 -- what is seen of the grants: how many they are, the place of the first, the place of its pattern, and the sum
 pub record GrantsSeen : Type 0 where

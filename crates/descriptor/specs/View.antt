@@ -8,9 +8,12 @@ use lib.Bits.{bitOr}
 use Rattle.cbor_item.specs.Encoding.{head}
 use Rattle.exact.specs.Reads.{encOpt, encAll, viewOpt}
 use Rattle.octets.specs.Span.{Span, spanOf}
-use Rattle.descriptor.specs.Keys.{kGrants, kMetadata, kIssuedAt, kIssuerId, kNotAfter, kGrantorId, kNotBefore, kTerminalId, kDescriptorId, kSubjectFayId, kAlgorithm, kSignatureValue, kModes, kConstraints, kResourcePattern}
-use Rattle.descriptor.specs.Model.{Pair, Grant, Payload, Signature, Descriptor, size, encBytes, encText, encPairs, encModes, encGrant, encGrants, encodePayload, encAlgorithm}
-use Rattle.descriptor.specs.Reader.{GrantSeen, Sum, GrantsSeen, Opening, Middle, Closing, PayloadSeen, SignatureSeen, Seen, placeOf, pairsOf, beforePayload, beforeKeyId}
+use Rattle.descriptor.specs.Keys.{kGrants, kMetadata, kIssuedAt, kIssuerId, kNotAfter, kGrantorId, kNotBefore, kTerminalId}
+use Rattle.descriptor.specs.Keys.{kDescriptorId, kSubjectFayId, kAlgorithm, kSignatureValue, kModes, kConstraints, kResourcePattern}
+use Rattle.descriptor.specs.Model.{Pair, Grant, Payload, Signature, Descriptor, size, encBytes, encText, encPairs, encModes}
+use Rattle.descriptor.specs.Model.{encGrant, encGrants, encodePayload, encAlgorithm}
+use Rattle.descriptor.specs.Reader.{GrantSeen, Sum, GrantsSeen, Opening, Middle, Closing, PayloadSeen, SignatureSeen, Seen, placeOf}
+use Rattle.descriptor.specs.Reader.{pairsOf, beforePayload, beforeKeyId}
 
 -- the mask of modes after a mask: 1, 2, 4 and 8 for the modes 0 to 3
 unfoldable pub maskFrom : ℕ → List ℕ → ℕ
@@ -49,7 +52,10 @@ grantView at g = grantRest (at + length (head 5 (2 + size (g .constraints)))) g
 -- the union of the masks of grants, and the number of their constraint pairs
 abbrev pub sumFrom : Sum → List Grant → Sum
 sumFrom sum [] = sum
-sumFrom sum (g ∷ gs) = sumFrom (record { mask = bitOr (sum .mask) (maskOf (g .modes)); pairs = sum .pairs + pairsOf (countOf (g .constraints)) }) gs
+sumFrom sum (g ∷ gs) = sumFrom (record {
+  mask = bitOr (sum .mask) (maskOf (g .modes));
+  pairs = sum .pairs + pairsOf (countOf (g .constraints));
+}) gs
 
 -- grants, of which the first stands at the place
 abbrev pub grantsRest : ℕ → Grant → List Grant → GrantsSeen
@@ -72,12 +78,14 @@ keysOf p = 8 + (size (p .metadata) + size (p .grantor))
 
 -- the encoding of a payload up to issued_at
 abbrev pub encOpening : ℕ → List Grant → Option (List Pair) → ℕ → List ℕ
-encOpening keys gs metadata issued = head 5 keys ++ ((kGrants ++ encGrants gs) ++ (encOpt kMetadata encPairs metadata ++ (kIssuedAt ++ head 0 issued)))
+encOpening keys gs metadata issued = head 5 keys ++ ((kGrants ++ encGrants gs)
+    ++ (encOpt kMetadata encPairs metadata ++ (kIssuedAt ++ head 0 issued)))
 
 -- the encoding of a payload from issuer_id to not_before
 abbrev pub encMiddle : List ℕ → ℕ → Option (List ℕ) → ℕ → List ℕ
 encMiddle issuer notAfter grantor notBefore =
-    (kIssuerId ++ encText issuer) ++ ((kNotAfter ++ head 0 notAfter) ++ (encOpt kGrantorId encText grantor ++ (kNotBefore ++ head 0 notBefore)))
+    (kIssuerId ++ encText issuer) ++ ((kNotAfter ++ head 0 notAfter)
+    ++ (encOpt kGrantorId encText grantor ++ (kNotBefore ++ head 0 notBefore)))
 
 -- a payload at a place, up to issued_at
 abbrev pub openingView : ℕ → ℕ → List Grant → Option (List Pair) → ℕ → Opening

@@ -1,5 +1,6 @@
 -- The statements of specs/Laws.antt, each from its law. Assumes nothing.
-use Rattle.descriptor_laws.specs.Laws.{ReadsExactly, ValidityExactly, StructureExactly, AnswersTold, SeenHanded, GrantsAllowed, MaskExactly, GrantsWalk, GrantsEnd, GrantsInTurn}
+use Rattle.descriptor_laws.specs.Laws.{ReadsExactly, ValidityExactly, StructureExactly, AnswersTold, SeenHanded, GrantsAllowed}
+use Rattle.descriptor_laws.specs.Laws.{MaskExactly, GrantsWalk, GrantsEnd, GrantsInTurn}
 use Rattle.descriptor_laws.proofs.grants.MaskLaws as mask
 use Rattle.descriptor_laws.proofs.whole.AnswerLaws as answer
 use Rattle.descriptor_laws.proofs.places.SeenLaws as seen

@@ -1,6 +1,8 @@
 -- The promises of specs/Promises.antt, each from its law or by computation. Assumes nothing.
 use mathlib.Core.Path.{refl}
-use Rattle.descriptor_laws.specs.Promises.{LimitsFixed, MapsDeterministic, BytewiseOrder, PairsAscend, PairsDistinct, NamesEncoded, AlgorithmsFixed, ModesFixed, AllowedExactly, AnsweredExactly, OneReading, HandsBack, RefusalZero, PayloadHanded, GrantFound, GrantAbsent, GrantHanded}
+use Rattle.descriptor_laws.specs.Promises.{LimitsFixed, MapsDeterministic, BytewiseOrder, PairsAscend, PairsDistinct, NamesEncoded}
+use Rattle.descriptor_laws.specs.Promises.{AlgorithmsFixed, ModesFixed, AllowedExactly, AnsweredExactly, OneReading, HandsBack}
+use Rattle.descriptor_laws.specs.Promises.{RefusalZero, PayloadHanded, GrantFound, GrantAbsent, GrantHanded}
 use Rattle.descriptor_laws.proofs.encoding.NameLaws as names
 use Rattle.descriptor_laws.proofs.encoding.BitLaws as modes
 use Rattle.descriptor_laws.proofs.encoding.MapLaws as maps

@@ -1,5 +1,5 @@
--- What the crates above stand on, in the code's own answers. A reader of the promises does not need this page. Each statement `NameOfIt` is proved in
--- proofs/Laws.antt as `name-of-it`.
+-- What the crates above stand on, in the code's own answers. A reader of the promises does not need this page. Each statement
+-- `NameOfIt` is proved in proofs/Laws.antt as `name-of-it`.
 use mathlib.Core.Path.{_≡_}
 use mathlib.Core.Logic.{_↔_}
 use mathlib.Core.Bool.{true}
@@ -50,7 +50,8 @@ SeenHanded = (d : Descriptor) → Formed d → DescriptorHanded (encode d) d (nu
 
 -- each grant of a formed descriptor is allowed
 abbrev pub GrantsAllowed : Type 0
-GrantsAllowed = (d : Descriptor) → Formed d → (i : ℕ) (g : Grant) → i < length (d .payload .grants) → GrantOk (getD (d .payload .grants) i g)
+GrantsAllowed = (d : Descriptor) → Formed d → (i : ℕ) (g : Grant) → i < length (d .payload .grants)
+    → GrantOk (getD (d .payload .grants) i g)
 
 -- the mask of an allowed grant's modes is the union of that grant alone, and has exactly its modes
 abbrev pub MaskExactly : Type 0
@@ -59,7 +60,8 @@ MaskExactly = (g : Grant) → GrantOk g
 
 -- reading the grant at that place gives the i-th grant, and the place of the next
 abbrev pub GrantsWalk : Type 0
-GrantsWalk = (d : Descriptor) → AreBytes (encode d) → Formed d → (i : ℕ) (g : Grant) → i < length (d .payload .grants) → getD (d .payload .grants) i g ≡ g
+GrantsWalk = (d : Descriptor) → AreBytes (encode d) → Formed d → (i : ℕ) (g : Grant) → i < length (d .payload .grants)
+    → getD (d .payload .grants) i g ≡ g
     → grantAt (encode d) (grantPlace d i) ≡ got (grantView (grantPlace d i) g) (grantPlace d (i + 1))
 
 -- behind the last there is none
@@ -67,7 +69,8 @@ abbrev pub GrantsEnd : Type 0
 GrantsEnd = (d : Descriptor) → AreBytes (encode d) → Formed d
     → grantNumbers (grantAt (encode d) (grantPlace d (length (d .payload .grants)))) ≡ noGrant
 
--- v is what is seen in s of the allowed grant g of the terminal t: its mask, the number of its constraint pairs, its pattern, and the levels of that
+-- v is what is seen in s of the allowed grant g of the terminal t: its mask, the number of its constraint pairs, its pattern, and the
+-- levels of that
 pub record SeenAs (s t : List ℕ) (g : Grant) (v : GrantSeen) : Type 0 where
   pub allowed : GrantOk g
   pub own : take 45 (g .pattern) ≡ t
@@ -79,10 +82,12 @@ pub record SeenAs (s t : List ℕ) (g : Grant) (v : GrantSeen) : Type 0 where
 -- the n grants that are read one after the other from a place of s on are gs, all of the terminal t
 pub data InTurn (s t : List ℕ) : ℕ → ℕ → List Grant → Type 0 where
   no-more : (at : ℕ) → InTurn s t 0 at []
-  one-more : (n at next : ℕ) (v : GrantSeen) (g : Grant) (gs : List Grant) → grantAt s at ≡ got v next → SeenAs s t g v → InTurn s t n next gs
+  one-more : (n at next : ℕ) (v : GrantSeen) (g : Grant) (gs : List Grant) → grantAt s at ≡ got v next → SeenAs s t g v
+      → InTurn s t n next gs
       → InTurn s t (suc n) at (g ∷ gs)
 
 -- so are those of a formed descriptor in its encoding
 abbrev pub GrantsInTurn : Type 0
 GrantsInTurn = (d : Descriptor) → AreBytes (encode d) → Formed d
-    → let v = descriptorView 0 d .payload .opening .grants in InTurn (encode d) (d .payload .terminal) (v .count) (v .start) (d .payload .grants)
+    → let v = descriptorView 0 d .payload .opening .grants
+    in InTurn (encode d) (d .payload .terminal) (v .count) (v .start) (d .payload .grants)

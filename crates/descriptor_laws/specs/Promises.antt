@@ -1,5 +1,5 @@
--- What is promised of descriptors, and nothing else, in the order of document 01, "Descriptor bytes", with its names and numbers. Each statement `NameOfIt`
--- is proved in proofs/Promises.antt as `name-of-it`.
+-- What is promised of descriptors, and nothing else, in the order of document 01, "Descriptor bytes", with its names and numbers. Each
+-- statement `NameOfIt` is proved in proofs/Promises.antt as `name-of-it`.
 use mathlib.Core.Path.{_≡_}
 use mathlib.Core.Logic.{_↔_, _⊎_}
 use mathlib.Core.Bool.{Bool, true, false, cond, _&&_, _||_}
@@ -18,8 +18,11 @@ use Rattle.resource.specs.Identifier.{isFay, isTerminal}
 use Rattle.resource.specs.Text.{isPattern}
 use Rattle.descriptor.specs.declared.DescriptorNumbers.{DescriptorNumbers}
 use Rattle.descriptor.specs.declared.GrantNumbers.{GrantNumbers}
-use Rattle.descriptor.specs.Keys.{kPayload, kVersion, kSignature, kGrants, kMetadata, kIssuedAt, kIssuerId, kNotAfter, kGrantorId, kNotBefore, kTerminalId, kDescriptorId, kSubjectFayId, kKeyId, kAlgorithm, kSignatureValue, kModes, kConstraints, kResourcePattern, ed25519, ecdsaP256Sha256, mRead, mWrite, mExecute, mConfigure}
-use Rattle.descriptor.specs.Model.{Pair, Grant, Payload, Signature, Descriptor, encPairs, encMode, encGrant, encodePayload, encAlgorithm, encSignature, encode}
+use Rattle.descriptor.specs.Keys.{kPayload, kVersion, kSignature, kGrants, kMetadata, kIssuedAt, kIssuerId, kNotAfter, kGrantorId}
+use Rattle.descriptor.specs.Keys.{kNotBefore, kTerminalId, kDescriptorId, kSubjectFayId, kKeyId, kAlgorithm, kSignatureValue, kModes}
+use Rattle.descriptor.specs.Keys.{kConstraints, kResourcePattern, ed25519, ecdsaP256Sha256, mRead, mWrite, mExecute, mConfigure}
+use Rattle.descriptor.specs.Model.{Pair, Grant, Payload, Signature, Descriptor, encPairs, encMode, encGrant, encodePayload, encAlgorithm}
+use Rattle.descriptor.specs.Model.{encSignature, encode}
 use Rattle.octets.specs.Order.{before}
 use Rattle.descriptor.specs.Allowed.{PairsOk, longest, longestPeriod, Formed, Allowed}
 use Rattle.descriptor.specs.Modes.{unionOf}
@@ -165,7 +168,8 @@ abbrev pub NamesEncoded : Type 0
 NamesEncoded =
     (kPayload ≡ name "payload") × (kVersion ≡ name "version") × (kSignature ≡ name "signature")
     × (kGrants ≡ name "grants") × (kMetadata ≡ name "metadata") × (kIssuedAt ≡ name "issued_at") × (kIssuerId ≡ name "issuer_id")
-    × (kNotAfter ≡ name "not_after") × (kGrantorId ≡ name "grantor_id") × (kNotBefore ≡ name "not_before") × (kTerminalId ≡ name "terminal_id")
+    × (kNotAfter ≡ name "not_after") × (kGrantorId ≡ name "grantor_id") × (kNotBefore ≡ name "not_before")
+    × (kTerminalId ≡ name "terminal_id")
     × (kDescriptorId ≡ name "descriptor_id") × (kSubjectFayId ≡ name "subject_fay_id")
     × (kKeyId ≡ name "key_id") × (kAlgorithm ≡ name "algorithm") × (kSignatureValue ≡ name "signature_value")
     × (kModes ≡ name "modes") × (kConstraints ≡ name "constraints") × (kResourcePattern ≡ name "resource_pattern")
@@ -186,12 +190,14 @@ abbrev pub oneHas : ℕ → List Grant → Bool
 oneHas m [] = false
 oneHas m (g ∷ gs) = among m (g .modes) || oneHas m gs
 
--- mode numbers: read 0, write 1, execute 2, configure 3; a mask gives them 1, 2, 4, 8, and the mask of grants has those that one of the grants has
+-- mode numbers: read 0, write 1, execute 2, configure 3; a mask gives them 1, 2, 4, 8, and the mask of grants has those that one of the
+-- grants has
 abbrev pub ModesFixed : Type 0
 ModesFixed =
     (encMode 0 ≡ name "read") × (encMode 1 ≡ name "write") × (encMode 2 ≡ name "execute") × (encMode 3 ≡ name "configure")
     × (maskOf (0 ∷ []) ≡ 1) × (maskOf (1 ∷ []) ≡ 2) × (maskOf (2 ∷ []) ≡ 4) × (maskOf (3 ∷ []) ≡ 8)
-    × ((gs : List Grant) → unionOf gs ≡ cond (oneHas 0 gs) 1 0 + (cond (oneHas 1 gs) 2 0 + (cond (oneHas 2 gs) 4 0 + cond (oneHas 3 gs) 8 0)))
+    × ((gs : List Grant) → unionOf gs
+    ≡ cond (oneHas 0 gs) 1 0 + (cond (oneHas 1 gs) 2 0 + (cond (oneHas 2 gs) 4 0 + cond (oneHas 3 gs) 8 0)))
 
 -- ---- what is allowed
 
@@ -223,8 +229,8 @@ pub record GrantWithin (t : List ℕ) (g : Grant) : Type 0 where
   pub short : length (g .pattern) ≤ 256
   pub own : take 45 (g .pattern) ≡ t
 
--- a descriptor but for its longest period: at most 32,768 bytes, 1 to 256 grants, at most 16 pairs of metadata, times of 64 bits, issued_at ≤ not_before
--- < not_after, and an ed25519 signature of 64 bytes or one of ecdsa-p256-sha256 of 1 to 72
+-- a descriptor but for its longest period: at most 32,768 bytes, 1 to 256 grants, at most 16 pairs of metadata, times of 64 bits,
+-- issued_at ≤ not_before < not_after, and an ed25519 signature of 64 bytes or one of ecdsa-p256-sha256 of 1 to 72
 pub record Within (d : Descriptor) : Type 0 where
   pub short : length (encode d) ≤ 32768
   pub least : 1 ≤ length (d .payload .grants)
@@ -264,7 +270,8 @@ pub record Answered (s : List ℕ) : Type 0 where
   -- 1 exactly when they are the encoding of no descriptor, allowed or too long valid
   pub structure : (handed s .answer ≡ 1) ↔ ((d : Descriptor) → Formed d → s ≡ encode d → ⊥)
   -- 2 exactly when all else is right and not_after − not_before exceeds 7,776,000
-  pub validity : (handed s .answer ≡ 2) ↔ ((d : Descriptor) × Formed d × (7776000 < d .payload .notAfter - d .payload .notBefore) × (s ≡ encode d))
+  pub validity : (handed s .answer ≡ 2) ↔ ((d : Descriptor) × Formed d × (7776000 < d .payload .notAfter - d .payload .notBefore)
+      × (s ≡ encode d))
 
 abbrev pub AnsweredExactly : Type 0
 AnsweredExactly = (s : List ℕ) → AreBytes s → Answered s
@@ -360,7 +367,8 @@ RefusalZero = (s : List ℕ) → (handed s .answer ≡ 0 → ⊥) → handed s �
 
 -- the part that `payload_part` hands back of what was read is the payload's; a refusal hands back the empty part at the start
 pub record PayloadOf (s : List ℕ) : Type 0 where
-  pub done : handed s .answer ≡ 0 → payloadSpan s (readingOf (readOf s)) ≡ record { start = handed s .«payload_at»; len = handed s .«payload_len» }
+  pub done : handed s .answer ≡ 0 → payloadSpan s (readingOf (readOf s))
+      ≡ record { start = handed s .«payload_at»; len = handed s .«payload_len» }
   pub refused : (handed s .answer ≡ 0 → ⊥) → payloadSpan s (readingOf (readOf s)) ≡ record { start = 0; len = 0 }
 
 abbrev pub PayloadHanded : Type 0
@@ -396,5 +404,6 @@ GrantAbsent = (s : List ℕ) → AreBytes s → (at : ℕ) → (grantNumbers (gr
 
 -- at its place in the bytes of a descriptor it hands back the i-th grant
 abbrev pub GrantHanded : Type 0
-GrantHanded = (d : Descriptor) → AreBytes (encode d) → Formed d → (i : ℕ) (g : Grant) → i < length (d .payload .grants) → getD (d .payload .grants) i g ≡ g
+GrantHanded = (d : Descriptor) → AreBytes (encode d) → Formed d → (i : ℕ) (g : Grant) → i < length (d .payload .grants)
+    → getD (d .payload .grants) i g ≡ g
     → GrantHandedBack (encode d) g (grantNumbers (grantAt (encode d) (grantPlace d i)))

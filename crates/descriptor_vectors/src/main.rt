@@ -1,6 +1,6 @@
-// Reads records from standard input, each a name and the bytes of a descriptor, and writes what reading them answers. A record is a byte with the
-// name's length, the name, four bytes with the descriptor's length, the highest first, and the descriptor. tests/make_descriptors.py
-// makes the stored input and output.
+// Reads records from standard input, each a name and the bytes of a descriptor, and writes what reading them answers. A record is a
+// byte with the name's length, the name, four bytes with the descriptor's length, the highest first, and the descriptor.
+// tests/make_descriptors.py makes the stored input and output.
 mod record;
 mod show;
 

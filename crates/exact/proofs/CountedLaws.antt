@@ -38,7 +38,8 @@ many-next {a′} {at′} step a at n i h e =
     let l : n - i - 1 ≡ n - (i + 1) = omega arith in
     many-got step (n - i) a at a′ at′ (omega arith) e ∙ ap (λ (k : ℕ). many step k a′ at′) l
 
-pub many-stop : {A : Type 0} (step : A → ℕ → Got A) (a : A) (at : ℕ) (n i : ℕ) → i < n → refused ≡ step a at → refused ≡ many step (n - i) a at
+pub many-stop : {A : Type 0} (step : A → ℕ → Got A) (a : A) (at : ℕ) (n i : ℕ) → i < n → refused ≡ step a at
+    → refused ≡ many step (n - i) a at
 many-stop step a at n i h e = sym (many-refused step (n - i) a at (omega arith) e)
 
 pub many-done : {A : Type 0} (step : A → ℕ → Got A) (n i : ℕ) (a : A) (at : ℕ) → n ≤ i → got a at ≡ many step (n - i) a at

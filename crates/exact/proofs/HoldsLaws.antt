@@ -29,7 +29,8 @@ holds-bind P P₂ (got r n) k h f = f r n h
 holds-bind P P₂ refused k h f = tt
 
 -- a reader of which nothing is needed, and then another
-pub holds-then : {R Q : Type 0} (P : Q → ℕ → Type 0) (o : Got R) (k : R → ℕ → Got Q) → ((r : R) (n : ℕ) → Holds P (k r n)) → Holds P (bind o k)
+pub holds-then : {R Q : Type 0} (P : Q → ℕ → Type 0) (o : Got R) (k : R → ℕ → Got Q) → ((r : R) (n : ℕ) → Holds P (k r n))
+    → Holds P (bind o k)
 unfolding bind
 holds-then P (got r n) k f = f r n
 holds-then P refused k f = tt
@@ -41,7 +42,8 @@ holds-guard P true o h = h tt
 holds-guard P false o h = tt
 
 -- an optional value
-pub holds-opt : {R : Type 0} (P : Option R → ℕ → Type 0) (b : Bool) (o : Got R) (at : ℕ) → P none at → Holds (λ r n. P (some r) n) o → Holds P (optAt b o at)
+pub holds-opt : {R : Type 0} (P : Option R → ℕ → Type 0) (b : Bool) (o : Got R) (at : ℕ) → P none at → Holds (λ r n. P (some r) n) o
+    → Holds P (optAt b o at)
 unfolding optAt bind
 holds-opt P true (got r n) at z h = h
 holds-opt P true refused at z h = tt
@@ -52,7 +54,8 @@ pub holds-many : {A : Type 0} (I : A → ℕ → Type 0) (step : A → ℕ → G
     → ((a : A) (at : ℕ) → I a at → Holds I (step a at)) → (n : ℕ) (a : A) (at : ℕ) → I a at → Holds I (many step n a at)
 unfolding many
 holds-many I step each zero a at i = i
-holds-many I step each (suc n) a at i = holds-bind I I (step a at) (λ a′ at′. many step n a′ at′) (each a at i) (λ a′ at′ i′. holds-many I step each n a′ at′ i′)
+holds-many I step each (suc n) a at i = holds-bind I I (step a at) (λ a′ at′. many step n a′ at′) (each a at i)
+    (λ a′ at′ i′. holds-many I step each n a′ at′ i′)
 
 -- the test of its key holds, where an optional value is there
 abbrev KeyHeld : {R : Type 0} → Bool → Option R → ℕ → Type 0

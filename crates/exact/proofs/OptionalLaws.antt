@@ -64,7 +64,8 @@ optional {X} {Y} {R} {Q} {s} {at} {P} {enc} {view} {o} {P₂} {enc₂} {view₂}
     ]
 
     from-present : Has s at b → (v : Option X × Y) → P′ v → Has s at (enc′ v)
-        → (z : X × Y) × (P (z .0) × P₂ (some (z .0)) (z .1)) × (b ++ (enc (z .0) ++ enc₂ (some (z .0)) (z .1)) ≡ enc′ v) × (_≡_ {A = Option X × Y} (some (z .0), z .1) v)
+        → (z : X × Y) × (P (z .0) × P₂ (some (z .0)) (z .1)) × (b ++ (enc (z .0) ++ enc₂ (some (z .0)) (z .1)) ≡ enc′ v)
+        × (_≡_ {A = Option X × Y} (some (z .0), z .1) v)
     from-present key v = elim (v .0) as (λ x. P′ (x, v .1) → Has s at (enc′ (x, v .1)) → (z : X × Y) × (P (z .0) × P₂ (some (z .0)) (z .1)) × (b ++ (enc (z .0) ++ enc₂ (some (z .0)) (z .1)) ≡ enc′ (x, v .1)) × (_≡_ {A = Option X × Y} (some (z .0), z .1) (x, v .1))) [
       | none ↦ λ p h. absurd (apart (v .1) (p .1) h key)
       | some x ↦ λ p h. ((x, v .1), p, sym (append-assoc b (enc x) (enc₂ (some x) (v .1))), refl)

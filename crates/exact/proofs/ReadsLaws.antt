@@ -87,7 +87,8 @@ module _ {X R : Type 0} {s : List ℕ} {at : ℕ} {P : X → Type 0} {enc : X �
 abbrev pub Law : {X : Type 0} → List ℕ → ℕ → (X → Type 0) → (X → List ℕ) → Got X → Type 0
 Law {X} s at P enc o = (x : X) (n : ℕ) → (o ≡ got x n) ↔ (P x × Has s at (enc x) × (n ≡ at + length (enc x)))
 
-pub from-law : {X : Type 0} (s : List ℕ) (at : ℕ) (P : X → Type 0) (enc : X → List ℕ) (o : Got X) → Law s at P enc o → Reads s at P enc (λ (x : X). x) o
+pub from-law : {X : Type 0} (s : List ℕ) (at : ℕ) (P : X → Type 0) (enc : X → List ℕ) (o : Got X) → Law s at P enc o
+    → Reads s at P enc (λ (x : X). x) o
 from-law s at P enc (got r n) law =
     let a = law r n .0 refl in
     found (record {
@@ -104,7 +105,8 @@ from-law s at P enc refused law =
     let z : _≡_ {A = ℕ} 0 1 = cc in
     omega arith)
 
-pub to-law : {X : Type 0} {s : List ℕ} {at : ℕ} {P : X → Type 0} {enc : X → List ℕ} {o : Got X} → Reads s at P enc (λ (x : X). x) o → Law s at P enc o
+pub to-law : {X : Type 0} {s : List ℕ} {at : ℕ} {P : X → Type 0} {enc : X → List ℕ} {o : Got X} → Reads s at P enc (λ (x : X). x) o
+    → Law s at P enc o
 to-law {s} {at} {P} {enc} {o} r x n = (
   λ e.
       let a = the-one (subst (Reads s at P enc (λ y. y)) e r) in
@@ -221,7 +223,8 @@ refine {R} {Q} {s} {at} {P} {enc} {view} (found {r} {n} a) C view₂ b f is =
     let x = a .val in
     rw (a .seen, a .next) (go (b (view x) (at + length (enc x))) (is x (a .fine) (a .has) .0))
   where
-    go : (c : Bool) → (T c ↔ C (a .val)) → Reads s at (λ x. P x × C x) enc view₂ (guard c (got (f (view (a .val)) (at + length (enc (a .val)))) (at + length (enc (a .val)))))
+    go : (c : Bool) → (T c ↔ C (a .val)) → Reads s at (λ x. P x × C x) enc view₂
+        (guard c (got (f (view (a .val)) (at + length (enc (a .val)))) (at + length (enc (a .val)))))
     go true e =
         found (record {
           val = a .val;

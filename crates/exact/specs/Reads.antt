@@ -1,6 +1,7 @@
--- What it means that a reader is exact, and the ways in which readers are put together. A reader looks at the bytes of s from a place on. It answers
--- a result and the place after what it read, or it refuses. It is exact for a kind of values when it answers exactly where the encoding of an allowed
--- value of that kind stands, when no other allowed value's encoding stands there, and when its result is what is to be seen of that value.
+-- What it means that a reader is exact, and the ways in which readers are put together. A reader looks at the bytes of s from a place
+-- on. It answers a result and the place after what it read, or it refuses. It is exact for a kind of values when it answers exactly
+-- where the encoding of an allowed value of that kind stands, when no other allowed value's encoding stands there, and when its result
+-- is what is to be seen of that value.
 use mathlib.Core.Path.{_≡_}
 use mathlib.Core.Bool.{Bool, true, false}
 use mathlib.Core.List.{List, [], _∷_, _++_}
@@ -15,7 +16,8 @@ pub data Got (R : Type 0) : Type 0 where
   refused : Got R
 
 -- at the place `at` of s stands the encoding of one allowed value and of no other; r is what is seen of it, and n the place after it
-pub record One {X R : Type 0} (s : List ℕ) (at : ℕ) (Allowed : X → Type 0) (encode : X → List ℕ) (view : X → R) (r : R) (n : ℕ) : Type 0 where
+pub record One {X R : Type 0} (s : List ℕ) (at : ℕ) (Allowed : X → Type 0) (encode : X → List ℕ) (view : X → R)
+    (r : R) (n : ℕ) : Type 0 where
   pub val : X
   pub fine : Allowed val
   pub has : Has s at (encode val)

@@ -1,5 +1,5 @@
-// Reads records from standard input, each a call on one image that stays from record to record, and writes what is answered and, after a call
-// that may write, a sum over the whole image. tests/make_gate.py makes the stored input and output.
+// Reads records from standard input, each a call on one image that stays from record to record, and writes what is answered and, after
+// a call that may write, a sum over the whole image. tests/make_gate.py makes the stored input and output.
 mod calls;
 mod record;
 mod show;

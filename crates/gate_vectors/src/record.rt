@@ -1,5 +1,5 @@
-// Records of seven parts: a name, numbers of eight bytes, and five byte strings. A part is four bytes with its length, the highest first, and
-// so many bytes.
+// Records of seven parts: a name, numbers of eight bytes, and five byte strings. A part is four bytes with its length, the highest
+// first, and so many bytes.
 use crate::calls::call;
 
 // The number in the first four bytes; 0 where they are not there.

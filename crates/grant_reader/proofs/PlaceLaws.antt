@@ -41,7 +41,8 @@ unfolding placeFrom
 from-place d bs q zero i l = ap (grantPlace d) (sym (add-zero i))
 from-place d bs q (suc n) i l =
     let more : i + 1 + n ≡ i + suc n = omega arith in
-    ap (λ (p : ℕ). placeFrom (encode d) p n) (step-place d bs q i (omega arith)) ∙ from-place d bs q n (i + 1) (omega arith) ∙ ap (grantPlace d) more
+    ap (λ (p : ℕ). placeFrom (encode d) p n) (step-place d bs q i (omega arith)) ∙ from-place d bs q n (i + 1) (omega arith)
+    ∙ ap (grantPlace d) more
 
 -- the walk begins at the first grant
 start-place : (d : Descriptor) → AreBytes (encode d) → Allowed d → startOf (encode d) ≡ grantPlace d 0
@@ -52,7 +53,8 @@ start-place d bs a =
 pub reader-places : ReaderPlaces
 reader-places d bs a i l =
     let all : i ≡ 0 + i = omega arith in
-    ap (λ (p : ℕ). placeFrom (encode d) p i) (start-place d bs a) ∙ from-place d bs (a .formed) i 0 (omega arith) ∙ ap (grantPlace d) (sym all)
+    ap (λ (p : ℕ). placeFrom (encode d) p i) (start-place d bs a) ∙ from-place d bs (a .formed) i 0 (omega arith)
+    ∙ ap (grantPlace d) (sym all)
 
 -- and gives what stands there
 pub each-in-turn : EachInTurn
@@ -67,7 +69,8 @@ none-past d bs a i l =
     let n : ℕ = length (d .payload .grants) in
     let both : i ≡ n + (i - n) = omega arith in
     let end : placeFrom s (startOf s) i ≡ placeFrom s (grantPlace d n) (i - n)
-    = ap (placeFrom s (startOf s)) both ∙ from-both s (startOf s) n (i - n) ∙ ap (λ (p : ℕ). placeFrom s p (i - n)) (reader-places d bs a n (omega arith)) in
+    = ap (placeFrom s (startOf s)) both ∙ from-both s (startOf s) n (i - n)
+    ∙ ap (λ (p : ℕ). placeFrom s p (i - n)) (reader-places d bs a n (omega arith)) in
     ap grantNumbers (nth-at s i ∙ ap (grantAt s) end) ∙ none-stays s (grantPlace d n) (grants-end d bs (a .formed)) (i - n) .1
 
 -- of bytes that are not read it gives none

@@ -73,7 +73,8 @@ from-here s at zero l = refl
 from-here s at (suc n) l = absurd (omega arith)
 
 -- a grant is passed, and one less is left
-pub from-step : (s : List ℕ) (at next n : ℕ) (g : GrantSeen) → 0 < n → got g next ≡ grantAt s at → placeFrom s at n ≡ placeFrom s next (n - 1)
+pub from-step : (s : List ℕ) (at next n : ℕ) (g : GrantSeen) → 0 < n → got g next ≡ grantAt s at
+    → placeFrom s at n ≡ placeFrom s next (n - 1)
 from-step s at next zero g l e = absurd (omega arith)
 from-step s at next (suc n) g l e =
     let less : suc n - 1 ≡ n = omega arith in

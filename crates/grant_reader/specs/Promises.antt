@@ -29,12 +29,14 @@ ByIndex = (s : List ℕ) (i : ℕ) → nthOf s i ≡ grantAt s (placeFrom s (sta
 
 -- each call is the grant at its place: of an allowed descriptor it hands back the i-th grant, counted from 0
 abbrev pub EachInTurn : Type 0
-EachInTurn = (d : Descriptor) → AreBytes (encode d) → Allowed d → (i : ℕ) (g : Grant) → i < length (d .payload .grants) → getD (d .payload .grants) i g ≡ g
+EachInTurn = (d : Descriptor) → AreBytes (encode d) → Allowed d → (i : ℕ) (g : Grant) → i < length (d .payload .grants)
+    → getD (d .payload .grants) i g ≡ g
     → GrantHandedBack (encode d) g (grantNumbers (nthOf (encode d) i))
 
 -- past the last grant it gives none
 abbrev pub NonePast : Type 0
-NonePast = (d : Descriptor) → AreBytes (encode d) → Allowed d → (i : ℕ) → length (d .payload .grants) ≤ i → grantNumbers (nthOf (encode d) i) ≡ noGrant
+NonePast = (d : Descriptor) → AreBytes (encode d) → Allowed d → (i : ℕ) → length (d .payload .grants) ≤ i
+    → grantNumbers (nthOf (encode d) i) ≡ noGrant
 
 -- made from bytes that don't read it gives none
 abbrev pub NoneUnread : Type 0

@@ -41,7 +41,8 @@ pub fn advanced<'a>(r: GrantReader<'a>) -> GrantReader<'a>
     }
 }
 
-// The grant with the index, counted from 0, of a descriptor; none past the last, and where the bytes don't read. For callers with plain bytes.
+// The grant with the index, counted from 0, of a descriptor; none past the last, and where the bytes don't read. For callers with plain
+// bytes.
 pub fn nth(s: &[u8], index: u64) -> GrantRead
     ensures { λ g. ⌜ grantRead g ≡ nthOf (now (s .entry)) index ⌝ }
 {

@@ -16,7 +16,9 @@ use Rattle.descriptor.specs.declared.Reading.the-variants.{Read}
 use Rattle.descriptor.specs.Keys.{kModes, kGrants, kTerminalId, kDescriptorId, kSubjectFayId}
 use Rattle.descriptor.specs.Allowed.{longest, longestPeriod}
 use Rattle.descriptor.specs.Value.{bytesAt, within}
-use Rattle.descriptor.specs.Reader.{modesAt, modeAt, GrantSeen, grantAt, Sum, moreAt, GrantsSeen, grantsAt, Opening, openingAt, Closing, closingAt, PayloadSeen, payloadAt, Seen, descriptorAt, beforePayload, Answer, read, structure, validity, whole, readOf}
+use Rattle.descriptor.specs.Reader.{modesAt, modeAt, GrantSeen, grantAt, Sum, moreAt, GrantsSeen, grantsAt, Opening, openingAt, Closing}
+use Rattle.descriptor.specs.Reader.{closingAt, PayloadSeen, payloadAt, Seen, descriptorAt, beforePayload, Answer, read, structure}
+use Rattle.descriptor.specs.Reader.{validity, whole, readOf}
 use Rattle.descriptor.specs.Answer.{fieldsOf, readingOf}
 use Rattle.exact.specs.Holds.{Holds}
 use Rattle.exact.proofs.HoldsLaws.{holds-of, holds-bind, holds-then, holds-guard, holds-many}

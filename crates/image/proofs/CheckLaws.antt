@@ -95,7 +95,8 @@ pub record Stands (s : List ℕ) (seen : List (List ℕ)) (i at : ℕ) (b : List
   pub has-body : Has s at b
 
 -- A row that passes the check stands with its body.
-pub row-sound : (s : List ℕ) (seen : List (List ℕ)) (i at : ℕ) (f : Fields) (next : ℕ) → AreBytes s → rowPlace i + rowSize ≤ length s → Past s seen i
+pub row-sound : (s : List ℕ) (seen : List (List ℕ)) (i at : ℕ) (f : Fields) (next : ℕ) → AreBytes s → rowPlace i + rowSize ≤ length s
+    → Past s seen i
     → got f next ≡ rowAt s i at → (b : List ℕ) × Stands s seen i at b f × (next ≡ at + length b)
 row-sound s seen i at f next bytes room p e =
     let r : ℕ = rowPlace i in
@@ -125,11 +126,13 @@ row-sound s seen i at f next bytes room p e =
     )
 
 -- The row of a body that stands says where it lies.
-pub stands-says : (s : List ℕ) (seen : List (List ℕ)) (i at : ℕ) (b : List ℕ) (f : Fields) → at < 4294967296 → Stands s seen i at b f → RowSays s (rowPlace i) at b
+pub stands-says : (s : List ℕ) (seen : List (List ℕ)) (i at : ℕ) (b : List ℕ) (f : Fields) → at < 4294967296 → Stands s seen i at b f
+    → RowSays s (rowPlace i) at b
 stands-says s seen i at b f small h = row-says s (rowPlace i) at b small (omega (arith, read-in b f (h .reads) .short)) (h .has-row)
 
 -- A body that stands with its row passes the check.
-pub row-complete : (s : List ℕ) (seen : List (List ℕ)) (i at : ℕ) (b : List ℕ) (f : Fields) → at < 4294967296 → Past s seen i → Stands s seen i at b f
+pub row-complete : (s : List ℕ) (seen : List (List ℕ)) (i at : ℕ) (b : List ℕ) (f : Fields) → at < 4294967296 → Past s seen i
+    → Stands s seen i at b f
     → got f (at + length b) ≡ rowAt s i at
 unfolding rowAt guard
 row-complete s seen i at b f small p h =

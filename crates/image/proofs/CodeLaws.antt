@@ -1,4 +1,5 @@
--- Laws that the proofs of the code apply: what the numbers and parts that the code reads say of the definitions of specs/Check.antt and specs/Fresh.antt. Assumes nothing.
+-- Laws that the proofs of the code apply: what the numbers and parts that the code reads say of the definitions of specs/Check.antt and
+-- specs/Fresh.antt. Assumes nothing.
 use mathlib.Core.Path.{_≡_, refl, sym, ap, ap₂, _∙_}
 use mathlib.Core.Logic.{_⊎_, inl, inr}
 use mathlib.Core.Bool.{Bool, true, false, not, _&&_, and-assoc}
@@ -29,9 +30,11 @@ use Rattle.image.specs.declared.Survey.{Survey}
 use Rattle.image.specs.declared.Survey.the-variants.{Unsound}
 use Rattle.image.specs.declared.Finding.the-variants.{BadId}
 use Rattle.image.specs.declared.Made.the-variants.{Done, TooShort}
-use Rattle.image.specs.Layout.{imageEdition, modeEdition, mostRows, rowPlace, rowSize, idSize, countPlace, offsetPlace, lengthPlace, maskPlace, zeroPlace, headerSize}
+use Rattle.image.specs.Layout.{imageEdition, modeEdition, mostRows, rowPlace, rowSize, idSize, countPlace, offsetPlace, lengthPlace}
+use Rattle.image.specs.Layout.{maskPlace, zeroPlace, headerSize}
 use Rattle.image.specs.Image.{reading}
-use Rattle.image.specs.Check.{rowCount, rowId, rowLength, headerFits, idAmong, rowFits, onRead, rowAt, noted, rowsFrom, checked, surveyed, surveyOf, foundIn, findOf}
+use Rattle.image.specs.Check.{rowCount, rowId, rowLength, headerFits, idAmong, rowFits, onRead, rowAt, noted, rowsFrom, checked}
+use Rattle.image.specs.Check.{surveyed, surveyOf, foundIn, findOf}
 use Rattle.image.specs.Fresh.{fresh, madeOf, afterNew}
 use Rattle.image.proofs.BodyLaws.{read-in}
 use Rattle.image.proofs.StepLaws.{row-next-is, rows-next}
@@ -55,7 +58,8 @@ and-four : (a b c d : Bool) → (((a && b) && c) && d) ≡ (a && (b && (c && d))
 and-four a b c d = and-assoc (a && b) c d ∙ and-assoc a b (c && d)
 
 -- The four tests of the code are those of the header.
-pub header-is : (s : List ℕ) (a b c d : ℕ) → headerSize ≤ length s → a ≡ numberIn s 0 2 → b ≡ numberIn s 2 2 → c ≡ numberIn s countPlace 2 → d ≡ numberIn s 6 2
+pub header-is : (s : List ℕ) (a b c d : ℕ) → headerSize ≤ length s → a ≡ numberIn s 0 2 → b ≡ numberIn s 2 2
+    → c ≡ numberIn s countPlace 2 → d ≡ numberIn s 6 2
     → (((eqb a imageEdition && eqb b modeEdition) && leb c mostRows) && eqb d 0) ≡ headerFits s
 unfolding headerFits rowCount
 header-is s a b c d h ea eb ec ed =
@@ -70,12 +74,14 @@ header-is s a b c d h ea eb ec ed =
 -- ---- one row
 
 -- The two ids that the code compares are those of the row and of the body.
-ids-are : (s : List ℕ) (r id : ℕ) (b : Bool) → b ≡ same (take (r + idSize - r) (drop r s)) (take (id + idSize - id) (drop id s)) → b ≡ same (part s r idSize) (part s id idSize)
+ids-are : (s : List ℕ) (r id : ℕ) (b : Bool) → b ≡ same (take (r + idSize - r) (drop r s)) (take (id + idSize - id) (drop id s))
+    → b ≡ same (part s r idSize) (part s id idSize)
 ids-are s r id b e = e ∙ ap₂ same (lent-part s r idSize) (lent-part s id idSize)
 
 -- A row with another id does not fit.
 pub fits-not : (s : List ℕ) (r at : ℕ) (f : Fields) (b : Bool)
-    → b ≡ same (take (r + idSize - r) (drop r s)) (take (at + f .id + idSize - (at + f .id)) (drop (at + f .id) s)) → not b ≡ true → false ≡ rowFits s r at f
+    → b ≡ same (take (r + idSize - r) (drop r s)) (take (at + f .id + idSize - (at + f .id)) (drop (at + f .id) s)) → not b ≡ true
+    → false ≡ rowFits s r at f
 unfolding rowFits
 fits-not s r at f b e t = rw (sym (ids-are s r (at + f .id) b e) ∙ not-true b t)
 
@@ -112,7 +118,8 @@ row-long s i at n h e =
     ap (λ (m : ℕ). guard (leb (at + m) (length s)) (onRead (reading (part s at m)) (afterRead s i at m))) (sym k)
 
 -- A body that would end after the bytes is refused.
-pub row-short : (s : List ℕ) (i at n : ℕ) → rowPlace i + rowSize ≤ length s → n ≡ numberIn s (rowPlace i + lengthPlace) 4 → at ≤ length s → length s - at < n → refused ≡ rowAt s i at
+pub row-short : (s : List ℕ) (i at n : ℕ) → rowPlace i + rowSize ≤ length s → n ≡ numberIn s (rowPlace i + lengthPlace) 4
+    → at ≤ length s → length s - at < n → refused ≡ rowAt s i at
 row-short s i at n h e l g = failed-leb (at + n) (length s) _ (omega arith) ∙ sym (row-long s i at n h e)
 
 -- What the code reads is the reading of the body.
@@ -121,7 +128,8 @@ unfolding reading
 reading-is s at n o e = e ∙ ap (λ (b : List ℕ). readingOf (readOf b)) (lent-part s at n)
 
 -- A body that ends within the bytes is read.
-pub row-read : (s : List ℕ) (i at n : ℕ) (o : Reading) → rowPlace i + rowSize ≤ length s → n ≡ numberIn s (rowPlace i + lengthPlace) 4 → at ≤ length s → n ≤ length s - at
+pub row-read : (s : List ℕ) (i at n : ℕ) (o : Reading) → rowPlace i + rowSize ≤ length s → n ≡ numberIn s (rowPlace i + lengthPlace) 4
+    → at ≤ length s → n ≤ length s - at
     → o ≡ readingOf (readOf (take (at + n - at) (drop at s))) → rowAt s i at ≡ onRead o (afterRead s i at n)
 row-read s i at n o h e l g k =
     row-long s i at n h e
@@ -149,7 +157,8 @@ module _ (s : List ℕ) (i at n : ℕ) (o : Reading) (f : Fields) (e : o ≡ Rea
   row-other t = goes ∙ guard-no (rowFits s (rowPlace i) at f) _ (not-T-of b p t)
 
   -- The code looks for the row's id among those before.
-  among-is : (c : Bool) → c ≡ idAmong s (take (rowPlace i + idSize - rowPlace i) (drop (rowPlace i) s)) i → c ≡ idAmong s (rowId s (rowPlace i)) i
+  among-is : (c : Bool) → c ≡ idAmong s (take (rowPlace i + idSize - rowPlace i) (drop (rowPlace i) s)) i
+      → c ≡ idAmong s (rowId s (rowPlace i)) i
   among-is c q = q ∙ ap (λ (x : List ℕ). idAmong s x i) (lent-part s (rowPlace i) idSize)
 
   -- A row whose id a row before has is refused.
@@ -195,7 +204,8 @@ unfolding rowCount
 count-is s n h e = e ∙ number-in s countPlace 2 (omega arith) (omega arith)
 
 -- A header that fits has at most 64 rows.
-pub header-few : (s : List ℕ) (n : ℕ) (b : Bool) → headerSize ≤ length s → b ≡ headerFits s → not b ≡ false → n ≡ numberIn s countPlace 2 → n ≤ mostRows
+pub header-few : (s : List ℕ) (n : ℕ) (b : Bool) → headerSize ≤ length s → b ≡ headerFits s → not b ≡ false
+    → n ≡ numberIn s countPlace 2 → n ≤ mostRows
 unfolding headerFits
 header-few s n b h p t e =
     let y : headerFits s ≡ true = sym p ∙ not-false b t in

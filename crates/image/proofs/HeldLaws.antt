@@ -41,7 +41,8 @@ heldIn id bs = heldFrom id (rowPlace (length bs)) Missing bs
 -- ---- it is the body with the id
 
 -- After a body that reads, with the id or not.
-held-hit : (id : List ℕ) (at : ℕ) (h : Held) (b : List ℕ) (bs : List (List ℕ)) (f : Fields) (t : Bool) → reading b ≡ Read f → same (idOf b) id ≡ t
+held-hit : (id : List ℕ) (at : ℕ) (h : Held) (b : List ℕ) (bs : List (List ℕ)) (f : Fields) (t : Bool) → reading b ≡ Read f
+    → same (idOf b) id ≡ t
     → heldFrom id at h (b ∷ bs) ≡ heldFrom id (at + length b) (noted t h at (length b) f) bs
 unfolding heldFrom
 held-hit id at h b bs f t e i = rw (e, i)
@@ -67,7 +68,8 @@ held-rest s id b bs Missing e k = with-rest id b bs e .0 ∙ k
 held-rest s id b bs (Body at len f) e k = record { which = with-rest id b bs e .0 ∙ k .which; inside = k .inside; reads = k .reads }
 
 -- A first body with the id is held.
-held-first : (s id : List ℕ) (at : ℕ) (b : List ℕ) (bs : List (List ℕ)) (f : Fields) → Has s at b → reading b ≡ Read f → same (idOf b) id ≡ true
+held-first : (s id : List ℕ) (at : ℕ) (b : List ℕ) (bs : List (List ℕ)) (f : Fields) → Has s at b → reading b ≡ Read f
+    → same (idOf b) id ≡ true
     → HeldBody s id (b ∷ bs) at (length b) f
 held-first s id at b bs f h e i =
     let p : part s at (length b) ≡ b = has-part s at b h in
@@ -93,4 +95,5 @@ held-is s id at seen (b ∷ bs) a h =
         let w : heldFrom id at Missing (b ∷ bs) ≡ Body at (length b) f
         = held-hit id at Missing b bs f true i e ∙ held-none id (at + length b) (Body at (length b) f) bs (rest-new id (seen ++ (b ∷ [])) bs (a .1) m) in
         subst (HeldIs s id (b ∷ bs)) (sym w) (held-first s id at b bs f (has-left s at b (joined bs) h) i e)
-    go false e f i k = subst (HeldIs s id (b ∷ bs)) (sym (held-hit id at Missing b bs f false i e)) (held-rest s id b bs (heldFrom id (at + length b) Missing bs) e k)
+    go false e f i k = subst (HeldIs s id (b ∷ bs)) (sym (held-hit id at Missing b bs f false i e))
+        (held-rest s id b bs (heldFrom id (at + length b) Missing bs) e k)

@@ -1,6 +1,7 @@
 -- The statements of specs/Laws.antt, each from its law. Assumes nothing.
 use mathlib.Core.List.{[]}
-use Rattle.image.specs.Laws.{ReadIn, ReadNamed, BodyRead, EncodingRead, BodyWithExactly, BodiesNamed, SurveyTells, SurveySays, SurveyUnsound, EditionsSurveyed, SurveyInside, Lengths, RowExactly, ImageStands, OneMore}
+use Rattle.image.specs.Laws.{ReadIn, ReadNamed, BodyRead, EncodingRead, BodyWithExactly, BodiesNamed, SurveyTells, SurveySays}
+use Rattle.image.specs.Laws.{SurveyUnsound, EditionsSurveyed, SurveyInside, Lengths, RowExactly, ImageStands, OneMore}
 use Rattle.image.proofs.BodyLaws as body
 use Rattle.image.proofs.ReadLaws as read
 use Rattle.image.proofs.ListLaws as list

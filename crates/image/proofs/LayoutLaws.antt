@@ -73,7 +73,8 @@ all-differ seen (b ∷ bs) a =
     (has-none (idOf b) bs (rest-new (idOf b) (seen ++ (b ∷ [])) bs (a .1) m), all-differ (seen ++ (b ∷ [])) bs (a .1))
 
 -- Bodies whose ids are new stay so after a body with another id.
-still-new : (seen : List (List ℕ)) (b : List ℕ) (bs : List (List ℕ)) → Every (λ c. hasId (idOf c) seen ≡ false) bs → Every (λ c. idOf c ≡ idOf b → ⊥) bs
+still-new : (seen : List (List ℕ)) (b : List ℕ) (bs : List (List ℕ)) → Every (λ c. hasId (idOf c) seen ≡ false) bs
+    → Every (λ c. idOf c ≡ idOf b → ⊥) bs
     → Every (λ c. hasId (idOf c) (seen ++ (b ∷ [])) ≡ false) bs
 still-new seen b [] n o = tt
 still-new seen b (c ∷ bs) n o = (
@@ -82,7 +83,8 @@ still-new seen b (c ∷ bs) n o = (
 )
 
 -- Bodies that read with 0, whose ids are new and differ, are allowed one after the other.
-all-from : (seen bs : List (List ℕ)) → Every (λ b. answerOf b ≡ 0) bs → IdsDiffer bs → Every (λ c. hasId (idOf c) seen ≡ false) bs → AllFrom BodyOk seenWith seen bs
+all-from : (seen bs : List (List ℕ)) → Every (λ b. answerOf b ≡ 0) bs → IdsDiffer bs → Every (λ c. hasId (idOf c) seen ≡ false) bs
+    → AllFrom BodyOk seenWith seen bs
 all-from seen [] r o n = tt
 all-from seen (b ∷ bs) r o n =
     (record { reads = zero-read b (r .0); new = n .0 }, all-from (seen ++ (b ∷ [])) bs (r .1) (o .1) (still-new seen b bs (n .1) (o .0)))

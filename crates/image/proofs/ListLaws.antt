@@ -44,7 +44,8 @@ joined-short seen (b ∷ bs) a =
 pub has-snoc : (id : List ℕ) (bs : List (List ℕ)) (b : List ℕ) → hasId id (bs ++ (b ∷ [])) ≡ (hasId id bs || same (idOf b) id)
 unfolding hasId
 has-snoc id [] b = or-false (same (idOf b) id)
-has-snoc id (x ∷ bs) b = ap (λ (t : Bool). same (idOf x) id || t) (has-snoc id bs b) ∙ or-assoc (same (idOf x) id) (hasId id bs) (same (idOf b) id)
+has-snoc id (x ∷ bs) b = ap (λ (t : Bool). same (idOf x) id || t) (has-snoc id bs b)
+    ∙ or-assoc (same (idOf x) id) (hasId id bs) (same (idOf b) id)
 
 -- An id that a body before has, none of the bodies has.
 pub rest-new : (id : List ℕ) (seen bs : List (List ℕ)) → AllFrom BodyOk seenWith seen bs → hasId id seen ≡ true → hasId id bs ≡ false
@@ -59,7 +60,8 @@ rest-new id seen (b ∷ bs) a h =
     go false e r = r
 
 -- Bodies and one more that is allowed after them are allowed.
-pub each-snoc : (seen bs : List (List ℕ)) (b : List ℕ) → AllFrom BodyOk seenWith seen bs → BodyOk (seen ++ bs) b → AllFrom BodyOk seenWith seen (bs ++ (b ∷ []))
+pub each-snoc : (seen bs : List (List ℕ)) (b : List ℕ) → AllFrom BodyOk seenWith seen bs → BodyOk (seen ++ bs) b
+    → AllFrom BodyOk seenWith seen (bs ++ (b ∷ []))
 each-snoc seen [] b a o = (subst (λ (l : List (List ℕ)). BodyOk l b) (append-nil seen) o, tt)
 each-snoc seen (x ∷ bs) b a o =
     (a .0, each-snoc (seen ++ (x ∷ [])) bs b (a .1) (subst (λ (l : List (List ℕ)). BodyOk l b) (sym (append-assoc seen (x ∷ []) bs)) o))
@@ -67,7 +69,8 @@ each-snoc seen (x ∷ bs) b a o =
 -- ---- the body with an id
 
 -- After one more body its id finds it, where it found none before.
-pub with-new : (id : List ℕ) (bs : List (List ℕ)) (b : List ℕ) → bodyWith id bs ≡ none → same (idOf b) id ≡ true → bodyWith id (bs ++ (b ∷ [])) ≡ some b
+pub with-new : (id : List ℕ) (bs : List (List ℕ)) (b : List ℕ) → bodyWith id bs ≡ none → same (idOf b) id ≡ true
+    → bodyWith id (bs ++ (b ∷ [])) ≡ some b
 unfolding bodyWith
 with-new id [] b h e = rw (e, bodyWith)
 with-new id (x ∷ bs) b h e = go (same (idOf x) id) h (with-new id bs b)
@@ -85,11 +88,13 @@ with-other id [] b e = rw (e, bodyWith)
 with-other id (x ∷ bs) b e = ap (λ (o : Option (List ℕ)). elim (same (idOf x) id) as (λ t. Option (List ℕ)) [ true ↦ some x | false ↦ o ]) (with-other id bs b e)
 
 -- The first body is found by its id.
-pub with-first : (id b : List ℕ) (bs : List (List ℕ)) → same (idOf b) id ≡ true → (bodyWith id (b ∷ bs) ≡ some b) × (hasId id (b ∷ bs) ≡ true)
+pub with-first : (id b : List ℕ) (bs : List (List ℕ)) → same (idOf b) id ≡ true
+    → (bodyWith id (b ∷ bs) ≡ some b) × (hasId id (b ∷ bs) ≡ true)
 unfolding bodyWith hasId
 with-first id b bs e = (rw (e, bodyWith), rw e)
 
 -- By another id the rest is searched.
-pub with-rest : (id b : List ℕ) (bs : List (List ℕ)) → same (idOf b) id ≡ false → (bodyWith id (b ∷ bs) ≡ bodyWith id bs) × (hasId id (b ∷ bs) ≡ hasId id bs)
+pub with-rest : (id b : List ℕ) (bs : List (List ℕ)) → same (idOf b) id ≡ false
+    → (bodyWith id (b ∷ bs) ≡ bodyWith id bs) × (hasId id (b ∷ bs) ≡ hasId id bs)
 unfolding bodyWith hasId
 with-rest id b bs e = (rw (e, bodyWith), rw e)

@@ -50,11 +50,13 @@ lookup-exactly = record {
   held = λ s id bs b l h e. subst (λ n. FoundAt s b n) (sym (ap numbersOf (find-in s id l))) (let w = survey-tells s id bs h in subst (λ (v : Survey). FoundAt s b (numbersOf (foundIn v))) (sym (w .1)) (found s id bs b e (w .0) (w .2)));
 }
   where
-    missing : (s id : List ℕ) (bs : List (List ℕ)) → bodyWith id bs ≡ none → (h : Held) → HeldIs s id bs h → numbersOf (heldAt h) ≡ refusal 7
+    missing : (s id : List ℕ) (bs : List (List ℕ)) → bodyWith id bs ≡ none → (h : Held) → HeldIs s id bs h
+        → numbersOf (heldAt h) ≡ refusal 7
     missing s id bs e Missing k = refl
     missing s id bs e (Body at len f) k = absurd (none-some (part s at len) (sym e ∙ k .which))
 
-    found : (s id : List ℕ) (bs : List (List ℕ)) (b : List ℕ) → bodyWith id bs ≡ some b → (h : Held) → HeldIs s id bs h → FoundAt s b (numbersOf (heldAt h))
+    found : (s id : List ℕ) (bs : List (List ℕ)) (b : List ℕ) → bodyWith id bs ≡ some b → (h : Held) → HeldIs s id bs h
+        → FoundAt s b (numbersOf (heldAt h))
     found s id bs b e Missing k = absurd (none-some b (sym k ∙ e))
     found s id bs b e (Body at len f) k =
         let q : part s at len ≡ b = some-same (part s at len) b (sym (k .which) ∙ e) in
@@ -110,7 +112,8 @@ pub body-handed : BodyHanded
 body-handed s id bytes = go (findOf s id) refl
   where
     go : (r : Finding) → findOf s id ≡ r → bodySpan s r ≡ spanOf (numbersOf r .«body_at») (numbersOf r .«body_len»)
-    go (Found at n) e = let l : at + n ≤ length s = subst (FindFits s) e (find-fits s id bytes) in inside-fits s at n (omega arith) (omega arith)
+    go (Found at n) e = let l : at + n ≤ length s = subst (FindFits s) e (find-fits s id bytes) in inside-fits s at n (omega arith)
+        (omega arith)
     go BadId e = refl
     go BadImage e = refl
     go NotHeld e = refl

@@ -21,8 +21,10 @@ length-more bs b =
     omega (arith, image-length bs, image-length (bs ++ (b ∷ [])), length-append bs (b ∷ []), ap length (joined-snoc bs b), length-append (joined bs) b)
 
 -- Where the pieces of the larger image stand, it stands.
-pieces : (d : List ℕ) (bs : List (List ℕ)) (b : List ℕ) → Has d 0 (header (length bs + 1)) → Has d headerSize (rowsOf (rowPlace (length bs) + rowSize) bs)
-    → Has d (rowPlace (length bs)) (row (length (imageOf bs) + rowSize) b) → Has d (rowPlace (length bs) + rowSize) (joined bs) → Has d (length (imageOf bs) + rowSize) b
+pieces : (d : List ℕ) (bs : List (List ℕ)) (b : List ℕ) → Has d 0 (header (length bs + 1))
+    → Has d headerSize (rowsOf (rowPlace (length bs) + rowSize) bs)
+    → Has d (rowPlace (length bs)) (row (length (imageOf bs) + rowSize) b) → Has d (rowPlace (length bs) + rowSize) (joined bs)
+    → Has d (length (imageOf bs) + rowSize) b
     → Has d 0 (imageOf (bs ++ (b ∷ [])))
 pieces d bs b h₁ h₂ h₃ h₄ h₅ =
     let n : ℕ = length bs in
@@ -56,7 +58,8 @@ none-has id (b ∷ bs) e = go (same (idOf b) id) e (none-has id bs)
     go false e k = k e
 
 -- Fewer than 64 bodies and one more that reads, whose id none of them has, are allowed.
-bodies-more : (bs : List (List ℕ)) (b : List ℕ) → BodiesOk bs → length bs < mostRows → isRead (reading b) ≡ true → bodyWith (idOf b) bs ≡ none → BodiesOk (bs ++ (b ∷ []))
+bodies-more : (bs : List (List ℕ)) (b : List ℕ) → BodiesOk bs → length bs < mostRows → isRead (reading b) ≡ true
+    → bodyWith (idOf b) bs ≡ none → BodiesOk (bs ++ (b ∷ []))
 bodies-more bs b o few reads new = record {
   few = omega (arith, length-append bs (b ∷ []));
   each = each-snoc [] bs b (o .each) (record { reads = reads; new = none-has (idOf b) bs new });

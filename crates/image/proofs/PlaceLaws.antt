@@ -18,10 +18,12 @@ has-place : (bs : List (List ℕ)) (i : ℕ) (b : List ℕ) → i < length bs �
 unfolding hasId
 has-place [] i b h e = absurd (omega arith)
 has-place (x ∷ bs) zero b h e = ap (λ (t : Bool). t || hasId (idOf b) bs) (true-same (idOf x) (idOf b) (ap idOf e))
-has-place (x ∷ bs) (suc i) b h e = ap (λ (t : Bool). same (idOf x) (idOf b) || t) (has-place bs i b (omega arith) e) ∙ or-true (same (idOf x) (idOf b))
+has-place (x ∷ bs) (suc i) b h e = ap (λ (t : Bool). same (idOf x) (idOf b) || t) (has-place bs i b (omega arith) e)
+    ∙ or-true (same (idOf x) (idOf b))
 
 -- Where the ids differ it is the one with its id.
-place-with : (seen bs : List (List ℕ)) (i : ℕ) (b : List ℕ) → AllFrom BodyOk seenWith seen bs → i < length bs → getD bs i [] ≡ b → bodyWith (idOf b) bs ≡ some b
+place-with : (seen bs : List (List ℕ)) (i : ℕ) (b : List ℕ) → AllFrom BodyOk seenWith seen bs → i < length bs → getD bs i [] ≡ b
+    → bodyWith (idOf b) bs ≡ some b
 place-with seen [] i b a h e = absurd (omega arith)
 place-with seen (x ∷ bs) zero b a h e = with-first (idOf b) x bs (true-same (idOf x) (idOf b) (ap idOf e)) .0 ∙ ap some e
 place-with seen (x ∷ bs) (suc i) b a h e = go (same (idOf x) (idOf b)) refl (place-with (seen ++ (x ∷ [])) bs i b (a .1) (omega arith) e)
@@ -34,7 +36,8 @@ place-with seen (x ∷ bs) (suc i) b a h e = go (same (idOf x) (idOf b)) refl (p
     go false f k = with-rest (idOf b) x bs f .0 ∙ k
 
 -- The body with an id has it, and stands at a place of the list.
-with-place : (id : List ℕ) (bs : List (List ℕ)) (b : List ℕ) → bodyWith id bs ≡ some b → (idOf b ≡ id) × ((i : ℕ) × (i < length bs) × (getD bs i [] ≡ b))
+with-place : (id : List ℕ) (bs : List (List ℕ)) (b : List ℕ) → bodyWith id bs ≡ some b
+    → (idOf b ≡ id) × ((i : ℕ) × (i < length bs) × (getD bs i [] ≡ b))
 unfolding bodyWith
 with-place id [] b e = absurd (none-some b e)
 with-place id (x ∷ bs) b e = go (same (idOf x) id) refl e (with-place id bs b)

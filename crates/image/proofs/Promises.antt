@@ -1,5 +1,6 @@
 -- The promises of specs/Promises.antt, each from its law. Assumes nothing.
-use Rattle.image.specs.Promises.{LayoutFixed, RowOfBody, MaskSmall, HoldsExactly, BodiesOnce, BodyOfId, LookupExactly, SoundExactly, EditionsKnown, BodyHanded, NewImage}
+use Rattle.image.specs.Promises.{LayoutFixed, RowOfBody, MaskSmall, HoldsExactly, BodiesOnce, BodyOfId, LookupExactly, SoundExactly}
+use Rattle.image.specs.Promises.{EditionsKnown, BodyHanded, NewImage}
 use Rattle.image.proofs.RowLaws as row
 use Rattle.image.proofs.ReadLaws as read
 use Rattle.image.proofs.LayoutLaws as layout

@@ -160,7 +160,8 @@ says-row s r at b bytes q =
     let i : r + rowSize ≤ length s = q .inside in
     parts-row s r at b (record {
       id = subst (Has s r) (q .id) (part-has s r idSize (omega arith) .0);
-      offset = subst (λ (n : ℕ). Has s (r + offsetPlace) (bigEndian 4 n)) (q .offset) (has-of-number s (r + offsetPlace) 4 bytes (omega arith));
+      offset = subst (λ (n : ℕ). Has s (r + offsetPlace) (bigEndian 4 n)) (q .offset)
+          (has-of-number s (r + offsetPlace) 4 bytes (omega arith));
       size = subst (λ (n : ℕ). Has s (r + lengthPlace) (bigEndian 4 n)) (q .size) (has-of-number s (r + lengthPlace) 4 bytes (omega arith));
       mask = subst (λ (n : ℕ). Has s (r + maskPlace) (bigEndian 1 n)) (q .mask) (has-of-number s (r + maskPlace) 1 bytes (omega arith));
       zeros = subst (λ (n : ℕ). Has s (r + zeroPlace) (bigEndian 7 n)) (q .zeros) (has-of-number s (r + zeroPlace) 7 bytes (omega arith));

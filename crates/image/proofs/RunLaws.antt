@@ -53,7 +53,8 @@ pub run-rest : (s : List ℕ) (seen : List (List ℕ)) (i at : ℕ) (b : List �
 unfolding rowsOf joined
 run-rest s seen i at b bs g = record {
   each = g .each .1;
-  has-rows = has-after s (rowPlace i) rowSize (rowPlace (i + 1)) (row at b) (rowsOf (at + length b) bs) (row-length at b) (omega arith) (g .has-rows);
+  has-rows = has-after s (rowPlace i) rowSize (rowPlace (i + 1)) (row at b) (rowsOf (at + length b) bs) (row-length at b) (omega arith)
+      (g .has-rows);
   has-bodies = has-right s at b (joined bs) (g .has-bodies);
 }
 
@@ -63,14 +64,16 @@ pub run-more : (s : List ℕ) (seen : List (List ℕ)) (i at : ℕ) (b : List �
 unfolding rowsOf joined
 run-more s seen i at b f bs h g = record {
   each = (record { reads = is-read b f (h .reads); new = h .new }, g .each);
-  has-rows = has-both s (rowPlace i) rowSize (rowPlace (i + 1)) (row at b) (rowsOf (at + length b) bs) (row-length at b) (omega arith) (h .has-row) (g .has-rows);
+  has-rows = has-both s (rowPlace i) rowSize (rowPlace (i + 1)) (row at b) (rowsOf (at + length b) bs) (row-length at b) (omega arith)
+      (h .has-row) (g .has-rows);
   has-bodies = has-join s at b (joined bs) (h .has-body) (g .has-bodies);
 }
 
 -- ---- from the check to the bodies
 
 -- What is answered after a reader was answered of what it read.
-bind-is : {R Q : Type 0} (o : Got R) (k : R → ℕ → Got Q) (q : Q) (n : ℕ) → got q n ≡ bind o k → (r : R) × (m : ℕ) × (got r m ≡ o) × (got q n ≡ k r m)
+bind-is : {R Q : Type 0} (o : Got R) (k : R → ℕ → Got Q) (q : Q) (n : ℕ) → got q n ≡ bind o k
+    → (r : R) × (m : ℕ) × (got r m ≡ o) × (got q n ≡ k r m)
 unfolding bind
 bind-is (got r m) k q n e = (r, m, refl, e)
 bind-is refused k q n e = absurd (let z : _≡_ {A = ℕ} 0 1 = cc in omega arith)
@@ -80,12 +83,14 @@ place-same : (h h′ : Held) (n n′ : ℕ) → got h n ≡ got h′ n′ → n 
 place-same h h′ n n′ e = cc
 
 -- The row of a body that stands has its id.
-row-names : (s : List ℕ) (seen : List (List ℕ)) (i at : ℕ) (b : List ℕ) (f : Fields) → Stands s seen i at b f → rowId s (rowPlace i) ≡ idOf b
+row-names : (s : List ℕ) (seen : List (List ℕ)) (i at : ℕ) (b : List ℕ) (f : Fields) → Stands s seen i at b f
+    → rowId s (rowPlace i) ≡ idOf b
 row-names s seen i at b f h =
     ap (part s (rowPlace i)) (sym (id-length b)) ∙ has-part s (rowPlace i) (idOf b) (row-parts s (rowPlace i) at b (h .has-row) .id)
 
 -- k rows that pass the check are those of k bodies that stand.
-pub rows-sound : (s id : List ℕ) → AreBytes s → (k : ℕ) (seen : List (List ℕ)) (i at end : ℕ) (h h′ : Held) → Past s seen i → rowPlace (i + k) ≤ length s
+pub rows-sound : (s id : List ℕ) → AreBytes s → (k : ℕ) (seen : List (List ℕ)) (i at end : ℕ) (h h′ : Held) → Past s seen i
+    → rowPlace (i + k) ≤ length s
     → got h′ end ≡ rowsFrom s id k i at h
     → (bs : List (List ℕ)) × (length bs ≡ k) × Run s seen i at bs × (end ≡ at + length (joined bs))
 unfolding rowsFrom joined
@@ -106,7 +111,8 @@ rows-sound s id bytes (suc k) seen i at end h h′ p room e =
 -- ---- from the bodies to the check
 
 -- The rows of bodies that stand pass the check; what is held is what is held of the bodies.
-pub rows-complete : (s id : List ℕ) (bs seen : List (List ℕ)) (i at : ℕ) (h : Held) → at + 32768 * length bs < 4294967296 → Past s seen i → Run s seen i at bs
+pub rows-complete : (s id : List ℕ) (bs seen : List (List ℕ)) (i at : ℕ) (h : Held) → at + 32768 * length bs < 4294967296
+    → Past s seen i → Run s seen i at bs
     → rowsFrom s id (length bs) i at h ≡ got (heldFrom id at h bs) (at + length (joined bs))
 unfolding rowsFrom heldFrom joined
 rows-complete s id [] seen i at h small p g = ap (got h) (sym (add-zero at))
@@ -118,7 +124,8 @@ rows-complete s id (b ∷ bs) seen i at h small p g =
     let short : length b ≤ 32768 = read-in b f (w .reads) .short in
     let next : ℕ = at + length b in
     let held : noted (same (rowId s (rowPlace i)) id) h at (rowLength s (rowPlace i)) f ≡ heldAfter (same (idOf b) id) h at (length b) (reading b)
-    = ap₂ (λ (y : List ℕ) (n : ℕ). noted (same y id) h at n f) (q .id) (q .size) ∙ ap (heldAfter (same (idOf b) id) h at (length b)) (sym (w .reads)) in
+    = ap₂ (λ (y : List ℕ) (n : ℕ). noted (same y id) h at n f) (q .id) (q .size)
+    ∙ ap (heldAfter (same (idOf b) id) h at (length b)) (sym (w .reads)) in
     let end : next + length (joined bs) ≡ at + length (b ++ joined bs) = omega (arith, length-append b (joined bs)) in
     bind-got (rowAt s i at) _ f next (row-complete s seen i at b f (omega arith) p w)
     ∙ ap (rowsFrom s id (length bs) (i + 1) next) held
@@ -126,7 +133,8 @@ rows-complete s id (b ∷ bs) seen i at h small p g =
     ∙ ap (got (heldFrom id at h (b ∷ bs))) end
 
 -- The parts that the rows of bodies that stand name are the bodies.
-pub rows-bodies : (s : List ℕ) (bs seen : List (List ℕ)) (i at : ℕ) → at + 32768 * length bs < 4294967296 → Run s seen i at bs → bodiesFrom s (length bs) i ≡ bs
+pub rows-bodies : (s : List ℕ) (bs seen : List (List ℕ)) (i at : ℕ) → at + 32768 * length bs < 4294967296 → Run s seen i at bs
+    → bodiesFrom s (length bs) i ≡ bs
 unfolding bodiesFrom
 rows-bodies s [] seen i at small g = refl
 rows-bodies s (b ∷ bs) seen i at small g =

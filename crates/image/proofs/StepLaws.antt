@@ -26,7 +26,8 @@ guard-got true o r n e = (refl, e)
 guard-got false o r n e = absurd (let z : _≡_ {A = ℕ} 0 1 = cc in omega arith)
 
 -- What is answered of a body was answered of what was read.
-pub read-got : {R : Type 0} (x : Reading) (k : Fields → Got R) (r : R) (n : ℕ) → got r n ≡ onRead x k → (f : Fields) × (x ≡ Read f) × (got r n ≡ k f)
+pub read-got : {R : Type 0} (x : Reading) (k : Fields → Got R) (r : R) (n : ℕ) → got r n ≡ onRead x k
+    → (f : Fields) × (x ≡ Read f) × (got r n ≡ k f)
 read-got (Read f) k r n e = (f, refl, e)
 read-got Structure k r n e = absurd (let z : _≡_ {A = ℕ} 0 1 = cc in omega arith)
 read-got Validity k r n e = absurd (let z : _≡_ {A = ℕ} 0 1 = cc in omega arith)
@@ -67,7 +68,8 @@ row-is s i at f next e =
     }
 
 -- The next body begins after this one, within the bytes.
-pub row-next-is : (s : List ℕ) (i at : ℕ) (f : Fields) (next : ℕ) → got f next ≡ rowAt s i at → (next ≡ at + rowLength s (rowPlace i)) × (next ≤ length s)
+pub row-next-is : (s : List ℕ) (i at : ℕ) (f : Fields) (next : ℕ) → got f next ≡ rowAt s i at
+    → (next ≡ at + rowLength s (rowPlace i)) × (next ≤ length s)
 row-next-is s i at f next e = let k = row-is s i at f next e in (k .end, omega (arith, k .inside, k .end))
 
 -- ---- all rows

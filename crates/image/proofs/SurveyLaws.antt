@@ -15,17 +15,20 @@ use Rattle.image.specs.Layout.{rowPlace}
 use Rattle.image.specs.Image.{imageOf, Holds}
 use Rattle.image.specs.Check.{rowCount, checked, surveyed, surveyOf, isSound, bodiesOf}
 use Rattle.image.specs.Promises.{BodiesOnce}
-use Rattle.image.specs.Laws.{HeldIs, SurveyTells, Surveyed, SurveySays, SurveyUnsound, HeldFits, SurveyFits, SurveyInside, BodiesNamed, EditionsSurveyed}
+use Rattle.image.specs.Laws.{HeldIs, SurveyTells, Surveyed, SurveySays, SurveyUnsound, HeldFits, SurveyFits, SurveyInside}
+use Rattle.image.specs.Laws.{BodiesNamed, EditionsSurveyed}
 use Rattle.image.proofs.HeldLaws.{heldIn, held-is}
 use Rattle.image.proofs.RunLaws.{Run}
-use Rattle.image.proofs.SoundLaws.{HeaderSays, fits-says, holds-run, holds-room, count-of, check-complete, Checked, check-is, check-sound, holds-bodies}
+use Rattle.image.proofs.SoundLaws.{HeaderSays, fits-says, holds-run, holds-room, count-of, check-complete, Checked, check-is}
+use Rattle.image.proofs.SoundLaws.{check-sound, holds-bodies}
 
 -- ---- the survey
 
 -- What is held of the bodies of an image that s begins with is the body with the id.
 pub held-in : (s id : List ℕ) (bs : List (List ℕ)) → Holds s bs → HeldIs s id bs (heldIn id bs)
 unfolding heldIn
-held-in s id bs h = let g : Run s [] 0 (rowPlace (length bs)) bs = holds-run s bs h in held-is s id (rowPlace (length bs)) [] bs (g .each) (g .has-bodies)
+held-in s id bs h = let g : Run s [] 0 (rowPlace (length bs)) bs = holds-run s bs h in held-is s id (rowPlace (length bs)) [] bs
+    (g .each) (g .has-bodies)
 
 -- `SurveyTells`.
 pub survey-tells : SurveyTells

@@ -1,4 +1,5 @@
--- The check of an image and the lookup of an id, in one pass over the rows: what the code answers. A reader of the promises does not need this page.
+-- The check of an image and the lookup of an id, in one pass over the rows: what the code answers. A reader of the promises does not
+-- need this page.
 use mathlib.Core.Bool.{Bool, true, false, not, _&&_, _||_}
 use mathlib.Core.List.{List, [], _∷_}
 use Prim.Native.Nat.{ℕ, zero, suc, _+_}
@@ -20,7 +21,8 @@ use Rattle.image.specs.declared.StoredNumbers.{StoredNumbers}
 use Rattle.image.specs.declared.Finding.the-variants.{Found, BadId, BadImage, NotHeld}
 use Rattle.image.specs.declared.rows.RowRead.{RowRead}
 use Rattle.image.specs.declared.rows.RowRead.the-variants.{IsRow, NoRow}
-use Rattle.image.specs.Layout.{imageEdition, modeEdition, headerSize, idSize, mostRows, countPlace, offsetPlace, lengthPlace, maskPlace, zeroPlace, rowPlace}
+use Rattle.image.specs.Layout.{imageEdition, modeEdition, headerSize, idSize, mostRows, countPlace, offsetPlace, lengthPlace}
+use Rattle.image.specs.Layout.{maskPlace, zeroPlace, rowPlace}
 use Rattle.image.specs.Image.{reading}
 
 -- ---- numbers of the header and of the row at r

@@ -1,5 +1,5 @@
--- The image of a list of bodies, and which lists an image may hold. Document 01, "The stored image": a table of contents first, then the bodies. Numbers are
--- big-endian. Nothing here reads an image.
+-- The image of a list of bodies, and which lists an image may hold. Document 01, "The stored image": a table of contents first, then
+-- the bodies. Numbers are big-endian. Nothing here reads an image.
 use mathlib.Core.Path.{_≡_}
 use mathlib.Core.Bool.{Bool, true, false, _||_}
 use mathlib.Core.List.{List, [], _∷_, _++_}

@@ -17,7 +17,8 @@ use Rattle.image.specs.declared.Held.{Held}
 use Rattle.image.specs.declared.Held.the-variants.{Missing, Body}
 use Rattle.image.specs.declared.Survey.{Survey}
 use Rattle.image.specs.declared.Survey.the-variants.{Sound, Unsound}
-use Rattle.image.specs.Layout.{imageEdition, modeEdition, headerSize, rowSize, idSize, mostRows, offsetPlace, lengthPlace, maskPlace, zeroPlace, rowPlace}
+use Rattle.image.specs.Layout.{imageEdition, modeEdition, headerSize, rowSize, idSize, mostRows, offsetPlace, lengthPlace}
+use Rattle.image.specs.Layout.{maskPlace, zeroPlace, rowPlace}
 use Rattle.image.specs.Image.{reading, isRead, idOf, modesOf, header, row, rowsOf, joined, imageOf, BodiesOk, Holds, bodyWith}
 use Rattle.image.specs.Check.{surveyOf, bodiesOf}
 
@@ -146,8 +147,9 @@ ImageStands = (s : List ℕ) (bs : List (List ℕ)) → Holds s bs → ImagePart
 
 -- ---- one body more
 
--- with one body more an image is longer by a row and the body; it stands where its pieces do, the bodies a row higher and the new row and body last; fewer than
--- 64 bodies stay allowed with one that reads and whose id none of them has; that id then has the body, and any other id what it had
+-- with one body more an image is longer by a row and the body; it stands where its pieces do, the bodies a row higher and the new row
+-- and body last; fewer than 64 bodies stay allowed with one that reads and whose id none of them has; that id then has the body, and
+-- any other id what it had
 pub record OneMore : Type 0 where
   pub of-image : (bs : List (List ℕ)) (b : List ℕ) → length (imageOf (bs ++ (b ∷ []))) ≡ length (imageOf bs) + rowSize + length b
   pub stands : (s : List ℕ) (bs : List (List ℕ)) (b : List ℕ)
@@ -157,7 +159,8 @@ pub record OneMore : Type 0 where
       → Has s (rowPlace (length bs) + rowSize) (joined bs)
       → Has s (length (imageOf bs) + rowSize) b
       → Has s 0 (imageOf (bs ++ (b ∷ [])))
-  pub allowed : (bs : List (List ℕ)) (b : List ℕ) → BodiesOk bs → length bs < mostRows → isRead (reading b) ≡ true → bodyWith (idOf b) bs ≡ none
+  pub allowed : (bs : List (List ℕ)) (b : List ℕ) → BodiesOk bs → length bs < mostRows → isRead (reading b) ≡ true
+      → bodyWith (idOf b) bs ≡ none
       → BodiesOk (bs ++ (b ∷ []))
   pub mine : (bs : List (List ℕ)) (b : List ℕ) → bodyWith (idOf b) bs ≡ none → bodyWith (idOf b) (bs ++ (b ∷ [])) ≡ some b
   pub others : (id : List ℕ) (bs : List (List ℕ)) (b : List ℕ) → (idOf b ≡ id → ⊥) → bodyWith id (bs ++ (b ∷ [])) ≡ bodyWith id bs

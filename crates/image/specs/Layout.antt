@@ -1,4 +1,5 @@
--- The sizes, limits and editions of a stored image, each named once. A reader of the promises does not need this page: they have the numbers.
+-- The sizes, limits and editions of a stored image, each named once. A reader of the promises does not need this page: they have the
+-- numbers.
 use Prim.Native.Nat.{ℕ, _+_, _*_}
 
 -- the edition of the image's layout

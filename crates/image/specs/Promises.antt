@@ -1,5 +1,5 @@
--- What is promised of stored images, and nothing else. Each statement `NameOfIt` is proved in proofs/Promises.antt as `name-of-it`. Document 01, "The stored
--- image"; the numbers of a lookup are those of include/cap.h.
+-- What is promised of stored images, and nothing else. Each statement `NameOfIt` is proved in proofs/Promises.antt as `name-of-it`.
+-- Document 01, "The stored image"; the numbers of a lookup are those of include/cap.h.
 use mathlib.Core.Path.{_≡_}
 use mathlib.Core.Logic.{_↔_, _⊎_}
 use mathlib.Core.List.{List, [], _∷_, _++_}
@@ -26,8 +26,8 @@ use Rattle.image.specs.Fresh.{madeOf, afterNew, numberOf}
 abbrev pub four : ℕ → List ℕ
 four n = (n / 16777216 % 256) ∷ (n / 65536 % 256) ∷ (n / 256 % 256) ∷ (n % 256) ∷ []
 
--- Header, 8 bytes: image edition 1 (2 bytes), mode edition 1 (2), row count (2), zero (2). Rows of 32 bytes: descriptor id (16), body offset (4), body length
--- (4), mask (1), zero (7). Bodies lie back to back in row order from 8 + 32 × rows.
+-- Header, 8 bytes: image edition 1 (2 bytes), mode edition 1 (2), row count (2), zero (2). Rows of 32 bytes: descriptor id (16), body
+-- offset (4), body length (4), mask (1), zero (7). Bodies lie back to back in row order from 8 + 32 × rows.
 abbrev pub LayoutFixed : Type 0
 LayoutFixed =
     ((n : ℕ) → header n ≡ 0 ∷ 1 ∷ 0 ∷ 1 ∷ (n / 256 % 256) ∷ (n % 256) ∷ 0 ∷ 0 ∷ [])
@@ -43,7 +43,8 @@ LayoutFixed =
 abbrev pub answerOf : List ℕ → ℕ
 answerOf b = descriptor.numberOf (readingOf (readOf b))
 
--- a body that reads with 0 is the encoding of an allowed descriptor; its row has that descriptor's id, and the union of its modes as the mask
+-- a body that reads with 0 is the encoding of an allowed descriptor; its row has that descriptor's id, and the union of its modes as
+-- the mask
 abbrev pub RowOfBody : Type 0
 RowOfBody = (b : List ℕ) → AreBytes b → answerOf b ≡ 0
     → (d : Descriptor) × Allowed d × (b ≡ encode d) × (idOf b ≡ d .payload .id) × (modesOf b ≡ unionOf (d .payload .grants))
@@ -64,7 +65,8 @@ abbrev pub IdsDiffer : List (List ℕ) → Type 0
 IdsDiffer [] = Unit {0}
 IdsDiffer (b ∷ bs) = Every (λ c. idOf c ≡ idOf b → ⊥) bs × IdsDiffer bs
 
--- a buffer holds the bodies exactly when they are at most 64, each reads with 0, their ids differ, and the buffer is their image, followed by anything
+-- a buffer holds the bodies exactly when they are at most 64, each reads with 0, their ids differ, and the buffer is their image,
+-- followed by anything
 abbrev pub HoldsExactly : Type 0
 HoldsExactly = (s : List ℕ) (bs : List (List ℕ))
     → Holds s bs
@@ -97,17 +99,22 @@ pub record FoundAt (s b : List ℕ) (n : StoredNumbers) : Type 0 where
 -- 15: the id is not 16 bytes. 16: the buffer holds no list of bodies. 7: no body has the id. Else 0, with the body that has it.
 pub record LookupExactly : Type 0 where
   pub bad-id : (s id : List ℕ) → (length id ≡ 16 → ⊥) → numbersOf (findOf s id) ≡ refusal 15
-  pub bad-image : (s id : List ℕ) → AreBytes s → length id ≡ 16 → ((bs : List (List ℕ)) → Holds s bs → ⊥) → numbersOf (findOf s id) ≡ refusal 16
-  pub not-held : (s id : List ℕ) (bs : List (List ℕ)) → length id ≡ 16 → Holds s bs → bodyWith id bs ≡ none → numbersOf (findOf s id) ≡ refusal 7
-  pub held : (s id : List ℕ) (bs : List (List ℕ)) (b : List ℕ) → length id ≡ 16 → Holds s bs → bodyWith id bs ≡ some b → FoundAt s b (numbersOf (findOf s id))
+  pub bad-image : (s id : List ℕ) → AreBytes s → length id ≡ 16 → ((bs : List (List ℕ)) → Holds s bs → ⊥)
+      → numbersOf (findOf s id) ≡ refusal 16
+  pub not-held : (s id : List ℕ) (bs : List (List ℕ)) → length id ≡ 16 → Holds s bs → bodyWith id bs ≡ none
+      → numbersOf (findOf s id) ≡ refusal 7
+  pub held : (s id : List ℕ) (bs : List (List ℕ)) (b : List ℕ) → length id ≡ 16 → Holds s bs → bodyWith id bs ≡ some b
+      → FoundAt s b (numbersOf (findOf s id))
 
 -- an image is sound, which is that a lookup of an id of 16 bytes is not answered 16, exactly when the buffer holds a list of bodies
 abbrev pub SoundExactly : Type 0
-SoundExactly = (s id : List ℕ) → AreBytes s → length id ≡ 16 → (numbersOf (findOf s id) .answer ≡ 16 → ⊥) ↔ ((bs : List (List ℕ)) × Holds s bs)
+SoundExactly = (s id : List ℕ) → AreBytes s → length id ≡ 16 → (numbersOf (findOf s id) .answer ≡ 16 → ⊥)
+    ↔ ((bs : List (List ℕ)) × Holds s bs)
 
 -- an image whose image edition or mode edition is another than 1 is answered 16, whatever else it holds
 abbrev pub EditionsKnown : Type 0
-EditionsKnown = (s id : List ℕ) → length id ≡ 16 → (numberAt s 0 2 ≡ 1 → ⊥) ⊎ (numberAt s 2 2 ≡ 1 → ⊥) → numbersOf (findOf s id) ≡ refusal 16
+EditionsKnown = (s id : List ℕ) → length id ≡ 16 → (numberAt s 0 2 ≡ 1 → ⊥) ⊎ (numberAt s 2 2 ≡ 1 → ⊥)
+    → numbersOf (findOf s id) ≡ refusal 16
 
 -- the part that is handed back for a lookup has the place and the length of its numbers; for a refusal that is the empty part at the start
 abbrev pub BodyHanded : Type 0
@@ -116,7 +123,8 @@ BodyHanded = (s id : List ℕ) → AreBytes s
 
 -- ---- a new image
 
--- A new image writes 00 01 00 01 00 00 00 00 and no other byte, which is the image of no bodies; a buffer under 8 bytes gives 17, and is left as it was.
+-- A new image writes 00 01 00 01 00 00 00 00 and no other byte, which is the image of no bodies; a buffer under 8 bytes gives 17, and
+-- is left as it was.
 abbrev pub NewImage : Type 0
 NewImage =
     ((d : List ℕ) → 8 ≤ length d

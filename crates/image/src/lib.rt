@@ -32,7 +32,8 @@ pub enum Finding {
     NotHeld,
 }
 
-// A lookup in document 01's numbers, as include/cap.h has them: the answer, 0, 15, 16 or 7; and with 0 the place and the length of the body.
+// A lookup in document 01's numbers, as include/cap.h has them: the answer, 0, 15, 16 or 7; and with 0 the place and the length of the
+// body.
 #[repr(C)]
 pub struct StoredNumbers {
     pub answer: u64,

@@ -1,5 +1,5 @@
--- Laws of blocks (specs/Block.antt): a line in a block, the bytes that are kept of a block, how many are written for it, and that the blocks of an input together
--- have the answers to its lines written. Assumes nothing.
+-- Laws of blocks (specs/Block.antt): a line in a block, the bytes that are kept of a block, how many are written for it, and that the
+-- blocks of an input together have the answers to its lines written. Assumes nothing.
 use mathlib.Core.Path.{_≡_, refl, sym, ap, _∙_}
 use mathlib.Core.Bool.{Bool, true, false, not, _&&_, _||_}
 use mathlib.Core.List.{List, [], _∷_, _++_, append-nil, append-assoc}
@@ -24,21 +24,25 @@ noNewline [] = true
 noNewline (b ∷ bs) = not (eqb b 10) && noNewline bs
 
 -- a newline first: the line that has begun is answered
-pub fed-newline : (long : Bool) (begun : List ℕ) (b : ℕ) (bs : List ℕ) → eqb b 10 ≡ true → fedFrom long begun (b ∷ bs) ≡ after (word (verdictIf long begun)) (fedFrom false [] bs)
+pub fed-newline : (long : Bool) (begun : List ℕ) (b : ℕ) (bs : List ℕ) → eqb b 10 ≡ true
+    → fedFrom long begun (b ∷ bs) ≡ after (word (verdictIf long begun)) (fedFrom false [] bs)
 unfolding fedFrom
 fed-newline long begun b bs e = rw (e, fedFrom)
 
 -- another byte first: it joins that line
-pub fed-byte : (long : Bool) (begun : List ℕ) (b : ℕ) (bs : List ℕ) → eqb b 10 ≡ false → fedFrom long begun (b ∷ bs) ≡ fedFrom long (begun ++ (b ∷ [])) bs
+pub fed-byte : (long : Bool) (begun : List ℕ) (b : ℕ) (bs : List ℕ) → eqb b 10 ≡ false
+    → fedFrom long begun (b ∷ bs) ≡ fedFrom long (begun ++ (b ∷ [])) bs
 unfolding fedFrom
 fed-byte long begun b bs e = rw (e, fedFrom)
 
 -- the same of the answers to an input
-pub answers-newline : (begun : List ℕ) (b : ℕ) (bs : List ℕ) → eqb b 10 ≡ true → answersFrom begun (b ∷ bs) ≡ word (verdict begun) ++ answersFrom [] bs
+pub answers-newline : (begun : List ℕ) (b : ℕ) (bs : List ℕ) → eqb b 10 ≡ true
+    → answersFrom begun (b ∷ bs) ≡ word (verdict begun) ++ answersFrom [] bs
 unfolding answersFrom
 answers-newline begun b bs e = rw (e, answersFrom)
 
-pub answers-byte : (begun : List ℕ) (b : ℕ) (bs : List ℕ) → eqb b 10 ≡ false → answersFrom begun (b ∷ bs) ≡ answersFrom (begun ++ (b ∷ [])) bs
+pub answers-byte : (begun : List ℕ) (b : ℕ) (bs : List ℕ) → eqb b 10 ≡ false
+    → answersFrom begun (b ∷ bs) ≡ answersFrom (begun ++ (b ∷ [])) bs
 unfolding answersFrom
 answers-byte begun b bs e = rw (e, answersFrom)
 
@@ -53,7 +57,8 @@ module _ (P : Bool → List ℕ → List ℕ → Fed → Type 0)
     by-fed long begun [] = at-end long begun
     by-fed long begun (b ∷ bs) = go (eqb b 10) refl (by-fed false [] bs) (by-fed long (begun ++ (b ∷ [])) bs)
       where
-        go : (t : Bool) → eqb b 10 ≡ t → P false [] bs (fedFrom false [] bs) → P long (begun ++ (b ∷ [])) bs (fedFrom long (begun ++ (b ∷ [])) bs)
+        go : (t : Bool) → eqb b 10 ≡ t → P false [] bs (fedFrom false [] bs)
+            → P long (begun ++ (b ∷ [])) bs (fedFrom long (begun ++ (b ∷ [])) bs)
             → P long begun (b ∷ bs) (fedFrom long begun (b ∷ bs))
         go true e p q = rw (fed-newline long begun b bs e) (at-newline long begun b bs (fedFrom false [] bs) e p)
         go false e p q = rw (fed-byte long begun b bs e) (at-byte long begun b bs (fedFrom long (begun ++ (b ∷ [])) bs) e q)
@@ -61,7 +66,8 @@ module _ (P : Bool → List ℕ → List ℕ → Fed → Type 0)
 -- ---- a line in a block
 
 -- bytes with no newline among them join the line that has begun
-fed-join : (long : Bool) (begun line rest : List ℕ) → noNewline line ≡ true → fedFrom long begun (line ++ rest) ≡ fedFrom long (begun ++ line) rest
+fed-join : (long : Bool) (begun line rest : List ℕ) → noNewline line ≡ true
+    → fedFrom long begun (line ++ rest) ≡ fedFrom long (begun ++ line) rest
 unfolding noNewline
 fed-join long begun [] rest h = rw append-nil
 fed-join long begun (b ∷ bs) rest h =
@@ -95,7 +101,8 @@ drop-end : (p k t : List ℕ) → p ++ k ≡ t → drop (length t - length k) t 
 drop-end p k t e = rw (← e) (drop-at p k (length (p ++ k) - length k) (omega (arith, length-append p k)))
 
 -- the bytes that are kept of a block are its last, and at most 600
-pub kept-end : (long : Bool) (s : List ℕ) → (drop (length s - length (fed long s .kept)) s ≡ fed long s .kept) × (length (fed long s .kept) ≤ longestLine)
+pub kept-end : (long : Bool) (s : List ℕ) → (drop (length s - length (fed long s .kept)) s ≡ fed long s .kept)
+    × (length (fed long s .kept) ≤ longestLine)
 kept-end long s = let r = fed-ends long [] s in (drop-end (r .0) (fed long s .kept) s (r .1), r .2)
 
 -- a word has four bytes at most
@@ -147,15 +154,18 @@ no-newline-snoc (x ∷ xs) b h e =
     (no-newline-snoc xs b (and-right (not (eqb x 10)) (noNewline xs) h) e)
 
 -- one more byte of the line
-stands-byte : {long : Bool} {part line : List ℕ} (b : ℕ) → eqb b 10 ≡ false → Stands long part line → Stands long (part ++ (b ∷ [])) (line ++ (b ∷ []))
+stands-byte : {long : Bool} {part line : List ℕ} (b : ℕ) → eqb b 10 ≡ false → Stands long part line
+    → Stands long (part ++ (b ∷ [])) (line ++ (b ∷ []))
 stands-byte b e (whole l h) = whole (l ++ (b ∷ [])) (no-newline-snoc l b h e)
-stands-byte b e (tooLong p l h k) = tooLong (p ++ (b ∷ [])) (l ++ (b ∷ [])) (no-newline-snoc p b h e) (omega (arith, length-append l (b ∷ [])))
+stands-byte b e (tooLong p l h k) = tooLong (p ++ (b ∷ [])) (l ++ (b ∷ [])) (no-newline-snoc p b h e)
+    (omega (arith, length-append l (b ∷ [])))
 
 -- at the end of a block, what is kept is such a part
 stands-kept : {long : Bool} {part line : List ℕ} → Stands long part line → Stands (keptOf long part .long) (keptOf long part .kept) line
 unfolding keptOf noNewline
 stands-kept (whole l h) =
-    by-cond (λ (f : Fed). Stands (f .long) (f .kept) l) (ltb longestLine (length l)) (λ e. tooLong [] l refl (ltb-true longestLine (length l) e)) (λ e. whole l h)
+    by-cond (λ (f : Fed). Stands (f .long) (f .kept) l) (ltb longestLine (length l))
+    (λ e. tooLong [] l refl (ltb-true longestLine (length l) e)) (λ e. whole l h)
 stands-kept (tooLong p l h k) = tooLong [] l refl k
 
 -- a line too long is bad at the end of the input
@@ -186,7 +196,8 @@ fed-carries =
     let q = r (line ++ (b ∷ [])) (stands-byte b e h) in (q .0, q .1, λ more. answers-byte line b (bs ++ more) e ∙ q .2 more))
 
 -- what is written for blocks, when a line has begun before them
-written-answers : (blocks : List (List ℕ)) (long : Bool) (kept line : List ℕ) → Stands long kept line → writtenFrom long kept blocks ≡ answersFrom line (concat blocks)
+written-answers : (blocks : List (List ℕ)) (long : Bool) (kept line : List ℕ) → Stands long kept line
+    → writtenFrom long kept blocks ≡ answersFrom line (concat blocks)
 unfolding answersFrom
 written-answers [] long kept line h = stands-ended h
 written-answers (b ∷ bs) long kept line h =

@@ -17,16 +17,19 @@ use Rattle.match_lines.proofs.LineLaws.{begun-end}
 -- ---- the lines of an input
 
 -- a line that has begun, its other bytes, a newline, and more
-begun-line : (begun line rest : List ℕ) → NoNewline line → answersFrom begun (line ++ (10 ∷ rest)) ≡ word (verdict (begun ++ line)) ++ answersFrom [] rest
+begun-line : (begun line rest : List ℕ) → NoNewline line → answersFrom begun (line ++ (10 ∷ rest))
+    ≡ word (verdict (begun ++ line)) ++ answersFrom [] rest
 begun-line begun [] rest h = answers-newline begun 10 rest refl ∙ rw append-nil
 begun-line begun (b ∷ bs) rest h =
-    answers-byte begun b (bs ++ (10 ∷ rest)) (ne-eqb b 10 (h .0)) ∙ begun-line (begun ++ (b ∷ [])) bs rest (h .1) ∙ rw (append-snoc begun b bs)
+    answers-byte begun b (bs ++ (10 ∷ rest)) (ne-eqb b 10 (h .0)) ∙ begun-line (begun ++ (b ∷ [])) bs rest (h .1)
+    ∙ rw (append-snoc begun b bs)
 
 -- a line that has begun, and its other bytes at the end of the input
 begun-last : (begun line : List ℕ) → NoNewline line → answersFrom begun line ≡ lastLine (begun ++ line)
 unfolding answersFrom
 begun-last begun [] h = rw append-nil
-begun-last begun (b ∷ bs) h = answers-byte begun b bs (ne-eqb b 10 (h .0)) ∙ begun-last (begun ++ (b ∷ [])) bs (h .1) ∙ rw (append-snoc begun b bs)
+begun-last begun (b ∷ bs) h = answers-byte begun b bs (ne-eqb b 10 (h .0)) ∙ begun-last (begun ++ (b ∷ [])) bs (h .1)
+    ∙ rw (append-snoc begun b bs)
 
 -- one answer for each line
 pub each-answered : EachLine

@@ -18,7 +18,8 @@ use Rattle.match_lines.specs.declared.Progress.the-variants.{Done, NoRoo
 use Rattle.octets.specs.Scan.{bytesBefore}
 use Rattle.octets.specs.Write.{over}
 use Rattle.match_lines.specs.Lines.{longestLine, word, verdictOf, beforeSpace, verdictAt, verdict, lastLine}
-use Rattle.match_lines.specs.Block.{Fed, verdictIf, keptOf, after, fedFrom, fed, ended, lineLength, endOf, progressOf, outputOf, bufferOf, endProgress, endOutput}
+use Rattle.match_lines.specs.Block.{Fed, verdictIf, keptOf, after, fedFrom, fed, ended, lineLength, endOf, progressOf, outputOf}
+use Rattle.match_lines.specs.Block.{bufferOf, endProgress, endOutput}
 use Rattle.octets.proofs.PartLaws.{part-to-end}
 use Rattle.octets.proofs.OverLaws.{over-nil, over-append}
 use Rattle.octets.proofs.ScanLaws.{before-this, before-other, before-le}
@@ -125,7 +126,8 @@ fed-begun long begun (b ∷ bs) h = go (eqb b 10) refl (fed-begun long (begun ++
 
 -- ---- the loop of `answers`
 
--- the bytes of a block from `from` on are to be answered at the place `at`, and this leads to the same as the whole block from the beginning
+-- the bytes of a block from `from` on are to be answered at the place `at`, and this leads to the same as the whole block from the
+-- beginning
 pub record Left (long : Bool) (s out₀ out : List ℕ) (from at : ℕ) (too-long : Bool) : Type 0 where
   pub answer : done 0 (fed long s) ≡ done at (fedFrom too-long [] (drop from s))
   pub output : over out₀ 0 (fed long s .out) ≡ over out at (fedFrom too-long [] (drop from s) .out)
@@ -134,7 +136,8 @@ pub record Left (long : Bool) (s out₀ out : List ℕ) (from at : ℕ) (too-lon
 pub left-all : (long : Bool) (s out : List ℕ) → Left long s out out 0 0 long
 left-all long s out = record { answer = refl; output = refl }
 
-module _ (long : Bool) (s out₀ out : List ℕ) (from at : ℕ) (too-long : Bool) (l : Left long s out₀ out from at too-long) (h : from ≤ length s)
+module _ (long : Bool) (s out₀ out : List ℕ) (from at : ℕ) (too-long : Bool) (l : Left long s out₀ out from at too-long)
+    (h : from ≤ length s)
     (stop : ℕ) (e : stop ≡ from + lineLength (drop from s)) where
   -- a line that ends in the block: its word is written, and the next line begins
   pub left-next : (stop ≡ length s → ⊥) → at + 4 ≤ length out → (v : Verdict) (next : ℕ) (d : List ℕ)
@@ -151,7 +154,8 @@ module _ (long : Bool) (s out₀ out : List ℕ) (from at : ℕ) (too-long : Boo
       let sum : at + length (word v ++ g .out) ≡ (at + length (word v)) + length (g .out) = omega (arith, length-append (word v) (g .out)) in
       rw (placed, written) (record {
         answer = l .answer ∙ ap (done at) turn ∙ ap (λ (i : ℕ). Done i (length (g .kept)) (g .long)) sum;
-        output = l .output ∙ ap (λ (x : Fed). over out at (x .out)) turn ∙ sym (over-append out at (word v) (g .out) (omega (arith, word-le v)));
+        output = l .output ∙ ap (λ (x : Fed). over out at (x .out)) turn
+            ∙ sym (over-append out at (word v) (g .out) (omega (arith, word-le v)));
       })
 
   -- a line that does not: the block is answered
@@ -201,7 +205,8 @@ refused-told long s room e = go (ltb (room / 4) (length s)) e
     go true f = refl
     go false f = absurd (let z : _≡_ {A = ℕ} 0 1 = cc in omega arith)
 
-module _ (long : Bool) (d : List ℕ) (n size : ℕ) (out : List ℕ) (h : size ≤ length d) (same : take size d ≡ take n d) (p : Progress) (o : List ℕ)
+module _ (long : Bool) (d : List ℕ) (n size : ℕ) (out : List ℕ) (h : size ≤ length d) (same : take size d ≡ take n d) (p : Progress)
+    (o : List ℕ)
     (answered : p ≡ progressOf long (take size d) (length out)) (written : o ≡ outputOf long (take size d) out) where
   -- a block that was answered: the bytes that are kept are its last
   step-kept : (w k : ℕ) (t : Bool) → p ≡ Done w k t → (k ≤ size) × (take k (drop (size - k) d) ≡ fed long (take size d) .kept)

@@ -36,7 +36,8 @@ unfolding moved
 moved-none d from = paste-zero d 0 (drop from d)
 
 -- a turn: the byte that it reads is still the old one
-pub moved-more : (d : List ℕ) (from i : ℕ) → from + i < length d → set (moved d from i) i (getD (moved d from i) (from + i) 0) ≡ moved d from (i + 1)
+pub moved-more : (d : List ℕ) (from i : ℕ) → from + i < length d
+    → set (moved d from i) i (getD (moved d from i) (from + i) 0) ≡ moved d from (i + 1)
 unfolding moved
 moved-more d from i h =
     let rest : List ℕ = drop from d in

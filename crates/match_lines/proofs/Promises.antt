@@ -8,7 +8,9 @@ use Rattle.octets.specs.Scan.{bytesBefore}
 use Rattle.resource.specs.Level.{isNameChar, allNameChars, levels, levelsOk}
 use Rattle.resource.specs.Text.{isResource, isPattern, resourceOk, patternOk, levelsOf, pathOf, patternOf, matching}
 use Rattle.match_lines.specs.Lines.{word, verdictAt, verdict, answersFrom}
-use Rattle.match_lines.specs.Promises.{YesExactly, NoExactly, BadElse, LongBad, EachLine, LastLine, EmptyInput, WholeCase, BlocksAgree, KeptLast, OutFits, BlockWritten, BlockKept, BlockRefused, EndWritten, EndRefused}
+use Rattle.match_lines.specs.Promises.{YesExactly, NoExactly, BadElse, LongBad, EachLine, LastLine, EmptyInput, WholeCase}
+use Rattle.match_lines.specs.Promises.{BlocksAgree, KeptLast, OutFits, BlockWritten, BlockKept, BlockRefused, EndWritten}
+use Rattle.match_lines.specs.Promises.{EndRefused}
 use Rattle.match_lines.proofs.BlockLaws.{blocks-answers, bad-long, kept-end, out-four}
 use Rattle.match_lines.proofs.VerdictLaws as verdicts
 use Rattle.match_lines.proofs.InputLaws as inputs

@@ -1,5 +1,5 @@
--- Laws of the word for a line: yes or no where the line has a pattern, a space and a path, and bad for any other line. They stand on what matching promises
--- alone. Assumes nothing.
+-- Laws of the word for a line: yes or no where the line has a pattern, a space and a path, and bad for any other line. They stand on
+-- what matching promises alone. Assumes nothing.
 use mathlib.Core.Path.{_≡_, refl, sym, ap, _∙_, subst, ap₂}
 use mathlib.Core.Logic.{_↔_, _⊎_, inl, inr, ⊎-elim}
 use mathlib.Core.Bool.{Bool, true, false, not, cond, _&&_}
@@ -16,7 +16,8 @@ use Rattle.resource.specs.Characters.{codes}
 use Rattle.resource.specs.Identifier.{isHex, Slot, fits, hasForm, uuidForm, terminalForm, isTerminal}
 use Rattle.octets.specs.Scan.{bytesBefore}
 use Rattle.resource.specs.Level.{isNameChar, allNameChars, isName, joined}
-use Rattle.resource.specs.Pattern.{Path, pathText, Levels, done, deep, name, star, Pattern, IsPattern, patternText, admits, NamesIn, spelled}
+use Rattle.resource.specs.Pattern.{Path, pathText, Levels, done, deep, name, star, Pattern, IsPattern, patternText, admits, NamesIn}
+use Rattle.resource.specs.Pattern.{spelled}
 use Rattle.resource.specs.Text.{isPattern, isResource, patternOk, resourceOk, numbersOf, matching}
 use Rattle.octets.proofs.Tests.{by-cond, and-left, and-right, and-both, no-flag}
 use Rattle.resource.proofs.Promises.{patterns-exact, resources-exact, matching-exact, malformed15}
@@ -84,7 +85,8 @@ append-free : (l r : List ℕ) → noSpace l ≡ true → noSpace r ≡ true →
 unfolding noSpace
 append-free [] r e f = f
 append-free (b ∷ bs) r e f =
-    and-both (not (eqb b 32)) (noSpace (bs ++ r)) (and-left (not (eqb b 32)) (noSpace bs) e) (append-free bs r (and-right (not (eqb b 32)) (noSpace bs) e) f)
+    and-both (not (eqb b 32)) (noSpace (bs ++ r)) (and-left (not (eqb b 32)) (noSpace bs) e)
+    (append-free bs r (and-right (not (eqb b 32)) (noSpace bs) e) f)
 
 -- joined levels without a space have none
 joined-free : (l : List ℕ) (ls : List (List ℕ)) → AllFree (l ∷ ls) → noSpace (joined (l ∷ ls)) ≡ true
@@ -102,7 +104,8 @@ spelled-free (star p) n = (refl, spelled-free p n)
 
 -- the text of a pattern has no space
 pattern-free : (p : Pattern) → IsPattern p → noSpace (patternText p) ≡ true
-pattern-free p h = joined-free (p .terminal) (spelled (p .below)) (terminal-free (p .terminal) (h .terminal), spelled-free (p .below) (h .names))
+pattern-free p h = joined-free (p .terminal) (spelled (p .below))
+    (terminal-free (p .terminal) (h .terminal), spelled-free (p .below) (h .names))
 
 -- ---- the first space of a line
 
@@ -114,7 +117,8 @@ first-space (b ∷ bs) r e =
     rw (not-true (eqb b 32) (and-left (not (eqb b 32)) (noSpace bs) e), bytesBefore, first-space bs r (and-right (not (eqb b 32)) (noSpace bs) e))
 
 -- a line with a space is what stands before it, the space, and what stands after it
-parts-at : (line : List ℕ) → beforeSpace line < length line → line ≡ take (beforeSpace line) line ++ (32 ∷ drop (suc (beforeSpace line)) line)
+parts-at : (line : List ℕ) → beforeSpace line < length line → line
+    ≡ take (beforeSpace line) line ++ (32 ∷ drop (suc (beforeSpace line)) line)
 unfolding bytesBefore
 parts-at [] h = absurd (omega arith)
 parts-at (b ∷ bs) h = go (eqb b 32) refl (parts-at bs)
@@ -236,7 +240,8 @@ first [] = 0
 first (b ∷ bs) = b
 
 -- the word of a line that asks
-asks-word : (line : List ℕ) (p : Pattern) (x : Path) → Asks line p x → word (verdict line) ≡ cond (admits p x) (codes "yes\n") (codes "no\n")
+asks-word : (line : List ℕ) (p : Pattern) (x : Path) → Asks line p x
+    → word (verdict line) ≡ cond (admits p x) (codes "yes\n") (codes "no\n")
 asks-word line p x a = ap word (asks-verdict line p x a) ∙ go (admits p x)
   where
     go : (b : Bool) → word (verdictFor b) ≡ cond b (codes "yes\n") (codes "no\n")

@@ -1,5 +1,6 @@
--- The input as it comes, in blocks of any length. A reader of the promises does not need this page: they say what is written for the blocks of an input.
--- Between two blocks the bytes of a line that has begun are kept, or, once it has more than 600, only that it is too long.
+-- The input as it comes, in blocks of any length. A reader of the promises does not need this page: they say what is written for the
+-- blocks of an input. Between two blocks the bytes of a line that has begun are kept, or, once it has more than 600, only that it is
+-- too long.
 use mathlib.Core.Bool.{Bool, true, false, cond, _||_}
 use mathlib.Core.List.{List, [], _∷_, _++_}
 use Prim.Native.Nat.{ℕ, _-_, _/_}
@@ -26,7 +27,8 @@ verdictIf false line = verdict line
 
 -- the end of a block: a line that has begun is kept, or dropped once it is too long
 unfoldable pub keptOf : Bool → List ℕ → Fed
-keptOf long begun = cond (long || ltb longestLine (length begun)) (record { out = []; kept = []; long = true }) (record { out = []; kept = begun; long = false })
+keptOf long begun = cond (long || ltb longestLine (length begun)) (record { out = []; kept = []; long = true })
+    (record { out = []; kept = begun; long = false })
 
 -- more is written before
 abbrev pub after : List ℕ → Fed → Fed
@@ -35,7 +37,10 @@ after w f = record { out = w ++ f .out; kept = f .kept; long = f .long }
 -- a block whose first line has begun with the bytes `begun`
 unfoldable pub fedFrom : Bool → List ℕ → List ℕ → Fed
 fedFrom long begun [] = keptOf long begun
-fedFrom long begun (b ∷ bs) = elim (eqb b 10) [ true ↦ after (word (verdictIf long begun)) (fedFrom false [] bs) | false ↦ fedFrom long (begun ++ (b ∷ [])) bs ]
+fedFrom long begun (b ∷ bs) = elim (eqb b 10) [
+  | true ↦ after (word (verdictIf long begun)) (fedFrom false [] bs)
+  | false ↦ fedFrom long (begun ++ (b ∷ [])) bs
+]
 
 -- a block: the bytes that were kept, and those that came
 abbrev pub fed : Bool → List ℕ → Fed

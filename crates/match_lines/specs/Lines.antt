@@ -1,5 +1,6 @@
--- What the matching tool answers. A reader of the promises does not need this page: they say for which lines each word is written. As document 01 has it
--- ("Matching tool"), a line is `pattern resource` with one space, at most 600 bytes; yes, no or bad is written for each.
+-- What the matching tool answers. A reader of the promises does not need this page: they say for which lines each word is written. As
+-- document 01 has it ("Matching tool"), a line is `pattern resource` with one space, at most 600 bytes; yes, no or bad is written for
+-- each.
 use mathlib.Core.Bool.{true, false, cond}
 use mathlib.Core.List.{List, [], _∷_, _++_}
 use Prim.Native.Nat.{ℕ, suc}
@@ -48,7 +49,10 @@ lastLine (b ∷ bs) = word (verdict (b ∷ bs))
 -- what is written for an input whose first line has begun with the bytes `begun`
 unfoldable pub answersFrom : List ℕ → List ℕ → List ℕ
 answersFrom begun [] = lastLine begun
-answersFrom begun (b ∷ bs) = elim (eqb b 10) [ true ↦ word (verdict begun) ++ answersFrom [] bs | false ↦ answersFrom (begun ++ (b ∷ [])) bs ]
+answersFrom begun (b ∷ bs) = elim (eqb b 10) [
+  | true ↦ word (verdict begun) ++ answersFrom [] bs
+  | false ↦ answersFrom (begun ++ (b ∷ [])) bs
+]
 
 -- what is written for an input
 abbrev pub answers : List ℕ → List ℕ

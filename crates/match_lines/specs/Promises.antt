@@ -1,4 +1,5 @@
--- What is promised of the matching tool's lines, and nothing else. Each statement `NameOfIt` is proved in proofs/Promises.antt as `name-of-it`.
+-- What is promised of the matching tool's lines, and nothing else. Each statement `NameOfIt` is proved in proofs/Promises.antt as
+-- `name-of-it`.
 use mathlib.Core.Path.{_≡_}
 use mathlib.Core.Logic.{_↔_}
 use mathlib.Core.List.{List, [], _∷_, _++_}
@@ -83,7 +84,8 @@ BlocksAgree = (blocks : List (List ℕ)) → writtenFrom false [] blocks ≡ ans
 
 -- the bytes that are kept of a block are its last, and at most 600
 abbrev pub KeptLast : Type 0
-KeptLast = (long : Bool) (s : List ℕ) → (drop (length s - length (fed long s .kept)) s ≡ fed long s .kept) × (length (fed long s .kept) ≤ 600)
+KeptLast = (long : Bool) (s : List ℕ) → (drop (length s - length (fed long s .kept)) s ≡ fed long s .kept)
+    × (length (fed long s .kept) ≤ 600)
 
 -- a block's answers are at most four bytes for each of its bytes
 abbrev pub OutFits : Type 0
@@ -107,7 +109,8 @@ abbrev pub BlockRefused : Type 0
 BlockRefused = (long : Bool) (d : List ℕ) (n : ℕ) (out : List ℕ) → length out < 4 * length (take n d)
     → (progressOf long (take n d) (length out) ≡ NoRoom) × (outputOf long (take n d) out ≡ out) × (bufferOf long d n (length out) ≡ d)
 
--- at the end of the input, where the output has four bytes, the answer to a last line without newline is at its start, and the rest of it is as it was
+-- at the end of the input, where the output has four bytes, the answer to a last line without newline is at its start, and the rest of
+-- it is as it was
 abbrev pub EndWritten : Type 0
 EndWritten = (long : Bool) (s out : List ℕ) → 4 ≤ length out
     → (endProgress long s (length out) ≡ Done (length (ended long s)) 0 false)

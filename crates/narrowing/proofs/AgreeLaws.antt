@@ -1,4 +1,5 @@
--- The search through the bytes of two descriptors (specs/Scan.antt) agrees with the search through their rules (specs/Escape.antt). Assumes nothing.
+-- The search through the bytes of two descriptors (specs/Scan.antt) agrees with the search through their rules (specs/Escape.antt).
+-- Assumes nothing.
 use mathlib.Core.Path.{_≡_, refl, sym, ap, ap₂, _∙_}
 use mathlib.Core.Bool.{Bool, true, false, not, cond}
 use mathlib.Core.List.{List}
@@ -21,7 +22,8 @@ use Rattle.descriptor_laws.specs.Laws.{SeenAs, InTurn, no-more, one-more}
 use Rattle.narrowing.specs.declared.Narrowing.the-variants.{NotCovered}
 use Rattle.narrowing.specs.declared.search.Found.{Found}
 use Rattle.narrowing.specs.declared.search.Found.the-variants.{At, Nothing}
-use Rattle.narrowing.specs.Escape.{Rule, covered, canTake, escapesWith, deepest, choose, least, isSome, orZero, fewestNames, lowestMode, ruleAt, firstRule}
+use Rattle.narrowing.specs.Escape.{Rule, covered, canTake, escapesWith, deepest, choose, least, isSome, orZero, fewestNames}
+use Rattle.narrowing.specs.Escape.{lowestMode, ruleAt, firstRule}
 use Rattle.narrowing.specs.Range.{most}
 use Rattle.narrowing.specs.Scan.{below, notedAt, lacksAt, foundAt, lowestFrom, lowestIn, zeros, escapeIn, orNext, firstIn}
 use Rattle.narrowing.specs.Narrow.{rulesIn, answerAt}
@@ -35,7 +37,8 @@ use Rattle.narrowing.proofs.NotedLaws.{patternWith, pattern-seen, turn-
 -- ---- searches
 
 -- where nothing changes from c on, a search that has c finds the same as a longer one
-least-longer : (f : ℕ → Bool) (c : ℕ) → ((j : ℕ) → c ≤ j → f j ≡ f c) → (a n e : ℕ) → c ≤ a + n → least f a (suc n) ≡ least f a (suc (n + e))
+least-longer : (f : ℕ → Bool) (c : ℕ) → ((j : ℕ) → c ≤ j → f j ≡ f c) → (a n e : ℕ) → c ≤ a + n
+    → least f a (suc n) ≡ least f a (suc (n + e))
 least-longer f c s a zero e h = go (f a) refl
   where
     go : (b : Bool) → f a ≡ b → choose b (some a) none ≡ choose b (some a) (least f (suc a) (0 + e))
@@ -75,7 +78,8 @@ abbrev Told : List Rule → Pattern → List ℕ → Type 0
 Told qs p d = (m k : ℕ) → canTake (p .below) k ≡ true → k < most → hasMode (getD d k 0) m ≡ covered qs m p k
 
 -- the fewest names of a pattern with "**" are found from 1 on
-fewest-deep : (qs : List Rule) (g : Rule) (d : List ℕ) (m : ℕ) → Told qs (g .pattern) d → deepest qs ≤ 105 → endsDeep (g .pattern .below) ≡ true
+fewest-deep : (qs : List Rule) (g : Rule) (d : List ℕ) (m : ℕ) → Told qs (g .pattern) d → deepest qs ≤ 105
+    → endsDeep (g .pattern .below) ≡ true
     → hasMode (g .mask) m ≡ true → fewestNames qs g m ≡ least (lacksAt d m) 1 (most - 1)
 unfolding fewestNames
 fewest-deep qs g d m t few e o =
@@ -149,7 +153,8 @@ told s t u p {gs = gs} st true e m k c h =
 told s t u p st false e m k c h = zeros-lack m k ∙ sym (other-covered s t u p st e m k)
 
 -- masks that tell give the lowest mode with its fewest names
-masks-found : (qs : List Rule) (g : Rule) (d : List ℕ) → Told qs (g .pattern) d → deepest qs ≤ 105 → (b : Bool) → endsDeep (g .pattern .below) ≡ b
+masks-found : (qs : List Rule) (g : Rule) (d : List ℕ) → Told qs (g .pattern) d → deepest qs ≤ 105 → (b : Bool)
+    → endsDeep (g .pattern .below) ≡ b
     → cond b (lowestFrom d (g .mask) 1 most 0 4) (lowestFrom d (g .mask) 0 1 0 4) ≡ foundOf qs g (lowestMode qs g)
 unfolding lowestMode
 masks-found qs g d t few true e = lowest-found qs g d 1 most 0 4 (λ m o. fewest-deep qs g d m t few e o)
@@ -160,7 +165,8 @@ escape-found : (s t u p : List ℕ) (mask : ℕ) {n at : ℕ} {gs : List Grant} 
     → escapeIn s at n (same t u) p mask ≡ foundOf (rulesOf gs) (ruleWith mask u p) (lowestMode (rulesOf gs) (ruleWith mask u p))
 unfolding escapeIn lowestIn
 escape-found s t u p mask {n = n} {at = at} {gs = gs} st =
-    masks-found (rulesOf gs) (ruleWith mask u p) (cond (same t u) (notedAt s p zeros n at) zeros) (told s t u p st (same t u) refl) (turn-few s t st)
+    masks-found (rulesOf gs) (ruleWith mask u p) (cond (same t u) (notedAt s p zeros n at) zeros) (told s t u p st (same t u) refl)
+    (turn-few s t st)
     (endsDeep (levelsOf (levels p))) refl
 
 -- ---- the rules of the child
@@ -188,7 +194,8 @@ rule-seen : {s u : List ℕ} {g : Grant} {v : GrantSeen} → SeenAs s u g v → 
 rule-seen f = ap₂ (λ (m : ℕ) (p : Pattern). record { mask = m; pattern = p }) (f .mask) (sym (pattern-seen f))
 
 -- the search through the child's bytes from the i-th grant on answers what the search through its rules from the i-th on does
-first-from : (s t : List ℕ) {count at : ℕ} {ps : List Grant} → InTurn s t count at ps → (c u : List ℕ) (cs : List Rule) {n from : ℕ} {gs : List Grant}
+first-from : (s t : List ℕ) {count at : ℕ} {ps : List Grant} → InTurn s t count at ps
+    → (c u : List ℕ) (cs : List Rule) {n from : ℕ} {gs : List Grant}
     → InTurn c u n from gs → (i : ℕ) → ((j : ℕ) → ruleAt cs (i + j) ≡ ruleAt (rulesOf gs) j)
     → firstIn s at count (same t u) c i n from ≡ answerAt (rulesOf ps) cs (least (λ j. isSome (lowestMode (rulesOf ps) (ruleAt cs j))) i n)
 unfolding firstIn
@@ -204,7 +211,8 @@ first-from s t {count = count} {at = at} {ps = ps} st c u cs (one-more n from ne
     ∙ answer-step qs cs i (least (λ j. isSome (lowestMode qs (ruleAt cs j))) (suc i) n)
 
 -- the search through the bytes of the child's grants answers the first rule by which a path escapes, its lowest mode and its fewest names
-first-found : (s t : List ℕ) {count at : ℕ} {ps : List Grant} → InTurn s t count at ps → (c u : List ℕ) {n from : ℕ} {gs : List Grant} → InTurn c u n from gs
+first-found : (s t : List ℕ) {count at : ℕ} {ps : List Grant} → InTurn s t count at ps → (c u : List ℕ) {n from : ℕ} {gs : List Grant}
+    → InTurn c u n from gs
     → firstIn s at count (same t u) c 0 n from ≡ answerAt (rulesOf ps) (rulesOf gs) (firstRule (rulesOf ps) (rulesOf gs))
 unfolding firstRule
 first-found s t {ps = ps} st c u {gs = gs} r =
@@ -218,7 +226,8 @@ first-found s t {ps = ps} st c u {gs = gs} r =
 -- the search through the bytes of two descriptors that were read answers what the search through their rules does
 pub scan-agrees : (s t : List ℕ) (v w : Seen) → AreBytes s → AreBytes t → readOf s ≡ read v → readOf t ≡ read w
     → firstIn s (v .payload .opening .grants .start) (v .payload .opening .grants .count)
-    (cbor.same (part s (v .payload .closing .terminal) 45) (part t (w .payload .closing .terminal) 45)) t 0 (w .payload .opening .grants .count)
+    (cbor.same (part s (v .payload .closing .terminal) 45) (part t (w .payload .closing .terminal) 45)) t 0
+    (w .payload .opening .grants .count)
     (w .payload .opening .grants .start)
     ≡ answerAt (rulesIn s v) (rulesIn t w) (firstRule (rulesIn s v) (rulesIn t w))
 scan-agrees s t v w bs bt e f =

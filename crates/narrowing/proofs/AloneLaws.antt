@@ -20,7 +20,8 @@ use Rattle.narrowing.specs.declared.range.Range.{Range}
 use Rattle.narrowing.specs.declared.search.Found.the-variants.{Nothing}
 use Rattle.narrowing.specs.Escape.{least}
 use Rattle.narrowing.specs.Range.{inRange, most, textRange}
-use Rattle.narrowing.specs.Scan.{rowStart, rowEnd, rowMask, rowLevels, notedRows, lacksAt, lowestFrom, lowestIn, zeros, EscapeOf, fullRange, rowCovers}
+use Rattle.narrowing.specs.Scan.{rowStart, rowEnd, rowMask, rowLevels, notedRows, lacksAt, lowestFrom, lowestIn, zeros, EscapeOf}
+use Rattle.narrowing.specs.Scan.{fullRange, rowCovers}
 use Rattle.narrowing.proofs.LeastLaws.{least-fails}
 use Rattle.narrowing.proofs.RangeLaws.{marked-at, or-mode}
 use Rattle.narrowing.proofs.TableLaws.{rows-length, escape-nothing}
@@ -98,14 +99,17 @@ module _ (s t p d : List ℕ) (m k : ℕ) (l : k < length d) where
   -- it keeps its modes
   row-keeps : (n : ℕ) → hasMode (getD (notedRows s t p d n) k 0) m ≡ true → hasMode (getD (notedRows s t p d (suc n)) k 0) m ≡ true
   row-keeps n h =
-      ap (λ (y : ℕ). hasMode y m) (row-at n) ∙ kept (inRange (textRange (rowLevels s t n) p) k) (getD (notedRows s t p d n) k 0) (rowMask t n) m h
+      ap (λ (y : ℕ). hasMode y m) (row-at n) ∙ kept (inRange (textRange (rowLevels s t n) p) k) (getD (notedRows s t p d n) k 0)
+      (rowMask t n) m h
 
   -- after n rows it has the modes that it had after i of them
-  pub rows-keep : (i : ℕ) → hasMode (getD (notedRows s t p d i) k 0) m ≡ true → (n : ℕ) → i ≤ n → hasMode (getD (notedRows s t p d n) k 0) m ≡ true
+  pub rows-keep : (i : ℕ) → hasMode (getD (notedRows s t p d i) k 0) m ≡ true → (n : ℕ) → i ≤ n
+      → hasMode (getD (notedRows s t p d n) k 0) m ≡ true
   rows-keep i h zero g = let this : i ≡ 0 = omega arith in subst (λ (j : ℕ). hasMode (getD (notedRows s t p d j) k 0) m ≡ true) this h
   rows-keep i h (suc n) g = go (decLt i (suc n)) (λ e. row-keeps n (rows-keep i h n e))
     where
-      go : Dec (i < suc n) → (i ≤ n → hasMode (getD (notedRows s t p d (suc n)) k 0) m ≡ true) → hasMode (getD (notedRows s t p d (suc n)) k 0) m ≡ true
+      go : Dec (i < suc n) → (i ≤ n → hasMode (getD (notedRows s t p d (suc n)) k 0) m ≡ true)
+          → hasMode (getD (notedRows s t p d (suc n)) k 0) m ≡ true
       go (yes e) f = f (omega arith)
       go (no e) f = let this : i ≡ suc n = omega arith in subst (λ (j : ℕ). hasMode (getD (notedRows s t p d j) k 0) m ≡ true) this h
 
@@ -115,7 +119,8 @@ module _ (s t p d : List ℕ) (m k : ℕ) (l : k < length d) where
   rows-have i h r n g =
       let x : ℕ = getD (notedRows s t p d i) k 0 in
       let here : hasMode (getD (notedRows s t p d (suc i)) k 0) m ≡ true =
-      ap (λ (y : ℕ). hasMode y m) (row-at i) ∙ ap (λ (b : Bool). hasMode (cond b (bitOr x (rowMask t i)) x) m) r ∙ joined x (rowMask t i) m h in
+      ap (λ (y : ℕ). hasMode y m) (row-at i) ∙ ap (λ (b : Bool). hasMode (cond b (bitOr x (rowMask t i)) x) m) r
+      ∙ joined x (rowMask t i) m h in
       rows-keep (suc i) here n g
 
 -- ---- a row that covers alone
@@ -150,7 +155,8 @@ module _ (s t p : List ℕ) (i n mask : ℕ) (l : i < n) (e : bitOr (rowMask t i
       (between (textRange (rowLevels s t i) p) a b k f v w) n l
 
   -- nothing is lacking
-  full-nothing : (deep : Bool) → fullRange (textRange (rowLevels s t i) p) deep ≡ true → Nothing ≡ lowestIn deep (notedRows s t p zeros n) mask
+  full-nothing : (deep : Bool) → fullRange (textRange (rowLevels s t i) p) deep ≡ true
+      → Nothing ≡ lowestIn deep (notedRows s t p zeros n) mask
   full-nothing deep f =
       sym (lowest-in deep (notedRows s t p zeros n) mask
       ∙ lowest-nothing (notedRows s t p zeros n) mask (low deep) (high deep) (low-high deep)
@@ -162,7 +168,8 @@ pub covers-nothing : (s t p : List ℕ) (i n mask : ℕ) (own deep : Bool) → o
 unfolding rowCovers
 covers-nothing s t p i n mask own deep o e l c = go (eqb (bitOr (rowMask t i) mask) (rowMask t i)) refl c
   where
-    go : (b : Bool) → eqb (bitOr (rowMask t i) mask) (rowMask t i) ≡ b → cond b (fullRange (textRange (rowLevels s t i) p) deep) false ≡ true
+    go : (b : Bool) → eqb (bitOr (rowMask t i) mask) (rowMask t i) ≡ b
+        → cond b (fullRange (textRange (rowLevels s t i) p) deep) false ≡ true
         → EscapeOf s t n own p mask Nothing
     go true q r = escape-nothing s t n own p mask deep o e (full-nothing s t p i n mask l (eqb-true (bitOr (rowMask t i) mask) (rowMask t i) q) deep r)
     go false q r = no-flag r

@@ -1,4 +1,5 @@
--- Laws of covering level by level: what the step of two first levels says of the range of numbers of names (specs/Range.antt). Assumes nothing.
+-- Laws of covering level by level: what the step of two first levels says of the range of numbers of names (specs/Range.antt). Assumes
+-- nothing.
 use mathlib.Core.Path.{_≡_, refl, sym, ap, _∙_}
 use mathlib.Core.Bool.{Bool, true, false, cond, _&&_, _||_, and-false}
 use mathlib.Core.List.{List, [], _∷_}
@@ -146,7 +147,8 @@ first-cover q p ls ks t f d c =
     (level-cover (f .first-p) (f .first-r) (levelsOf ls) (levelsOf ks) ∙ ap (λ (b : Bool). cond b (coverRange (levelsOf ls) (levelsOf ks)) (range 0 0)) (f .fit))
 
 -- where the first do not fit, or levels follow only one of them
-other-cover : (t : Bool) (ls ks : List (List ℕ)) → (t && alike ls ks) ≡ false → cond t (coverRange (levelsOf ls) (levelsOf ks)) (range 0 0) ≡ range 0 0
+other-cover : (t : Bool) (ls ks : List (List ℕ)) → (t && alike ls ks) ≡ false
+    → cond t (coverRange (levelsOf ls) (levelsOf ks)) (range 0 0) ≡ range 0 0
 unfolding levelsOf
 other-cover false ls ks e = refl
 other-cover true [] [] e = no-flag (sym e)
@@ -190,7 +192,8 @@ unfolding textRange levels levelsOf same
 deep-told q p e = let s = first-star p in rw (same-equal q (42 ∷ 42 ∷ []) e, s .2) (some-cover (s .0) (s .1))
 
 -- "**" is covered by what matches fresh names
-level-fresh : (t : Bool) (l : List ℕ) (q : Levels) → coverRange (withLevel t l q) (levelsOf (levels (42 ∷ 42 ∷ []))) ≡ freshRange 0 (withLevel t l q)
+level-fresh : (t : Bool) (l : List ℕ) (q : Levels) → coverRange (withLevel t l q) (levelsOf (levels (42 ∷ 42 ∷ [])))
+    ≡ freshRange 0 (withLevel t l q)
 unfolding levels levelsOf same
 level-fresh true l q = refl
 level-fresh false l q = refl

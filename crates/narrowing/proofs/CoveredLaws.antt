@@ -109,7 +109,8 @@ fresh-all [] n h = tt
 fresh-all (q ∷ qs) n h = (zs-fresh (q .pattern .below) n (omega arith) .1, fresh-all qs n (omega arith))
 
 -- the rules admit the path with such a name exactly when they cover p
-decides-with : (z : List ℕ) (qs : List Rule) (m : ℕ) (p : Pattern) (k : ℕ) → FreshAll z qs → rulesAdmit qs m (pathWith z p k) ≡ covered qs m p k
+decides-with : (z : List ℕ) (qs : List Rule) (m : ℕ) (p : Pattern) (k : ℕ) → FreshAll z qs
+    → rulesAdmit qs m (pathWith z p k) ≡ covered qs m p k
 decides-with z [] m p k f = refl
 decides-with z (q ∷ qs) m p k f = rw (witness-decides z (q .pattern .below) (p .below) k (f .0), decides-with z qs m p k (f .1))
 

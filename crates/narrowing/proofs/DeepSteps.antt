@@ -114,7 +114,8 @@ ends-byte a = go (eqb a 47) refl
   where
     go : (t : Bool) → eqb a 47 ≡ t → ends (levels (a ∷ [])) ≡ false
     go true e = ends-slash a [] e ∙ ends-none
-    go false e = ⊎-elim (λ (x : Alone a []). x .0 ∙ one (eqb a 42)) (λ (f : ends (levels (a ∷ [])) ≡ ends (levels [])). f ∙ ends-none) (ends-other a [] e)
+    go false e = ⊎-elim (λ (x : Alone a []). x .0 ∙ one (eqb a 42)) (λ (f : ends (levels (a ∷ [])) ≡ ends (levels [])). f ∙ ends-none)
+        (ends-other a [] e)
       where
         one : (t : Bool) → (t && false) ≡ false
         one true = refl
@@ -134,7 +135,8 @@ ends-two b c = go (isDeep (b ∷ c ∷ [])) refl
       where
         by : (t : Bool) → eqb b 47 ≡ t → ends (levels (b ∷ c ∷ [])) ≡ false
         by true f = ends-slash b (c ∷ []) f ∙ ends-byte c
-        by false f = ⊎-elim (λ (x : Alone b (c ∷ [])). x .0 ∙ e) (λ (g : ends (levels (b ∷ c ∷ [])) ≡ ends (levels (c ∷ []))). g ∙ ends-byte c) (ends-other b (c ∷ []) f)
+        by false f = ⊎-elim (λ (x : Alone b (c ∷ [])). x .0 ∙ e)
+            (λ (g : ends (levels (b ∷ c ∷ [])) ≡ ends (levels (c ∷ []))). g ∙ ends-byte c) (ends-other b (c ∷ []) f)
 
 -- three bytes of which the first is not "/" don't end in "**"
 three-other : (a b c : ℕ) → eqb a 47 ≡ false → ends (levels (a ∷ b ∷ c ∷ [])) ≡ false

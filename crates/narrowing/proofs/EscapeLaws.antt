@@ -38,14 +38,16 @@ no-escape p c a b i h n r x j e =
     (to-rule (p .payload .grants) (grantOf c i) n x (grants-ok p a) o l e)
 
 -- the first escape by the rules has its place among the grants
-first-place : (p c : Descriptor) (i m k : ℕ) → First (rulesOf (p .payload .grants)) (rulesOf (c .payload .grants)) i m k → i < length (c .payload .grants)
+first-place : (p c : Descriptor) (i m k : ℕ) → First (rulesOf (p .payload .grants)) (rulesOf (c .payload .grants)) i m k
+    → i < length (c .payload .grants)
 first-place p c i m k f = omega (arith, f .place, rules-length (c .payload .grants))
 
 -- and the lowest mode by the grant's own rule
 first-lowest : (p c : Descriptor) (i m k : ℕ) → First (rulesOf (p .payload .grants)) (rulesOf (c .payload .grants)) i m k
     → Lowest (rulesOf (p .payload .grants)) (ruleFor (grantOf c i)) m k
 first-lowest p c i m k f =
-    subst (λ (r : Rule). Lowest (rulesOf (p .payload .grants)) r m k) (rule-at (c .payload .grants) _ i (first-place p c i m k f)) (f .lowest)
+    subst (λ (r : Rule). Lowest (rulesOf (p .payload .grants)) r m k) (rule-at (c .payload .grants) _ i (first-place p c i m k f))
+    (f .lowest)
 
 -- the witness path of the first escape by the rules escapes by the grant
 first-attained : (p c : Descriptor) (i m k : ℕ) → Allowed p → Allowed c
@@ -54,7 +56,8 @@ first-attained p c i m k a b f =
     let w = first-lowest p c i m k f .fewest in
     record {
       path = w .path;
-      escapes = of-rule (p .payload .grants) (grantOf c i) m (witnessOf p (grantOf c i) k) (grants-ok p a) (grant-ok c i b (first-place p c i m k f)) (f .lowest .mode) (w .escapes);
+      escapes = of-rule (p .payload .grants) (grantOf c i) m (witnessOf p (grantOf c i) k) (grants-ok p a)
+          (grant-ok c i b (first-place p c i m k f)) (f .lowest .mode) (w .escapes);
       takes = w .takes;
     }
 

@@ -26,7 +26,8 @@ pub least-some : (f : ℕ → Bool) (a n k : ℕ) → least f a n ≡ some k →
 least-some f a zero k e = absurd (Option·none-ne-some k e)
 least-some f a (suc n) k e = go (f a) refl e (least-some f (suc a) n k)
   where
-    go : (t : Bool) → f a ≡ t → choose t (some a) (least f (suc a) n) ≡ some k → (least f (suc a) n ≡ some k → Least f (suc a) n k) → Least f a (suc n) k
+    go : (t : Bool) → f a ≡ t → choose t (some a) (least f (suc a) n) ≡ some k → (least f (suc a) n ≡ some k → Least f (suc a) n k)
+        → Least f a (suc n) k
     go true q w r =
         let i : a ≡ k = cc in
         record { from = omega arith; below = omega arith; passes = rw (← i) q; none-before = λ j h l. absurd (omega arith) }
@@ -53,7 +54,8 @@ least-fails f a (suc n) h = rw (h a (omega arith) (omega arith)) (least-fails f 
 pub least-same : (f g : ℕ → Bool) (a n : ℕ) → ((j : ℕ) → a ≤ j → j < a + n → f j ≡ g j) → least f a n ≡ least g a n
 least-same f g a zero h = refl
 least-same f g a (suc n) h =
-    ap₂ (λ (b : Bool) (o : Option ℕ). choose b (some a) o) (h a (omega arith) (omega arith)) (least-same f g (suc a) n (λ j i l. h j (omega arith) (omega arith)))
+    ap₂ (λ (b : Bool) (o : Option ℕ). choose b (some a) o) (h a (omega arith) (omega arith))
+    (least-same f g (suc a) n (λ j i l. h j (omega arith) (omega arith)))
 
 -- a search that is some is that of its number
 pub some-of : (o : Option ℕ) → isSome o ≡ true → o ≡ some (orZero o)

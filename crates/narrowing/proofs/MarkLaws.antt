@@ -1,4 +1,5 @@
--- Laws of the loops that note the masks of a range and that read how many fresh names a pattern matches (specs/Range.antt). Assumes nothing.
+-- Laws of the loops that note the masks of a range and that read how many fresh names a pattern matches (specs/Range.antt). Assumes
+-- nothing.
 use mathlib.Core.Path.{_≡_, refl, sym, ap, _∙_}
 use mathlib.Core.Bool.{false, cond, and-false}
 use mathlib.Core.List.{List, [], _∷_}
@@ -17,7 +18,8 @@ use Rattle.narrowing.specs.Range.{range, inRange, marked}
 -- ---- masks
 
 -- where no number of the list is in the range nothing changes
-marked-none : (e : ℕ) (d : List ℕ) (r : Range) (mask : ℕ) → ((k : ℕ) → e ≤ k → k < e + length d → inRange r k ≡ false) → marked e d r mask ≡ d
+marked-none : (e : ℕ) (d : List ℕ) (r : Range) (mask : ℕ) → ((k : ℕ) → e ≤ k → k < e + length d → inRange r k ≡ false)
+    → marked e d r mask ≡ d
 unfolding marked
 marked-none e [] r mask h = refl
 marked-none e (x ∷ d) r mask h =

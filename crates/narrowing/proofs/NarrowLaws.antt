@@ -47,7 +47,8 @@ seen-as s d r = read-as s d (r .bytes) (r .allowed) (r .encoded)
 
 -- the rules read from them are those of its grants
 rules-as : (s : List ℕ) (d : Descriptor) → Reads s d → rulesIn s (descriptorView 0 d) ≡ rulesOf (d .payload .grants)
-rules-as s d r = ap (λ (u : List ℕ). rulesIn u (descriptorView 0 d)) (r .encoded) ∙ rules-in d (subst AreBytes (r .encoded) (r .bytes)) (r .allowed .formed)
+rules-as s d r = ap (λ (u : List ℕ). rulesIn u (descriptorView 0 d)) (r .encoded)
+    ∙ rules-in d (subst AreBytes (r .encoded) (r .bytes)) (r .allowed .formed)
 
 -- they have no pair
 plain-as : (s : List ℕ) (d : Descriptor) → Reads s d → unconstrained (descriptorView 0 d) ≡ true
@@ -154,7 +155,8 @@ inside-accepted p c a b i = inside-said p c b i (byGrants p c) (grants-say p c a
 -- a period that lies within another passes the test
 inside-test : (p c : Descriptor) → PeriodInside p c → within p c ≡ true
 inside-test p c i =
-    and-both _ _ (le-leb (p .payload .notBefore) (c .payload .notBefore) (i .0)) (le-leb (c .payload .notAfter) (p .payload .notAfter) (i .1))
+    and-both _ _ (le-leb (p .payload .notBefore) (c .payload .notBefore) (i .0))
+    (le-leb (c .payload .notAfter) (p .payload .notAfter) (i .1))
 
 -- and one that passes it lies within
 test-inside : (p c : Descriptor) → within p c ≡ true → PeriodInside p c
@@ -197,7 +199,8 @@ narrow-escape s t p c i m k a b =
     )
 
 -- its numbers are those of the witness path
-pub narrow-attained : (s t : List ℕ) (p c : Descriptor) (i m k : ℕ) → Reads s p → Reads t c → narrow s t ≡ NotCovered i m k → Attained p (grantOf c i) m k
+pub narrow-attained : (s t : List ℕ) (p c : Descriptor) (i m k : ℕ) → Reads s p → Reads t c → narrow s t ≡ NotCovered i m k
+    → Attained p (grantOf c i) m k
 narrow-attained s t p c i m k a b h =
     subst (Says p c) (not-period s t p c a b (λ e. omega (arith, number e)) h .1) (grants-say p c (a .allowed) (b .allowed)) .1
 

@@ -1,5 +1,5 @@
--- What the code's proofs of narrowing use: the bytes of what was read, the tests of `compared`, and the steps of the search through the child's grants. Assumes
--- nothing.
+-- What the code's proofs of narrowing use: the bytes of what was read, the tests of `compared`, and the steps of the search through the
+-- child's grants. Assumes nothing.
 use mathlib.Core.Path.{_≡_, refl, sym, ap, ap₂, _∙_, subst}
 use mathlib.Core.Bool.{Bool, true, false, not, cond, _&&_}
 use mathlib.Core.List.{List}
@@ -43,7 +43,8 @@ later-not a b = go (leb a b) refl
 
 -- the tests one by one are the tests together
 tests-agree : (a b c d : Bool) (x y : Narrowing) → x ≡ y
-    → cond (not a) Constrained (cond (not b) Constrained (cond (not c) Period (cond (not d) Period x))) ≡ cond (a && b) (cond (c && d) y Period) Constrained
+    → cond (not a) Constrained (cond (not b) Constrained (cond (not c) Period (cond (not d) Period x)))
+    ≡ cond (a && b) (cond (c && d) y Period) Constrained
 tests-agree false b c d x y e = refl
 tests-agree true false c d x y e = refl
 tests-agree true true false d x y e = refl
@@ -56,14 +57,16 @@ compared-agrees : (s t : List ℕ) (v w : Seen) → AreBytes s → AreBytes t �
 unfolding comparedIn compared
 compared-agrees s t v w bs bt e f =
     let g : Narrowing = firstIn s (v .payload .opening .grants .start) (v .payload .opening .grants .count)
-    (cbor.same (part s (v .payload .closing .terminal) 45) (part t (w .payload .closing .terminal) 45)) t 0 (w .payload .opening .grants .count)
+    (cbor.same (part s (v .payload .closing .terminal) 45) (part t (w .payload .closing .terminal) 45)) t 0
+    (w .payload .opening .grants .count)
     (w .payload .opening .grants .start) in
     ap₂ (λ (x y : Bool). cond (not (eqb (v .payload .opening .grants .sum .pairs) 0)) Constrained
     (cond (not (eqb (w .payload .opening .grants .sum .pairs) 0)) Constrained (cond x Period (cond y Period g))))
     (later-not (v .payload .middle .notBefore) (w .payload .middle .notBefore))
     (later-not (w .payload .middle .notAfter) (v .payload .middle .notAfter))
     ∙ tests-agree (eqb (v .payload .opening .grants .sum .pairs) 0) (eqb (w .payload .opening .grants .sum .pairs) 0)
-    (leb (v .payload .middle .notBefore) (w .payload .middle .notBefore)) (leb (w .payload .middle .notAfter) (v .payload .middle .notAfter)) g _
+    (leb (v .payload .middle .notBefore) (w .payload .middle .notBefore))
+    (leb (w .payload .middle .notAfter) (v .payload .middle .notAfter)) g _
     (scan-agrees s t v w bs bt e f)
 
 -- ---- what was read
@@ -112,7 +115,8 @@ grants-few s v b e = let r = fields-handed s v b e in omega (arith, r .2 .grants
 -- ---- narrowing
 
 -- both read
-pub narrow-both : (s t : List ℕ) (v w : Fields) → AreBytes s → AreBytes t → reading.Read v ≡ readingOf (readOf s) → reading.Read w ≡ readingOf (readOf t)
+pub narrow-both : (s t : List ℕ) (v w : Fields) → AreBytes s → AreBytes t → reading.Read v ≡ readingOf (readOf s)
+    → reading.Read w ≡ readingOf (readOf t)
     → comparedIn s v t w ≡ narrow s t
 unfolding narrow
 narrow-both s t v w bs bt e f =
@@ -122,7 +126,8 @@ narrow-both s t v w bs bt e f =
     ∙ sym (ap (λ (a : Answer). withParent s a t) (x .1) ∙ ap (underParent s (x .0) t) (y .1))
 
 -- the child's structure is refused
-pub narrow-structure : (s t : List ℕ) (v : Fields) → reading.Read v ≡ readingOf (readOf s) → reading.Structure ≡ readingOf (readOf t) → Structure ≡ narrow s t
+pub narrow-structure : (s t : List ℕ) (v : Fields) → reading.Read v ≡ readingOf (readOf s) → reading.Structure ≡ readingOf (readOf t)
+    → Structure ≡ narrow s t
 unfolding narrow
 narrow-structure s t v e f = let x = seen-as s v e in sym (ap (λ (a : Answer). withParent s a t) (x .1) ∙ go (readOf t) f)
   where
@@ -132,7 +137,8 @@ narrow-structure s t v e f = let x = seen-as s v e in sym (ap (λ (a : Answer). 
     go validity r = absurd (omega (arith, ap numberOf r))
 
 -- or its period is too long
-pub narrow-validity : (s t : List ℕ) (v : Fields) → reading.Read v ≡ readingOf (readOf s) → reading.Validity ≡ readingOf (readOf t) → Validity ≡ narrow s t
+pub narrow-validity : (s t : List ℕ) (v : Fields) → reading.Read v ≡ readingOf (readOf s) → reading.Validity ≡ readingOf (readOf t)
+    → Validity ≡ narrow s t
 unfolding narrow
 narrow-validity s t v e f = let x = seen-as s v e in sym (ap (λ (a : Answer). withParent s a t) (x .1) ∙ go (readOf t) f)
   where
@@ -187,21 +193,25 @@ lent-below : (s : List ℕ) (g : GrantSeen) → lent s g ≡ below s (g .pattern
 lent-below s g = lent-levels s (g .pattern .start) (g .pattern .len)
 
 -- the search from the first grant on
-pub first-begin : (s : List ℕ) (at count : ℕ) (own : Bool) (t : List ℕ) (n from : ℕ) → firstIn s at count own t 0 (n - 0) from ≡ firstIn s at count own t 0 n from
+pub first-begin : (s : List ℕ) (at count : ℕ) (own : Bool) (t : List ℕ) (n from : ℕ)
+    → firstIn s at count own t 0 (n - 0) from ≡ firstIn s at count own t 0 n from
 first-begin s at count own t n from = let e : n - 0 ≡ n = omega arith in ap (λ (k : ℕ). firstIn s at count own t 0 k from) e
 
 module _ (s : List ℕ) (at count : ℕ) (own : Bool) (t : List ℕ) (i n here : ℕ) where
   -- one grant that was read
   first-one : {g : GrantSeen} {next : ℕ} → i < n → got g next ≡ grantAt t here
-      → orNext i (escapeIn s at count own (lent t g) (g .mask)) (firstIn s at count own t (i + 1) (n - (i + 1)) next) ≡ firstIn s at count own t i (n - i) here
+      → orNext i (escapeIn s at count own (lent t g) (g .mask)) (firstIn s at count own t (i + 1) (n - (i + 1)) next)
+      ≡ firstIn s at count own t i (n - i) here
   unfolding firstIn
   first-one {g} {next} h e =
       let l : n - i ≡ suc (n - (i + 1)) = omega arith in
-      ap (λ (p : List ℕ). orNext i (escapeIn s at count own p (g .mask)) (firstIn s at count own t (i + 1) (n - (i + 1)) next)) (lent-below t g)
+      ap (λ (p : List ℕ). orNext i (escapeIn s at count own p (g .mask)) (firstIn s at count own t (i + 1) (n - (i + 1)) next))
+      (lent-below t g)
       ∙ rw (l, firstIn, ← e)
 
   -- a grant by which a path escapes
-  pub first-hit : {g : GrantSeen} {next m k : ℕ} → i < n → got g next ≡ grantAt t here → At m k ≡ escapeIn s at count own (lent t g) (g .mask)
+  pub first-hit : {g : GrantSeen} {next m k : ℕ} → i < n → got g next ≡ grantAt t here
+      → At m k ≡ escapeIn s at count own (lent t g) (g .mask)
       → NotCovered i m k ≡ firstIn s at count own t i (n - i) here
   first-hit {next = next} h e f = ap (λ (r : Found). orNext i r (firstIn s at count own t (i + 1) (n - (i + 1)) next)) f ∙ first-one h e
 

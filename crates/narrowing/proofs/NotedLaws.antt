@@ -36,7 +36,8 @@ abbrev pub patternWith : List ℕ → List ℕ → Pattern
 patternWith t p = record { terminal = t; below = levelsOf (levels p) }
 
 -- that of a grant that is seen in s has the terminal id t, and the levels that are seen
-pub pattern-seen : {s t : List ℕ} {g : Grant} {v : GrantSeen} → SeenAs s t g v → patternOf (g .pattern) ≡ patternWith t (below s (v .pattern))
+pub pattern-seen : {s t : List ℕ} {g : Grant} {v : GrantSeen} → SeenAs s t g v
+    → patternOf (g .pattern) ≡ patternWith t (below s (v .pattern))
 unfolding patternOf
 pattern-seen {g = g} f =
     ap patternIn (pattern-levels (g .pattern) (f .allowed .pattern)) ∙ ap₂ (λ (u p : List ℕ). patternWith u p) (f .own) (sym (f .below))
@@ -99,7 +100,8 @@ range-told s t p g v k f c h =
     ∙ range-covers q (levelsOf (levels p)) k c h)
 
 -- after one grant is noted, the mask at k has the modes that it had and those in which the grant's rule covers the pattern with k names
-noted-one : (s t p d : List ℕ) (g : Grant) (v : GrantSeen) (m k : ℕ) → SeenAs s t g v → length d ≡ most → canTake (levelsOf (levels p)) k ≡ true → k < most
+noted-one : (s t p d : List ℕ) (g : Grant) (v : GrantSeen) (m k : ℕ) → SeenAs s t g v → length d ≡ most
+    → canTake (levelsOf (levels p)) k ≡ true → k < most
     → hasMode (getD (marked 0 d (textRange (below s (v .pattern)) p) (v .mask)) k 0) m
     ≡ (hasMode (getD d k 0) m || (hasMode (maskOf (g .modes)) m && patternCovers (patternOf (g .pattern)) (patternWith t p) k))
 noted-one s t p d g v m k f l c h =
@@ -138,10 +140,12 @@ pub zeros-lack : (m k : ℕ) → hasMode (getD zeros k 0) m ≡ false
 zeros-lack m k = ap (λ (x : ℕ). hasMode x m) (zero-at most k) ∙ zero-lacks m
 
 -- after the grants are noted, the mask at k has exactly the modes in which their rules cover the pattern with k names
-pub noted-covered : (s t p : List ℕ) {n at : ℕ} {gs : List Grant} → InTurn s t n at gs → (m k : ℕ) → canTake (levelsOf (levels p)) k ≡ true → k < most
+pub noted-covered : (s t p : List ℕ) {n at : ℕ} {gs : List Grant} → InTurn s t n at gs → (m k : ℕ)
+    → canTake (levelsOf (levels p)) k ≡ true → k < most
     → hasMode (getD (notedAt s p zeros n at) k 0) m ≡ covered (rulesOf gs) m (patternWith t p) k
 noted-covered s t p {gs = gs} st m k c h =
-    noted-more s t p st zeros m k (length-replicate {A = ℕ} most 0) c h ∙ ap (λ (b : Bool). b || covered (rulesOf gs) m (patternWith t p) k) (zeros-lack m k)
+    noted-more s t p st zeros m k (length-replicate {A = ℕ} most 0) c h
+    ∙ ap (λ (b : Bool). b || covered (rulesOf gs) m (patternWith t p) k) (zeros-lack m k)
 
 -- rules with another terminal id cover nothing
 pub other-covered : (s t u p : List ℕ) {n at : ℕ} {gs : List Grant} → InTurn s t n at gs → same t u ≡ false → (m k : ℕ)

@@ -1,4 +1,5 @@
--- Laws of the loop that notes the rows of the table for one child grant (specs/Scan.antt), where a row that adds no mode is left out. Assumes nothing.
+-- Laws of the loop that notes the rows of the table for one child grant (specs/Scan.antt), where a row that adds no mode is left out.
+-- Assumes nothing.
 use mathlib.Core.Path.{_≡_, refl, sym, ap, ap₂, _∙_}
 use mathlib.Core.Bool.{Bool, true, false, not, cond, _&&_, _||_, or-false}
 use mathlib.Core.List.{List}
@@ -13,12 +14,14 @@ use Rattle.descriptor.specs.Reader.{hasMode}
 use Rattle.narrowing.specs.declared.range.Range.{Range}
 use Rattle.narrowing.specs.declared.search.Found.the-variants.{Nothing}
 use Rattle.narrowing.specs.Range.{inRange, most, textRange, marked}
-use Rattle.narrowing.specs.Scan.{rowStart, rowEnd, rowMask, rowLevels, notedRows, rowNoted, lacksAt, lowestFrom, lowestIn, fullRange, fullModes}
+use Rattle.narrowing.specs.Scan.{rowStart, rowEnd, rowMask, rowLevels, notedRows, rowNoted, lacksAt, lowestFrom, lowestIn}
+use Rattle.narrowing.specs.Scan.{fullRange, fullModes}
 use Rattle.narrowing.proofs.LeastLaws.{least-same}
 use Rattle.narrowing.proofs.RangeLaws.{marked-length, marked-at, or-mode, and-mode}
 use Rattle.narrowing.proofs.NotedLaws.{or-where, zero-lacks}
 use Rattle.narrowing.proofs.TableLaws.{rows-length}
-use Rattle.narrowing.proofs.AloneLaws.{low, high, lowest-in, low-high, high-most, full-all, Have, lowest-nothing, or-true, joined, rows-keep, between}
+use Rattle.narrowing.proofs.AloneLaws.{low, high, lowest-in, low-high, high-most, full-all, Have, lowest-nothing, or-true, joined}
+use Rattle.narrowing.proofs.AloneLaws.{rows-keep, between}
 
 -- ---- masks that agree
 
@@ -57,7 +60,8 @@ module _ (s t p : List ℕ) (i : ℕ) (r : Range) (e : r ≡ textRange (take (ro
   -- its modes are told as the code tests its range
   pub modes-told : (deep b c : Bool) → b ≡ fullRange r deep → b ≡ c → cond c (rowMask t i) 0 ≡ fullModes s t i p deep
   unfolding fullModes
-  modes-told deep b c f g = ap (λ (h : Bool). cond h (rowMask t i) 0) (sym g ∙ f ∙ ap (λ (q : Range). fullRange q deep) (row-range s t p i r e))
+  modes-told deep b c f g = ap (λ (h : Bool). cond h (rowMask t i) 0)
+      (sym g ∙ f ∙ ap (λ (q : Range). fullRange q deep) (row-range s t p i r e))
 
 module _ (s t p : List ℕ) where
   -- after row i is noted the mask at k has the modes that it had, and those of the row where its range has k
@@ -79,7 +83,8 @@ module _ (s t p : List ℕ) where
   row-length i x = marked-length 0 x (textRange (rowLevels s t i) p) (rowMask t i)
 
   -- a mode of a row that covers with each number is noted at each
-  full-noted : (i : ℕ) (deep : Bool) (x : List ℕ) (m k : ℕ) → k < length x → low deep ≤ k → k < high deep → hasMode (fullModes s t i p deep) m ≡ true
+  full-noted : (i : ℕ) (deep : Bool) (x : List ℕ) (m k : ℕ) → k < length x → low deep ≤ k → k < high deep
+      → hasMode (fullModes s t i p deep) m ≡ true
       → hasMode (getD (rowNoted s t i p x) k 0) m ≡ true
   unfolding fullModes
   full-noted i deep x m k l a b h = go (fullRange r deep) refl h
@@ -100,7 +105,8 @@ module _ (s t p : List ℕ) where
 pub record Noting (s t p d : List ℕ) (mask : ℕ) (deep : Bool) (x : List ℕ) (done i : ℕ) : Type 0 where
   pub whole : length d ≡ most
   pub size : length x ≡ most
-  pub agree : (m k : ℕ) → hasMode mask m ≡ true → low deep ≤ k → k < high deep → hasMode (getD x k 0) m ≡ hasMode (getD (notedRows s t p d i) k 0) m
+  pub agree : (m k : ℕ) → hasMode mask m ≡ true → low deep ≤ k → k < high deep
+      → hasMode (getD x k 0) m ≡ hasMode (getD (notedRows s t p d i) k 0) m
   pub have : (m k : ℕ) → hasMode done m ≡ true → low deep ≤ k → k < high deep → hasMode (getD x k 0) m ≡ true
 
 -- no row is noted at first
@@ -146,7 +152,8 @@ module _ (s t p d : List ℕ) (mask : ℕ) (deep : Bool) (x : List ℕ) (done i 
           go false f = sym (ap (λ (u : Bool). before || (u && q)) f ∙ or-false before)
 
   -- it was noted
-  pub noting-next : (y : List ℕ) (r : ℕ) → y ≡ rowNoted s t i p x → r ≡ fullModes s t i p deep → Noting s t p d mask deep y (bitOr done r) (i + 1)
+  pub noting-next : (y : List ℕ) (r : ℕ) → y ≡ rowNoted s t i p x → r ≡ fullModes s t i p deep
+      → Noting s t p d mask deep y (bitOr done r) (i + 1)
   noting-next y r e f = record { whole = n .whole; size = ap length e ∙ row-length s t p i x ∙ n .size; agree = agree-next; have = have-next }
     where
       agree-next : (m k : ℕ) → hasMode mask m ≡ true → low deep ≤ k → k < high deep

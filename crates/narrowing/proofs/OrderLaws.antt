@@ -136,6 +136,7 @@ order-constrained s t p c bs bt fp fc es et = (
     e : narrow s t ≡ cond (unconstrained v && unconstrained w) (after s v t w) Constrained
     e = both-as s t v w (read-as s p bs fp es) (read-as t c bt fc et)
 
-    go : (NoPairs (p .payload .grants) × NoPairs (c .payload .grants) → ⊥) → (b : Bool) → (unconstrained v && unconstrained w) ≡ b → (unconstrained v && unconstrained w) ≡ false
+    go : (NoPairs (p .payload .grants) × NoPairs (c .payload .grants) → ⊥) → (b : Bool) → (unconstrained v && unconstrained w) ≡ b
+        → (unconstrained v && unconstrained w) ≡ false
     go f true q = absurd (f (pairs-none p (fp .formed) .0 (and-left (unconstrained v) (unconstrained w) q), pairs-none c (fc .formed) .0 (and-right (unconstrained v) (unconstrained w) q)))
     go f false q = q

@@ -2,7 +2,8 @@
 use Rattle.descriptor_laws.proofs.Laws.{answers-told}
 use Rattle.narrowing.specs.declared.Narrowing.the-variants.{Accepted, NoParent, Structure, Validity, Constrained, Period, NotCovered}
 use Rattle.narrowing.specs.Narrow.{narrow}
-use Rattle.narrowing.specs.Promises.{NoParentExactly, ChildExactly, ConstrainedExactly, PeriodExactly, EscapeExactly, AcceptedExactly, one, more, ChainInside}
+use Rattle.narrowing.specs.Promises.{NoParentExactly, ChildExactly, ConstrainedExactly, PeriodExactly, EscapeExactly}
+use Rattle.narrowing.specs.Promises.{AcceptedExactly, one, more, ChainInside}
 use Rattle.narrowing.proofs.NumberLaws.{numbers-tell, by-numbers}
 use Rattle.narrowing.proofs.OrderLaws.{order-parent, order-child, order-constrained}
 use Rattle.narrowing.proofs.NarrowLaws.{narrow-period, narrow-escape, narrow-accepted, accepted-reads}

@@ -1,4 +1,5 @@
--- Laws of the range of numbers of names for which one pattern covers another, and of the masks noted for each number (specs/Range.antt). Assumes nothing.
+-- Laws of the range of numbers of names for which one pattern covers another, and of the masks noted for each number
+-- (specs/Range.antt). Assumes nothing.
 use mathlib.Core.Path.{_≡_, refl, sym, ap, _∙_}
 use mathlib.Core.Bool.{Bool, true, false, cond, _&&_, _||_, and-false}
 use mathlib.Core.List.{List, [], _∷_}
@@ -82,7 +83,8 @@ range-covers (name m q) deep (suc k) c h = sym (over-range 0 0 (suc k) (omega ar
 range-covers (star q) deep (suc k) c h = rw (zero-add (suc k)) at (range-fresh 0 (star q) (suc k) (omega arith))
 range-covers done (name n p) k c h = sym (over-range 0 0 k (omega arith))
 range-covers deep (name n p) k c h = sym (in-range 0 most k (omega arith) h)
-range-covers (name m q) (name n p) k c h = range-and (same m n) (covers q p k) (coverRange q p) k (range-covers q p k (sym (can-name n p k) ∙ c) h)
+range-covers (name m q) (name n p) k c h = range-and (same m n) (covers q p k) (coverRange q p) k
+    (range-covers q p k (sym (can-name n p k) ∙ c) h)
 range-covers (star q) (name n p) k c h = range-covers q p k (sym (can-name n p k) ∙ c) h
 range-covers done (star p) k c h = sym (over-range 0 0 k (omega arith))
 range-covers deep (star p) k c h = sym (in-range 0 most k (omega arith) h)

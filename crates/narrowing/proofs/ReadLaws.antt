@@ -1,4 +1,5 @@
--- What narrowing reads of the encoding of an allowed descriptor: the rules of its grants, and whether it has a constraint pair. Assumes nothing.
+-- What narrowing reads of the encoding of an allowed descriptor: the rules of its grants, and whether it has a constraint pair. Assumes
+-- nothing.
 use mathlib.Core.Path.{_≡_, refl, sym, ap, _∙_, subst}
 use mathlib.Core.Logic.{_↔_}
 use mathlib.Core.Bool.{true}
@@ -42,7 +43,8 @@ abbrev TurnIn : List ℕ → List ℕ → Seen → List Grant → Type 0
 TurnIn s t v gs = InTurn s t (v .payload .opening .grants .count) (v .payload .opening .grants .start) gs
 
 -- there are such grants for the terminal id that stands there
-pub read-turn : (s : List ℕ) (v : Seen) → AreBytes s → readOf s ≡ read v → (gs : List Grant) × TurnIn s (part s (v .payload .closing .terminal) 45) v gs
+pub read-turn : (s : List ℕ) (v : Seen) → AreBytes s → readOf s ≡ read v
+    → (gs : List Grant) × TurnIn s (part s (v .payload .closing .terminal) 45) v gs
 read-turn s v b e =
     let r = reads-exactly s b v .0 e in
     let d : Descriptor = r .0 in

@@ -16,9 +16,11 @@ use Rattle.resource.specs.Cover.{CanTake}
 use Rattle.resource.proofs.Laws.{taken-can}
 use Rattle.octets.proofs.Tests.{and-left, and-right, and-both}
 use Rattle.descriptor.specs.Reader.{hasMode}
-use Rattle.narrowing.specs.Escape.{Rule, covered, canTake, escapesWith, deepest, isSome, orZero, fewestNames, lowestMode, ruleAt, firstRule, witnessPath}
+use Rattle.narrowing.specs.Escape.{Rule, covered, canTake, escapesWith, deepest, isSome, orZero, fewestNames, lowestMode, ruleAt}
+use Rattle.narrowing.specs.Escape.{firstRule, witnessPath}
 use Rattle.narrowing.proofs.LeastLaws.{Least, least-some, least-none, some-of, none-of}
-use Rattle.narrowing.proofs.CoveredLaws.{contra, true-of, ruleAdmits, rulesAdmit, takenIn, can-take, covered-admits, covered-stays, witness-covered, witness-path, witness-admitted, witness-taken}
+use Rattle.narrowing.proofs.CoveredLaws.{contra, true-of, ruleAdmits, rulesAdmit, takenIn, can-take, covered-admits, covered-stays}
+use Rattle.narrowing.proofs.CoveredLaws.{witness-covered, witness-path, witness-admitted, witness-taken}
 
 -- a path escapes by a rule and a mode when that rule admits it in that mode and none of qs does
 pub record RuleEscape (qs : List Rule) (g : Rule) (m : ℕ) (x : Path) : Type 0 where
@@ -46,7 +48,8 @@ escape-with qs g m x i j h =
     let k : ℕ = takenIn p x in
     let a : admits p x ≡ true = and-right (hasMode (g .mask) m) (admits p x) (h .admitted) in
     let b : matches (p .below) (x .names) ≡ true = and-right (same (p .terminal) (x .terminal)) (matches (p .below) (x .names)) a in
-    and-both (hasMode (g .mask) m) (canTake (p .below) k && not (covered qs m p k)) (and-left (hasMode (g .mask) m) (admits p x) (h .admitted))
+    and-both (hasMode (g .mask) m) (canTake (p .below) k && not (covered qs m p k))
+    (and-left (hasMode (g .mask) m) (admits p x) (h .admitted))
     (and-both (canTake (p .below) k) (not (covered qs m p k)) (can-take (p .below) k .1 (taken-can (p .below) (x .names) b))
     (true-of (not (covered qs m p k)) (λ n. contra (rulesAdmit qs m x) (covered-admits qs m p x i j a (not-false (covered qs m p k) n)) (h .outside))))
 
@@ -126,7 +129,8 @@ pub record Lowest (qs : List Rule) (g : Rule) (m k : ℕ) : Type 0 where
   pub fewest : Fewest qs g m k
 
 -- a mode that the search finds is the lowest, with its fewest names
-lowest-some : (qs : List Rule) (g : Rule) (m : ℕ) → IsPattern (g .pattern) → lowestMode qs g ≡ some m → Lowest qs g m (orZero (fewestNames qs g m))
+lowest-some : (qs : List Rule) (g : Rule) (m : ℕ) → IsPattern (g .pattern) → lowestMode qs g ≡ some m
+    → Lowest qs g m (orZero (fewestNames qs g m))
 unfolding lowestMode
 lowest-some qs g m i e =
     let l : Least (λ n. isSome (fewestNames qs g n)) 0 4 m = least-some (λ n. isSome (fewestNames qs g n)) 0 4 m e in
@@ -164,7 +168,8 @@ first-some qs cs i a e =
     record {
       place = h;
       first = λ j b. lowest-none qs (ruleAt cs j) (a j (omega (arith, h))) (none-of (lowestMode qs (ruleAt cs j)) (l .none-before j zero-le b));
-      lowest = lowest-some qs (ruleAt cs i) (orZero (lowestMode qs (ruleAt cs i))) (a i h) (some-of (lowestMode qs (ruleAt cs i)) (l .passes));
+      lowest = lowest-some qs (ruleAt cs i) (orZero (lowestMode qs (ruleAt cs i))) (a i h)
+          (some-of (lowestMode qs (ruleAt cs i)) (l .passes));
     }
   where
     l : Least (λ j. isSome (lowestMode qs (ruleAt cs j))) 0 (length cs) i

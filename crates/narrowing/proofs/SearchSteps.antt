@@ -74,7 +74,8 @@ module _ (d : List ℕ) (mask from to m : ℕ) where
   pub lowest-hit : (k : ℕ) → m < 4 → hasMode mask m ≡ true → k ≡ orElse (least (lacksAt d m) from (to - from)) to → k < to
       → lowestFrom d mask from to m (4 - m) ≡ At m k
   unfolding lowestFrom
-  lowest-hit k h e f l = let n : 4 - m ≡ suc (4 - (m + 1)) = omega arith in rw (n, e, hit-some (least (lacksAt d m) from (to - from)) k to f l, lowestFrom)
+  lowest-hit k h e f l = let n : 4 - m ≡ suc (4 - (m + 1)) = omega arith in rw
+      (n, e, hit-some (least (lacksAt d m) from (to - from)) k to f l, lowestFrom)
 
   -- none escapes in the mode
   pub lowest-miss : (k : ℕ) → from ≤ to → m < 4 → hasMode mask m ≡ true → k ≡ orElse (least (lacksAt d m) from (to - from)) to → to ≤ k
@@ -83,7 +84,8 @@ module _ (d : List ℕ) (mask from to m : ℕ) where
   lowest-miss k b h e f l =
       let n : 4 - m ≡ suc (4 - (m + 1)) = omega arith in
       let o : least (lacksAt d m) from (to - from) ≡ none =
-      miss-none (least (lacksAt d m) from (to - from)) k to f l (λ j q. omega (arith, least-some (lacksAt d m) from (to - from) j q .below)) in
+      miss-none (least (lacksAt d m) from (to - from)) k to f l
+      (λ j q. omega (arith, least-some (lacksAt d m) from (to - from) j q .below)) in
       rw (n, e, o, lowestFrom)
 
   -- no mode is left

@@ -17,7 +17,8 @@ use Rattle.descriptor.specs.Reader.{GrantSeen, grantAt}
 use Rattle.descriptor.proofs.GrantBounds.{pattern-room}
 use Rattle.narrowing.specs.declared.search.Found.the-variants.{Nothing}
 use Rattle.narrowing.specs.Range.{textRange, marked}
-use Rattle.narrowing.specs.Scan.{notedAt, rowStart, rowEnd, rowMask, rowLevels, notedRows, InPlace, Filled, lowestFrom, lowestIn, zeros, escapeIn, EscapeOf}
+use Rattle.narrowing.specs.Scan.{notedAt, rowStart, rowEnd, rowMask, rowLevels, notedRows, InPlace, Filled, lowestFrom, lowestIn}
+use Rattle.narrowing.specs.Scan.{zeros, escapeIn, EscapeOf}
 use Rattle.narrowing.proofs.RangeLaws.{marked-length}
 use Rattle.narrowing.proofs.SearchSteps.{noted-next, noted-stop, noted-done}
 
@@ -93,7 +94,8 @@ begun-first s t count at h =
     record { places = record { room = omega arith; row = λ i l. absurd (omega arith) }; free = omega arith; noted = λ p d. refl }
 
 -- the rows that were in place and one that is are in place
-placed-next : (s t : List ℕ) (i a b m : ℕ) → InPlace s t i → 3 * i + 2 < length t → a ≤ b → b ≤ length s → InPlace s (written t i a b m) (i + 1)
+placed-next : (s t : List ℕ) (i a b m : ℕ) → InPlace s t i → 3 * i + 2 < length t → a ≤ b → b ≤ length s
+    → InPlace s (written t i a b m) (i + 1)
 placed-next s t i a b m h l f g = record { room = omega (arith, written-length t i a b m); row = λ j k. go j k (decLt j i) }
   where
     go : (j : ℕ) → j < i + 1 → Dec (j < i)
@@ -108,7 +110,8 @@ placed-next s t i a b m h l f g = record { room = omega (arith, written-length t
 
 -- after a row was written, noting it too is joining its mask
 written-noted : (s t p d : List ℕ) (i m start len : ℕ) → 3 * i + 2 < length t
-    → notedRows s (written t i (start + 46) (start + len) m) p d (i + 1) ≡ marked 0 (notedRows s t p d i) (textRange (part s (start + 46) (len - 46)) p) m
+    → notedRows s (written t i (start + 46) (start + len) m) p d (i + 1)
+    ≡ marked 0 (notedRows s t p d i) (textRange (part s (start + 46) (len - 46)) p) m
 unfolding notedRows
 written-noted s t p d i m start len l =
     let a : ℕ = start + 46 in
@@ -132,7 +135,8 @@ module _ (s t : List ℕ) (i left here count at : ℕ) (b : Begun s t i left her
       let fits : 3 * i + 2 < length t = omega (arith, b .free) in
       let size = written-length t i (g .pattern .start + 46) (g .pattern .start + g .pattern .len) (g .mask) in
       record {
-        places = placed-next s t i (g .pattern .start + 46) (g .pattern .start + g .pattern .len) (g .mask) (b .places) fits (omega (arith, room .0)) (room .1);
+        places = placed-next s t i (g .pattern .start + 46) (g .pattern .start + g .pattern .len) (g .mask) (b .places) fits
+            (omega (arith, room .0)) (room .1);
         free = omega (arith, size, b .free);
         noted = λ p d. ap (λ (x : List ℕ). notedAt s p x (left - 1) next) (written-noted s t p d i (g .mask) (g .pattern .start) (g .pattern .len) fits)
             ∙ noted-next s p (notedRows s t p d i) left here h e ∙ b .noted p d;
@@ -149,7 +153,8 @@ module _ (s t : List ℕ) (i left here count at : ℕ) (b : Begun s t i left her
 -- ---- an escape
 
 -- nothing is lacking where the masks are noted
-pub escape-nothing : (s t : List ℕ) (n : ℕ) (own : Bool) (p : List ℕ) (mask : ℕ) (deep : Bool) → own ≡ true → deep ≡ endsDeep (levelsOf (levels p))
+pub escape-nothing : (s t : List ℕ) (n : ℕ) (own : Bool) (p : List ℕ) (mask : ℕ) (deep : Bool) → own ≡ true
+    → deep ≡ endsDeep (levelsOf (levels p))
     → Nothing ≡ lowestIn deep (notedRows s t p zeros n) mask → EscapeOf s t n own p mask Nothing
 unfolding escapeIn
 escape-nothing s t n own p mask deep o f e count at h = rw (o, ← f) (e ∙ ap (λ (x : List ℕ). lowestIn deep x mask) (h .noted p zeros))
@@ -165,7 +170,8 @@ module _ (s t : List ℕ) (n : ℕ) (own : Bool) (p : List ℕ) (mask : ℕ) (d 
   met-other e o = rw (e, o)
 
 module _ (s t : List ℕ) (n : ℕ) (own : Bool) (p : List ℕ) (mask : ℕ) (d : List ℕ) (deep : Bool)
-    (e : lowestIn deep d mask ≡ lowestIn deep (cond own (notedRows s t p zeros n) zeros) mask) (f : deep ≡ endsDeep (levelsOf (levels p))) where
+    (e : lowestIn deep d mask ≡ lowestIn deep (cond own (notedRows s t p zeros n) zeros) mask)
+    (f : deep ≡ endsDeep (levelsOf (levels p))) where
   -- the masks d tell of an escape what those do that are noted where the terminal id is the parent's
   escape-told : EscapeOf s t n own p mask (lowestIn deep d mask)
   unfolding escapeIn

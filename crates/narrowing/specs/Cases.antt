@@ -42,8 +42,8 @@ granting ps =
 abbrev pub narrowed : List (List ℕ) → List (List ℕ) → NarrowingNumbers
 narrowed parent child = numbersOf (narrow (granting parent) (granting child))
 
--- the marked cases of narrowing: all of these read; under T/a/* the child T/a/** gets 20 with levels 2, under T/a/* and T/a/*/** it gets 0, under T/a/*/** alone
--- 20 with levels 1
+-- the marked cases of narrowing: all of these read; under T/a/* the child T/a/** gets 20 with levels 2, under T/a/* and T/a/*/** it
+-- gets 0, under T/a/*/** alone 20 with levels 1
 abbrev pub MarkedNarrowing : Type 0
 MarkedNarrowing =
     (readAnswer (granting (codes "/a/*" ∷ [])) ≡ 0)

@@ -1,5 +1,5 @@
--- The first grant, the lowest mode and the fewest names by which a path escapes, as a search that computes. A reader of the promises does not need this page.
--- A grant is here its mask and its pattern.
+-- The first grant, the lowest mode and the fewest names by which a path escapes, as a search that computes. A reader of the promises
+-- does not need this page. A grant is here its mask and its pattern.
 use mathlib.Core.Bool.{Bool, true, false, not, _&&_, _||_}
 use mathlib.Core.List.{List, [], _∷_}
 use mathlib.Core.Option.{Option, none, some}

@@ -1,5 +1,5 @@
--- What a descriptor admits, and when a path escapes, in document 01's words ("Narrowing, in this order"). It stands on `resource`'s matching and on the data
--- model; nothing here knows of bytes.
+-- What a descriptor admits, and when a path escapes, in document 01's words ("Narrowing, in this order"). It stands on `resource`'s
+-- matching and on the data model; nothing here knows of bytes.
 use mathlib.Core.Path.{_≡_}
 use mathlib.Core.Bool.{Bool, true, false, _&&_, _||_}
 use mathlib.Core.List.{List, [], _∷_}

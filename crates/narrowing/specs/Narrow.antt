@@ -33,7 +33,8 @@ unconstrained v = eqb (v .payload .opening .grants .sum .pairs) 0
 
 -- the period of w, [not_before, not_after), lies within that of v
 abbrev pub periodWithin : Seen → Seen → Bool
-periodWithin v w = leb (v .payload .middle .notBefore) (w .payload .middle .notBefore) && leb (w .payload .middle .notAfter) (v .payload .middle .notAfter)
+periodWithin v w = leb (v .payload .middle .notBefore) (w .payload .middle .notBefore)
+    && leb (w .payload .middle .notAfter) (v .payload .middle .notAfter)
 
 -- the answer by the first rule by which a path escapes: 20 with its place, the lowest mode and the fewest names; 0 where there is none
 abbrev pub answerAt : List Rule → List Rule → Option ℕ → Narrowing

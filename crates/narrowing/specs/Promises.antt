@@ -1,5 +1,5 @@
--- What is promised of narrowing, and nothing else: demand 3, in document 01's order and numbers. Each statement `NameOfIt` is proved in proofs/Promises.antt as
--- `name-of-it`.
+-- What is promised of narrowing, and nothing else: demand 3, in document 01's order and numbers. Each statement `NameOfIt` is proved in
+-- proofs/Promises.antt as `name-of-it`.
 use mathlib.Core.Path.{_≡_}
 use mathlib.Core.Logic.{_↔_}
 use mathlib.Core.List.{List, [], _∷_}
@@ -47,7 +47,8 @@ NoPairs (g ∷ gs) = (pairCount (g .constraints) ≡ 0) × NoPairs gs
 -- where both read, 19 exactly when a constraint pair stands in either
 abbrev pub ConstrainedExactly : Type 0
 ConstrainedExactly =
-    (s t : List ℕ) (parent child : Descriptor) → AreBytes s → AreBytes t → Allowed parent → Allowed child → s ≡ encode parent → t ≡ encode child
+    (s t : List ℕ) (parent child : Descriptor) → AreBytes s → AreBytes t → Allowed parent → Allowed child → s ≡ encode parent
+    → t ≡ encode child
     → (numbersOf (narrow s t) ≡ answerOnly 19) ↔ (NoPairs (parent .payload .grants) × NoPairs (child .payload .grants) → ⊥)
 
 -- a byte string that reads, as the descriptor d, with no constraint pair
@@ -61,12 +62,14 @@ pub record Reads (s : List ℕ) (d : Descriptor) : Type 0 where
 
 -- the child's period lies within the parent's
 abbrev pub PeriodInside : Descriptor → Descriptor → Type 0
-PeriodInside parent child = (parent .payload .notBefore ≤ child .payload .notBefore) × (child .payload .notAfter ≤ parent .payload .notAfter)
+PeriodInside parent child = (parent .payload .notBefore ≤ child .payload .notBefore)
+    × (child .payload .notAfter ≤ parent .payload .notAfter)
 
 -- 18 exactly when the child's period does not lie within the parent's
 abbrev pub PeriodExactly : Type 0
 PeriodExactly =
-    (s t : List ℕ) (parent child : Descriptor) → Reads s parent → Reads t child → (numbersOf (narrow s t) ≡ answerOnly 18) ↔ (PeriodInside parent child → ⊥)
+    (s t : List ℕ) (parent child : Descriptor) → Reads s parent → Reads t child → (numbersOf (narrow s t) ≡ answerOnly 18)
+    ↔ (PeriodInside parent child → ⊥)
 
 -- ---- 20: a path that escapes
 
@@ -78,8 +81,9 @@ grantOf d i = getD (d .payload .grants) i (record { modes = []; constraints = no
 abbrev pub NoEscape : Descriptor → Grant → ℕ → Type 0
 NoEscape parent g m = (x : Path) → IsPath x → Escapes (parent .payload .grants) g m x → ⊥
 
--- i is the place of the child's first grant by which some path escapes in some mode, m the lowest mode in which one does by that grant, and k the fewest
--- names that the grant's "**" takes in any path that escapes by it in that mode: some path has that many, and none has fewer
+-- i is the place of the child's first grant by which some path escapes in some mode, m the lowest mode in which one does by that grant,
+-- and k the fewest names that the grant's "**" takes in any path that escapes by it in that mode: some path has that many, and none has
+-- fewer
 pub record FirstEscape (parent child : Descriptor) (i m k : ℕ) : Type 0 where
   pub place : i < length (child .payload .grants)
   pub mode : m < 4
@@ -92,7 +96,8 @@ pub record FirstEscape (parent child : Descriptor) (i m k : ℕ) : Type 0 where
 abbrev pub EscapeExactly : Type 0
 EscapeExactly =
     (s t : List ℕ) (parent child : Descriptor) (i m k : ℕ) → Reads s parent → Reads t child
-    → (numbersOf (narrow s t) ≡ record { answer = 20; grant = i; mode = m; levels = k }) ↔ (PeriodInside parent child × FirstEscape parent child i m k)
+    → (numbersOf (narrow s t) ≡ record { answer = 20; grant = i; mode = m; levels = k })
+    ↔ (PeriodInside parent child × FirstEscape parent child i m k)
 
 -- ---- 0: accepted
 
@@ -103,7 +108,8 @@ Inside parent child = (moment : ℕ) (x : Path) (m : ℕ) → IsPath x → Admit
 -- 0 exactly when the child is inside the parent
 abbrev pub AcceptedExactly : Type 0
 AcceptedExactly =
-    (s t : List ℕ) (parent child : Descriptor) → Reads s parent → Reads t child → (numbersOf (narrow s t) ≡ answerOnly 0) ↔ Inside parent child
+    (s t : List ℕ) (parent child : Descriptor) → Reads s parent → Reads t child → (numbersOf (narrow s t) ≡ answerOnly 0)
+    ↔ Inside parent child
 
 -- a chain of acceptances from the bytes s to the bytes t
 pub data Chain : List ℕ → List ℕ → Type 0 where

@@ -1,5 +1,5 @@
--- For which numbers of names one pattern covers another, as a range that the code reads off the two texts, and the masks that are noted for each number.
--- A reader of the promises does not need this page.
+-- For which numbers of names one pattern covers another, as a range that the code reads off the two texts, and the masks that are noted
+-- for each number. A reader of the promises does not need this page.
 use mathlib.Core.Bool.{Bool, true, false, cond, _&&_}
 use mathlib.Core.List.{List, [], _∷_}
 use Prim.Native.Nat.{ℕ, zero, suc, _+_}

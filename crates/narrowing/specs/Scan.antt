@@ -1,5 +1,5 @@
--- What the code's inner functions answer as they walk the grants of both descriptors. A reader of the promises does not need this page: the laws in proofs/ tie it
--- to Escape.antt and Narrow.antt.
+-- What the code's inner functions answer as they walk the grants of both descriptors. A reader of the promises does not need this page:
+-- the laws in proofs/ tie it to Escape.antt and Narrow.antt.
 use mathlib.Core.Path.{_≡_}
 use mathlib.Core.Bool.{Bool, true, false, not, cond, _&&_}
 use mathlib.Core.List.{List}
@@ -76,7 +76,10 @@ foundAt m (some k) rest = At m k
 unfoldable pub lowestFrom : List ℕ → ℕ → ℕ → ℕ → ℕ → ℕ → Found
 lowestFrom d mask from to m zero = Nothing
 lowestFrom d mask from to m (suc n) =
-    elim (hasMode mask m) [ true ↦ foundAt m (least (lacksAt d m) from (to - from)) (lowestFrom d mask from to (m + 1) n) | false ↦ lowestFrom d mask from to (m + 1) n ]
+    elim (hasMode mask m) [
+      | true ↦ foundAt m (least (lacksAt d m) from (to - from)) (lowestFrom d mask from to (m + 1) n)
+      | false ↦ lowestFrom d mask from to (m + 1) n
+    ]
 
 -- the first of all modes, with each number of names that can be taken: from 1 on where the levels end with "**", which `deep` says, else 0
 unfoldable pub lowestIn : Bool → List ℕ → ℕ → Found
@@ -86,7 +89,8 @@ lowestIn deep d mask = cond deep (lowestFrom d mask 1 most 0 4) (lowestFrom d ma
 abbrev pub zeros : List ℕ
 zeros = replicate most 0
 
--- how a path escapes by a grant with the levels p and the mask, under the `count` grants from a place of s on; `own` where the terminal id is theirs
+-- how a path escapes by a grant with the levels p and the mask, under the `count` grants from a place of s on; `own` where the terminal
+-- id is theirs
 unfoldable pub escapeIn : List ℕ → ℕ → ℕ → Bool → List ℕ → ℕ → Found
 escapeIn s at count own p mask = lowestIn (endsDeep (levelsOf (levels p))) (cond own (notedAt s p zeros count at) zeros) mask
 
@@ -132,7 +136,10 @@ orNext i Nothing rest = rest
 unfoldable pub firstIn : List ℕ → ℕ → ℕ → Bool → List ℕ → ℕ → ℕ → ℕ → Narrowing
 firstIn s at count own t i zero from = Accepted
 firstIn s at count own t i (suc n) from =
-    elim (grantAt t from) [ got g next ↦ orNext i (escapeIn s at count own (below t (g .pattern)) (g .mask)) (firstIn s at count own t (i + 1) n next) | refused ↦ Accepted ]
+    elim (grantAt t from) [
+      | got g next ↦ orNext i (escapeIn s at count own (below t (g .pattern)) (g .mask)) (firstIn s at count own t (i + 1) n next)
+      | refused ↦ Accepted
+    ]
 
 -- r is the answer under the grants, any number from any place of s on, of which t has the n rows
 abbrev pub FirstOf : List ℕ → List ℕ → ℕ → Bool → List ℕ → ℕ → ℕ → Narrowing → Type 0

@@ -22,8 +22,8 @@ pub(crate) enum Found {
     Nothing,
 }
 
-// Reads the `count` grants from `at` on into a table with three numbers a row: where the grant's levels begin, where they end, and the mask.
-// Answers the number of rows.
+// Reads the `count` grants from `at` on into a table with three numbers a row: where the grant's levels begin, where they end, and the
+// mask. Answers the number of rows.
 pub(crate) fn fill(parent: &[u8], at: usize, count: u64, table: &mut [usize]) -> usize
     requires { ⌜ 3 * count ≤ length (now table) ⌝ }
     ensures { λ r. ⌜ Filled (now (parent .entry)) (now (table .exit)) r count at ⌝ }
@@ -180,7 +180,8 @@ fn alone(
     rows
 }
 
-// Notes row i, for each number of names with which its grant covers the levels p. Answers its modes where it does so with every number, else 0.
+// Notes row i, for each number of names with which its grant covers the levels p. Answers its modes where it does so with every number,
+// else 0.
 fn note_row(parent: &[u8], table: &[usize], i: usize, p: &[u8], deep: bool, d: &mut [u64]) -> u64
     requires { ⌜ (3 * i + 2 < length (now table)) × (rowStart (now table) i ≤ rowEnd (now table) i) × (rowEnd (now table) i ≤ length (now parent)) ⌝ }
     ensures modes { λ r. ⌜ r ≡ fullModes (now (parent .entry)) (now (table .entry)) i (now (p .entry)) deep ⌝ }
@@ -199,8 +200,9 @@ fn note_row(parent: &[u8], table: &[usize], i: usize, p: &[u8], deep: bool, d: &
     0
 }
 
-// Notes for each number of names the modes in which the grants of the table cover the levels p, and answers `rows`. A row that adds no mode of the mask to
-// those that the rows before it cover with every number is left out; where these are all modes of the mask, it stops and answers the last of these rows.
+// Notes for each number of names the modes in which the grants of the table cover the levels p, and answers `rows`. A row that adds no
+// mode of the mask to those that the rows before it cover with every number is left out; where these are all modes of the mask, it
+// stops and answers the last of these rows.
 fn note(
     parent: &[u8],
     table: &[usize],

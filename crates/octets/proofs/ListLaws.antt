@@ -1,4 +1,5 @@
--- Laws of lists of bytes and of their parts that know nothing of what the bytes mean, and of the tests and options that go with them. Assumes nothing.
+-- Laws of lists of bytes and of their parts that know nothing of what the bytes mean, and of the tests and options that go with them.
+-- Assumes nothing.
 use mathlib.Core.Path.{_≡_, refl, sym, ap, _∙_, subst}
 use mathlib.Core.Bool.{Bool, true, false, _||_, false≢true}
 use mathlib.Core.List.{List, [], _∷_, _++_}

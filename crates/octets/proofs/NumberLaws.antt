@@ -41,7 +41,8 @@ number-lt s from zero bs = lit< tt
 number-lt s from (suc w) bs = rw pow-suc (omega (arith, number-lt s from w bs, bs (from + w)))
 
 -- the number that the encoding of n holds is n
-pub bytes-number : (s : List ℕ) (from w n : ℕ) → n < 256 ^ w → from + w ≤ length s → take w (drop from s) ≡ bigEndian w n → numberAt s from w ≡ n
+pub bytes-number : (s : List ℕ) (from w n : ℕ) → n < 256 ^ w → from + w ≤ length s → take w (drop from s) ≡ bigEndian w n
+    → numberAt s from w ≡ n
 unfolding numberAt bigEndian
 bytes-number s from zero n h l e = omega arith
 bytes-number s from (suc w) n h l e =
@@ -95,7 +96,8 @@ number-keeps d d′ at (suc w) e =
     let front : take w (drop at d) ≡ take w (drop at d′)
     = sym (take-take w (suc w) (drop at d) (omega arith)) ∙ ap (take w) e ∙ take-take w (suc w) (drop at d′) (omega arith) in
     let last : getD d (at + w) 0 ≡ getD d′ (at + w) 0
-    = sym (getD-drop at d w 0) ∙ sym (getD-take (suc w) (drop at d) w 0 (omega arith)) ∙ ap (λ (x : List ℕ). getD x w 0) e ∙ getD-take (suc w) (drop at d′) w 0 (omega arith) ∙ getD-drop at d′ w 0 in
+    = sym (getD-drop at d w 0) ∙ sym (getD-take (suc w) (drop at d) w 0 (omega arith)) ∙ ap (λ (x : List ℕ). getD x w 0) e
+    ∙ getD-take (suc w) (drop at d′) w 0 (omega arith) ∙ getD-drop at d′ w 0 in
     ap₂ (λ (x y : ℕ). x * 256 + y) (number-keeps d d′ at w front) last
 
 -- ---- a loop that writes a number, the lowest byte first
@@ -124,14 +126,16 @@ remains-whole w n = sym (ap (λ (x : List ℕ). bigEndian w n ++ x) (drop-whole 
 
 module _ (w n left : ℕ) where
   -- The lowest byte of what is left stands before the bytes that are written.
-  remains-open : (j : ℕ) → Remains w n (suc j) left → bigEndian w n ≡ bigEndian j (left / 256) ++ (left % 256 ∷ drop (suc j) (bigEndian w n))
+  remains-open : (j : ℕ) → Remains w n (suc j) left → bigEndian w n
+      ≡ bigEndian j (left / 256) ++ (left % 256 ∷ drop (suc j) (bigEndian w n))
   unfolding Remains bigEndian
   remains-open j r = r ∙ append-assoc (bigEndian j (left / 256)) (left % 256 ∷ []) (drop (suc j) (bigEndian w n))
 
   -- The byte to be written next is the lowest byte of what is left.
   next-byte : (j : ℕ) → Remains w n (suc j) left → drop j (bigEndian w n) ≡ left % 256 ∷ drop (suc j) (bigEndian w n)
   next-byte j r =
-      ap (drop j) (remains-open j r) ∙ drop-at (bigEndian j (left / 256)) (left % 256 ∷ drop (suc j) (bigEndian w n)) j (length-bigEndian j (left / 256))
+      ap (drop j) (remains-open j r) ∙ drop-at (bigEndian j (left / 256)) (left % 256 ∷ drop (suc j) (bigEndian w n)) j
+      (length-bigEndian j (left / 256))
 
   -- The same as `remains-more`, with the count as a successor.
   remains-suc : (j : ℕ) → Remains w n (suc j) left → Remains w n j (left / 256)
@@ -139,7 +143,8 @@ module _ (w n left : ℕ) where
   remains-suc j r = remains-open j r ∙ ap (λ (x : List ℕ). bigEndian j (left / 256) ++ x) (sym (next-byte j r))
 
   -- The same as `low-more`, with the count as a successor.
-  low-suc : (d : List ℕ) (at j : ℕ) → at + j < length d → Remains w n (suc j) left → set (lowBytes d at w n (suc j)) (at + j) (left % 256) ≡ lowBytes d at w n j
+  low-suc : (d : List ℕ) (at j : ℕ) → at + j < length d → Remains w n (suc j) left
+      → set (lowBytes d at w n (suc j)) (at + j) (left % 256) ≡ lowBytes d at w n j
   unfolding lowBytes
   low-suc d at j h r =
       let e : at + suc j ≡ suc (at + j) = omega arith in

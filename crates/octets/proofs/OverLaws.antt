@@ -8,7 +8,8 @@ use native.Mathlib.Numerals.{add-one, sub-one}
 use native.Mathlib.Nat.{add-zero}
 use lib.Dec.{leb}
 use lib.ListN.{List·getD-append, length, take, drop, getD, set, length-append, length-take, length-drop, take-append-drop}
-use lib.Seq.{set-at, getD-take, take-append-le, drop-append-le, take-add, drop-drop, take-at, drop-at, take-take, length-take-le, append-snoc, take-suc, drop-cons, paste, paste-zero, paste-suc, take-length}
+use lib.Seq.{set-at, getD-take, take-append-le, drop-append-le, take-add, drop-drop, take-at, drop-at, take-take, length-take-le}
+use lib.Seq.{append-snoc, take-suc, drop-cons, paste, paste-zero, paste-suc, take-length}
 use borrow.Author.Tests.{le-leb, lt-leb, leb-true}
 use Rattle.octets.specs.Bytes.{part, Has}
 use Rattle.octets.proofs.Tests.{by-cond}
@@ -60,12 +61,14 @@ over-after d at s p h l =
     ∙ ap (λ (m : ℕ). drop m d) e
 
 -- Bytes that stand before the place still stand there.
-pub over-keeps : (d : List ℕ) (at : ℕ) (s : List ℕ) (p : ℕ) (t : List ℕ) → at + length s ≤ length d → p + length t ≤ at → Has d p t → Has (over d at s) p t
+pub over-keeps : (d : List ℕ) (at : ℕ) (s : List ℕ) (p : ℕ) (t : List ℕ) → at + length s ≤ length d → p + length t ≤ at → Has d p t
+    → Has (over d at s) p t
 unfolding Has
 over-keeps d at s p t h l k = over-before d at s p (length t) h l ∙ k
 
 -- Bytes that stand after the written ones still stand there.
-pub over-leaves : (d : List ℕ) (at : ℕ) (s : List ℕ) (p : ℕ) (t : List ℕ) → at + length s ≤ length d → at + length s ≤ p → Has d p t → Has (over d at s) p t
+pub over-leaves : (d : List ℕ) (at : ℕ) (s : List ℕ) (p : ℕ) (t : List ℕ) → at + length s ≤ length d → at + length s ≤ p → Has d p t
+    → Has (over d at s) p t
 unfolding Has part
 over-leaves d at s p t h l k = ap (take (length t)) (over-after d at s p h l) ∙ k
 
@@ -77,7 +80,8 @@ has-front d s h = sym (take-append-drop (length s) d) ∙ ap (λ (x : List ℕ).
 -- A byte before the place stays.
 pub over-getD : (d : List ℕ) (at : ℕ) (s : List ℕ) (p : ℕ) → at ≤ length d → p < at → getD (over d at s) p 0 ≡ getD d p 0
 unfolding over
-over-getD d at s p h l = List·getD-append (take at d) (s ++ drop (at + length s) d) 0 p (simp length-take (omega arith)) ∙ getD-take at d p 0 l
+over-getD d at s p h l = List·getD-append (take at d) (s ++ drop (at + length s) d) 0 p (simp length-take (omega arith))
+    ∙ getD-take at d p 0 l
 
 -- ---- one write after another
 
@@ -98,13 +102,15 @@ unfolding over
 over-open d at s = refl
 
 -- Up to the end of what was written, a write gives the bytes before the place and then s.
-over-front : (d : List ℕ) (at : ℕ) (s : List ℕ) → length (take at d ++ s) ≡ at + length s → take (at + length s) (over d at s) ≡ take at d ++ s
+over-front : (d : List ℕ) (at : ℕ) (s : List ℕ) → length (take at d ++ s) ≡ at + length s
+    → take (at + length s) (over d at s) ≡ take at d ++ s
 over-front d at s e =
     ap (take (at + length s)) (over-open d at s ∙ sym (append-assoc (take at d) s (drop (at + length s) d)))
     ∙ take-at (take at d ++ s) (drop (at + length s) d) (at + length s) e
 
 -- One piece written right after another is the two written together.
-pub over-append : (d : List ℕ) (at : ℕ) (s t : List ℕ) → at + length s ≤ length d → over (over d at s) (at + length s) t ≡ over d at (s ++ t)
+pub over-append : (d : List ℕ) (at : ℕ) (s t : List ℕ) → at + length s ≤ length d
+    → over (over d at s) (at + length s) t ≡ over d at (s ++ t)
 over-append d at s t h =
     let e : length (take at d ++ s) ≡ at + length s = simp (length-append, length-take) (omega arith) in
     let front : take (at + length s) (over d at s) ≡ take at d ++ s = over-front d at s e in
@@ -166,7 +172,8 @@ put-not d at s h = rw (lt-leb (at + length s) (length d) h)
 pub put-length : (d : List ℕ) (at : ℕ) (s : List ℕ) → length (putAt d at s) ≡ length d
 unfolding putAt
 put-length d at s =
-    by-cond (λ (x : List ℕ). length x ≡ length d) (leb (at + length s) (length d)) (λ e. over-length d at s (leb-true (at + length s) (length d) e)) (λ e. refl)
+    by-cond (λ (x : List ℕ). length x ≡ length d) (leb (at + length s) (length d))
+    (λ e. over-length d at s (leb-true (at + length s) (length d) e)) (λ e. refl)
 
 -- ---- a loop that writes
 
@@ -217,7 +224,8 @@ moved-no-room d from to by h = rw (lt-leb (to + by) (length d) h) (cond-and-fals
 -- A move keeps the length.
 pub moved-length : (d : List ℕ) (from to by : ℕ) → from ≤ to → to + by ≤ length d → length (moved d from to by) ≡ length d
 unfolding moved
-moved-length d from to by h l = over-length d (from + by) (part d from (to - from)) (omega (arith, part-has d from (to - from) (omega arith) .1))
+moved-length d from to by h l = over-length d (from + by) (part d from (to - from))
+    (omega (arith, part-has d from (to - from) (omega arith) .1))
 
 -- ---- a loop that moves bytes up, the last first
 

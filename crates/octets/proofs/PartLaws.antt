@@ -39,4 +39,5 @@ pub start-parts : (s t : List ℕ) (a b n : ℕ) {r : Bool} → a + n ≤ length
     → r ≡ same (part s a n) (part t b n)
 unfolding part
 start-parts s t a b n h k e =
-    start-answer (drop a s) (drop b t) n (omega (arith, length-drop a s)) (omega (arith, length-drop b t)) (rw (part-to-end s a, part-to-end t b) at e)
+    start-answer (drop a s) (drop b t) n (omega (arith, length-drop a s)) (omega (arith, length-drop b t))
+    (rw (part-to-end s a, part-to-end t b) at e)

@@ -119,7 +119,8 @@ module _ (a b : List ℕ) (n : ℕ) where
   start-short-second h = rw (lt-leb n (length b) h) (and-false (leb n (length a)))
 
   -- Where both have so many, those bytes decide.
-  pub start-both : n ≤ length a → n ≤ length b → (leb n (length a) && (leb n (length b) && same (take n a) (take n b))) ≡ same (take n a) (take n b)
+  pub start-both : n ≤ length a → n ≤ length b → (leb n (length a) && (leb n (length b) && same (take n a) (take n b)))
+      ≡ same (take n a) (take n b)
   start-both h k = rw (le-leb n (length a) h, le-leb n (length b) k)
 
   -- So what was answered to the test says whether those bytes are the same.

@@ -90,7 +90,8 @@ listed-suc : (revoked id : List ℕ) (j : ℕ) (t : Bool) → same (part revoked
 unfolding listedAmong
 listed-suc revoked id j t e = rw (e, listedAmong)
 
-module _ (revoked id : List ℕ) (i : ℕ) {b : Bool} (h : 0 < i) (e : b ≡ same (take (16 * (i - 1) + 16 - 16 * (i - 1)) (drop (16 * (i - 1)) revoked)) id) where
+module _ (revoked id : List ℕ) (i : ℕ) {b : Bool} (h : 0 < i)
+    (e : b ≡ same (take (16 * (i - 1) + 16 - 16 * (i - 1)) (drop (16 * (i - 1)) revoked)) id) where
   -- The code compares the last of the first i ids.
   last-of : (t : Bool) → b ≡ t → listedAmong revoked id i ≡ elim t [ true ↦ true | false ↦ listedAmong revoked id (i - 1) ]
   last-of t f =

@@ -23,7 +23,8 @@ use Rattle.request.specs.declared.Decision.the-variants as answers
 use Rattle.request.specs.declared.search.Matched.{Matched}
 use Rattle.request.specs.declared.search.Matched.the-variants.{IsAt, Nothing}
 use Rattle.request.specs.Asked.{Asked, wellFormed}
-use Rattle.request.specs.Decision.{keySteps, laterSteps, stepsBy, grantedBy, factsOf, firstFrom, matchedOn, decidedOn, factsIn, matchedIn, stepsOf, decisionOf}
+use Rattle.request.specs.Decision.{keySteps, laterSteps, stepsBy, grantedBy, factsOf, firstFrom, matchedOn, decidedOn, factsIn}
+use Rattle.request.specs.Decision.{matchedIn, stepsOf, decisionOf}
 use Rattle.request.specs.Stages.{signedBy}
 
 -- The code compares a part that it lends.
@@ -40,7 +41,8 @@ module _ (b : List ℕ) (f : Fields) (resource : List ℕ) (mode : ℕ) {t : Boo
   matched-other g = sym (rw (lent-same b (take 45 resource) (f .terminal) 45 e ∙ g))
 
   -- Else the search tells.
-  pub matched-first : t ≡ true → {m : Matched} → m ≡ firstFrom b (take (length resource - 46) (drop 46 resource)) mode (f .grants) (f .first) 0
+  pub matched-first : t ≡ true → {m : Matched} → m ≡ firstFrom b (take (length resource - 46) (drop 46 resource)) mode (f .grants)
+      (f .first) 0
       → m ≡ matchedOn b f resource mode
   unfolding matchedOn
   matched-first g h =
@@ -57,7 +59,8 @@ module _ (grant mask after clock session verdict : ℕ) (window : Window) where
   signed-none h = sym (rw (eq-eqb verdict 2 h))
 
   -- The clock is not in its window.
-  pub signed-shut : (verdict ≡ 2 → ⊥) → keyOpen window clock ≡ false → answers.KeyInvalid ≡ signedBy grant mask after clock session verdict window
+  pub signed-shut : (verdict ≡ 2 → ⊥) → keyOpen window clock ≡ false
+      → answers.KeyInvalid ≡ signedBy grant mask after clock session verdict window
   unfolding signedBy isThat
   signed-shut h k = sym (rw (ne-eqb verdict 2 h, k))
 
@@ -92,7 +95,8 @@ module _ (q : Asked) (b : List ℕ) (f : Fields) where
   pub on-signed : (grant mask : ℕ) {x : Decision} → x ≡ signedBy grant mask (f .after) (q .clock) (q .session) (q .verdict) (q .window)
       → Decides (keySteps q) (grantedBy q (factsOf b f) (IsAt grant mask)) x
   unfolding grantedBy signedBy
-  on-signed grant mask e = last-two (not (isThat (q .verdict) noKey) && keyOpen (q .window) (q .clock)) (not (isThat (q .verdict) bad)) _ _ _ e
+  on-signed grant mask e = last-two (not (isThat (q .verdict) noKey) && keyOpen (q .window) (q .clock))
+      (not (isThat (q .verdict) bad)) _ _ _ e
 
 -- ---- all steps
 
@@ -107,7 +111,8 @@ module _ (s : List ℕ) (q : Asked) where
   by-survey e = ap decisionBy e
 
   -- Malformed arguments are refused first.
-  pub decide-malformed : wellFormed (q .id) (q .fay) (q .terminal) (q .resource) (q .mode) (q .revoked) (q .verdict) ≡ false → answers.Malformed ≡ decisionOf s q
+  pub decide-malformed : wellFormed (q .id) (q .fay) (q .terminal) (q .resource) (q .mode) (q .revoked) (q .verdict) ≡ false
+      → answers.Malformed ≡ decisionOf s q
   unfolding stepsBy
   decide-malformed w = decided (fails w) ∙ by-survey refl
 

@@ -34,4 +34,5 @@ pub granted-gives : GrantedGives
 granted-gives s q b z =
     let k = all-stored s (q .id) b in
     let a = granted-exactly s q (k .0) (k .1) .0 z in
-    subst (Given s q) (sym (decided-exactly s q (k .0) (k .1) ∙ passed-end (stepsFor q (k .0)) (grantedFor q (k .0)) a)) (given s q (k .0) (k .1) a)
+    subst (Given s q) (sym (decided-exactly s q (k .0) (k .1) ∙ passed-end (stepsFor q (k .0)) (grantedFor q (k .0)) a))
+    (given s q (k .0) (k .1) a)

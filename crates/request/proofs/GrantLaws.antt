@@ -1,4 +1,5 @@
--- The first grant that serves, found in the encoding of a descriptor, is the first of its grants that serves (specs/Meaning.antt). Assumes nothing.
+-- The first grant that serves, found in the encoding of a descriptor, is the first of its grants that serves (specs/Meaning.antt).
+-- Assumes nothing.
 use mathlib.Core.Path.{_≡_, refl, sym, ap, ap₂, _∙_}
 use mathlib.Core.Bool.{Bool, true, false, cond, _&&_, and-comm, and-false}
 use mathlib.Core.List.{List}
@@ -33,7 +34,8 @@ grant-admits r g c o w t =
     ∙ ap (λ (c : Bool). c && levelsMatch (drop 46 (g .pattern)) (drop 46 r)) t
 
 -- A grant that is seen in b serves a resource id of its terminal exactly where the grant itself serves.
-serves-agree : (b t r : List ℕ) (m : ℕ) (g : Grant) (v : GrantSeen) → SeenAs b t g v → resourceOk r ≡ true → m < 4 → same t (take 45 r) ≡ true
+serves-agree : (b t r : List ℕ) (m : ℕ) (g : Grant) (v : GrantSeen) → SeenAs b t g v → resourceOk r ≡ true → m < 4
+    → same t (take 45 r) ≡ true
     → serves b (drop 46 r) m v ≡ grantServes g m (pathOf r)
 unfolding serves
 serves-agree b t r m g v f w h s =
@@ -70,10 +72,12 @@ module _ (b t r : List ℕ) (m : ℕ) (w : resourceOk r ≡ true) where
       ∙ ap (orNext (grantServes g m (pathOf r)) i (maskOf (g .modes))) (first-from h s rest (i + 1))
 
   -- For a resource id of another terminal no grant serves.
-  first-none : same t (take 45 r) ≡ false → {n at : ℕ} {gs : List Grant} → InTurn b t n at gs → (i : ℕ) → firstServing gs m (pathOf r) i ≡ Nothing
+  first-none : same t (take 45 r) ≡ false → {n at : ℕ} {gs : List Grant} → InTurn b t n at gs → (i : ℕ)
+      → firstServing gs m (pathOf r) i ≡ Nothing
   first-none s (no-more at) i = refl
   first-none s (one-more n at next v g gs e f rest) i =
-      ap (λ (c : Bool). orNext c i (maskOf (g .modes)) (firstServing gs m (pathOf r) (i + 1))) (other-serves b t r m g v f w s) ∙ first-none s rest (i + 1)
+      ap (λ (c : Bool). orNext c i (maskOf (g .modes)) (firstServing gs m (pathOf r) (i + 1))) (other-serves b t r m g v f w s)
+      ∙ first-none s rest (i + 1)
 
 -- The first grant that serves in the encoding of a formed descriptor is the first of its grants that serves.
 pub matched-agree : (d : Descriptor) (r : List ℕ) (m : ℕ) → AreBytes (encode d) → Formed d → resourceOk r ≡ true → m < 4
@@ -86,7 +90,8 @@ matched-agree d r m b q w h =
     t = d .payload .terminal
 
     found : Matched
-    found = firstFrom (encode d) (drop 46 r) m (descriptorView 0 d .payload .opening .grants .count) (descriptorView 0 d .payload .opening .grants .start) 0
+    found = firstFrom (encode d) (drop 46 r) m (descriptorView 0 d .payload .opening .grants .count)
+        (descriptorView 0 d .payload .opening .grants .start) 0
 
     go : (c : Bool) → same t (take 45 r) ≡ c → cond c found Nothing ≡ firstServing (d .payload .grants) m (pathOf r) 0
     go true s = first-from (encode d) t r m w h s (grants-in-turn d b q) 0

@@ -61,7 +61,8 @@ abbrev pub heldBy : Asked → List ℕ → Fields → Decision
 heldBy q b f = decidedBy q true true (factsOf b f) (matchedOn b f (q .resource) (q .mode))
 
 -- A request for the body b, which a sound image holds and of which f is read, is decided on b and f.
-pub decided-on-body : (s : List ℕ) (q : Asked) (bs : List (List ℕ)) (b : List ℕ) (f : Fields) → Holds s bs → bodyWith (q .id) bs ≡ some b → reading b ≡ Read f
+pub decided-on-body : (s : List ℕ) (q : Asked) (bs : List (List ℕ)) (b : List ℕ) (f : Fields) → Holds s bs
+    → bodyWith (q .id) bs ≡ some b → reading b ≡ Read f
     → decisionOf s q ≡ heldBy q b f
 decided-on-body s q bs b f h e r =
     let w = survey-tells s (q .id) bs h in

@@ -54,14 +54,16 @@ reading-encode d b o = ap readingOf (reads-exactly (encode d) b (descriptorView 
 -- The facts that are read of the encoding of a formed descriptor are the descriptor's.
 facts-agree : (d : Descriptor) → Formed d → factsOf (encode d) (fieldsOf (descriptorView 0 d)) ≡ factsOfDescriptor d
 facts-agree d q =
-    ap₂ (λ (f t : List ℕ). record { before = d .payload .notBefore; after = d .payload .notAfter; fay = f; terminal = t }) (seen-handed d q .fay) (seen-handed d q .terminal)
+    ap₂ (λ (f t : List ℕ). record { before = d .payload .notBefore; after = d .payload .notAfter; fay = f; terminal = t })
+    (seen-handed d q .fay) (seen-handed d q .terminal)
 
 -- A request for a descriptor that a sound image holds is decided on that descriptor, with the meaning of matching.
 pub decided-on-descriptor : (s : List ℕ) (q : Asked) (bs : List (List ℕ)) (d : Descriptor) → Holds s bs → AreBytes (encode d) → Allowed d
     → bodyWith (q .id) bs ≡ some (encode d) → decisionOf s q ≡ decidedFor q d
 unfolding decidedFor
 decided-on-descriptor s q bs d h b o e =
-    decided-on-body s q bs (encode d) f h e (reading-encode d b o) ∙ ap (λ (x : Facts). decidedBy q true true x found) (facts-agree d (o .formed)) ∙ go (isWell q) refl
+    decided-on-body s q bs (encode d) f h e (reading-encode d b o)
+    ∙ ap (λ (x : Facts). decidedBy q true true x found) (facts-agree d (o .formed)) ∙ go (isWell q) refl
   where
     f : Fields
     f = fieldsOf (descriptorView 0 d)
@@ -76,5 +78,6 @@ decided-on-descriptor s q bs d h b o e =
     mine = firstServing (d .payload .grants) (q .mode) (pathOf (q .resource)) 0
 
     go : (t : Bool) → isWell q ≡ t → decidedBy q true true facts found ≡ decidedBy q true true facts mine
-    go true w = let k = well-asked q w in ap (decidedBy q true true facts) (matched-agree d (q .resource) (q .mode) b (o .formed) (k .1) (k .0))
+    go true w = let k = well-asked q w in ap (decidedBy q true true facts)
+        (matched-agree d (q .resource) (q .mode) b (o .formed) (k .1) (k .0))
     go false w = malformed-first q true true facts found _ w ∙ sym (malformed-first q true true facts mine _ w)

@@ -1,4 +1,5 @@
--- The numbers that a request is answered, by what the image holds under the id (specs/Promises.antt): the order of the steps. Assumes nothing.
+-- The numbers that a request is answered, by what the image holds under the id (specs/Promises.antt): the order of the steps. Assumes
+-- nothing.
 use mathlib.Core.Path.{_≡_, refl, sym, ap, _∙_}
 use mathlib.Core.Bool.{Bool, true, false, false≢true}
 use mathlib.Core.List.{List, []}
@@ -25,7 +26,9 @@ use Rattle.request.specs.declared.search.Matched.the-variants.{IsAt, Not
 use Rattle.request.specs.Asked.{Asked, wellFormed}
 use Rattle.request.specs.Decision.{Facts, laterSteps, stepsBy, grantedBy, factsIn, decisionOf, numbersOf}
 use Rattle.request.specs.Meaning.{firstServing, factsOfDescriptor, decidedFor}
-use Rattle.request.specs.Promises.{Stored, badImage, notHeld, held, Among, refusal, someServes, firstPlace, firstMask, stepsFor, grantedFor, answerFor, DecidedExactly, GrantedExactly, RefusedExactly, RefusalsZero, EditionsRefused}
+use Rattle.request.specs.Promises.{Stored, badImage, notHeld, held, Among, refusal, someServes, firstPlace, firstMask, stepsFor}
+use Rattle.request.specs.Promises.{grantedFor, answerFor, DecidedExactly, GrantedExactly, RefusedExactly, RefusalsZero}
+use Rattle.request.specs.Promises.{EditionsRefused}
 use Rattle.request.proofs.HeldLaws.{decidedBy, decided-in, missingBy, decided-on-none}
 use Rattle.request.proofs.MeaningLaws.{decided-on-descriptor}
 use Rattle.request.proofs.UnderLaws.{held-found, none-found, unsound}
@@ -54,7 +57,8 @@ missing-numbers q = by-numbers q true false (record { before = 0; after = 0; fay
 
 -- What is granted on a descriptor, where some grant of it serves.
 granted-numbers : (q : Asked) (d : Descriptor) → Allowed d → someServes (d .payload .grants) (q .mode) (pathOf (q .resource)) ≡ true
-    → numbersOf (grantedBy q (factsOfDescriptor d) (firstServing (d .payload .grants) (q .mode) (pathOf (q .resource)) 0)) ≡ grantedFor q (held d)
+    → numbersOf (grantedBy q (factsOfDescriptor d) (firstServing (d .payload .grants) (q .mode) (pathOf (q .resource)) 0))
+    ≡ grantedFor q (held d)
 unfolding grantedBy
 granted-numbers q d a e =
     let gs : List Grant = d .payload .grants in
@@ -85,7 +89,8 @@ decided-exactly s q badImage u = unsound-numbers s q (unsound s (q .id) u)
 decided-exactly s q notHeld u = ap numbersOf (decided-on-none s q (u .0) (u .1) (none-found s (q .id) u)) ∙ missing-numbers q
 decided-exactly s q (held d) u =
     let a : Among (u .0) (q .id) d = u .2 in
-    ap numbersOf (decided-on-descriptor s q (u .0) d (u .1) (a .bytes) (a .allowed) (held-found s (q .id) d u)) ∙ held-numbers q d (a .allowed)
+    ap numbersOf (decided-on-descriptor s q (u .0) d (u .1) (a .bytes) (a .allowed) (held-found s (q .id) d u))
+    ∙ held-numbers q d (a .allowed)
 
 -- ---- the order of the steps
 

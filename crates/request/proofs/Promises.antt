@@ -1,6 +1,8 @@
 -- The promises of specs/Promises.antt, each from its law. Assumes nothing.
 use mathlib.Core.Path.{refl}
-use Rattle.request.specs.Promises.{AskedInOrder, ListedExactly, AllStored, DecidedExactly, GrantedExactly, RefusedExactly, RefusalsZero, EditionsRefused, GrantedGives, BeginBoundary, EndBoundary, StoredDecided, OthersDecided}
+use Rattle.request.specs.Promises.{AskedInOrder, ListedExactly, AllStored, DecidedExactly, GrantedExactly, RefusedExactly}
+use Rattle.request.specs.Promises.{RefusalsZero, EditionsRefused, GrantedGives, BeginBoundary, EndBoundary, StoredDecided}
+use Rattle.request.specs.Promises.{OthersDecided}
 use Rattle.request.proofs.ListedLaws as listed
 use Rattle.request.proofs.UnderLaws as under
 use Rattle.request.proofs.NumberLaws as numbers

@@ -1,4 +1,5 @@
--- The first grant that serves (specs/Promises.antt): its place and mask, and that the search of specs/Meaning.antt finds it. Assumes nothing.
+-- The first grant that serves (specs/Promises.antt): its place and mask, and that the search of specs/Meaning.antt finds it. Assumes
+-- nothing.
 use mathlib.Core.Path.{_≡_, refl, sym, ap, _∙_, subst}
 use mathlib.Core.Bool.{Bool, true, false, cond, _||_, false≢true}
 use mathlib.Core.List.{List, [], _∷_}
@@ -61,7 +62,8 @@ serves-here g gs m x e =
     record { grant = g; place = omega arith; there = refl; serves = e; mine = refl; first = λ j h l t. absurd (omega arith) }
 
 -- The first grant does not serve, and one of the rest does.
-serves-later : (g : Grant) (gs : List Grant) (m : ℕ) (x : Path) (k mask : ℕ) → grantServes g m x ≡ false → Serves gs m x k mask → Serves (g ∷ gs) m x (suc k) mask
+serves-later : (g : Grant) (gs : List Grant) (m : ℕ) (x : Path) (k mask : ℕ) → grantServes g m x ≡ false → Serves gs m x k mask
+    → Serves (g ∷ gs) m x (suc k) mask
 serves-later g gs m x k mask e s =
     record {
       grant = s .grant;

@@ -42,12 +42,14 @@ stored-decided d b clock verdict window bytes a z =
     )
 
 -- Two images in which the id finds the same body decide a request for it alike.
-found-alike : (s t : List ℕ) (q : Asked) (bs cs : List (List ℕ)) → Holds s bs → Holds t cs → bodyWith (q .id) cs ≡ bodyWith (q .id) bs → decisionOf t q ≡ decisionOf s q
+found-alike : (s t : List ℕ) (q : Asked) (bs cs : List (List ℕ)) → Holds s bs → Holds t cs → bodyWith (q .id) cs ≡ bodyWith (q .id) bs
+    → decisionOf t q ≡ decisionOf s q
 found-alike s t q bs cs h k e = let w = survey-tells s (q .id) bs h in go (w .0) (w .2)
   where
     go : (x : Held) → HeldIs s (q .id) bs x → decisionOf t q ≡ decisionOf s q
     go Missing i = decided-on-none t q cs k (e ∙ i) ∙ sym (decided-on-none s q bs h i)
-    go (Body at len f) i = decided-on-body t q cs (part s at len) f k (e ∙ i .which) (i .reads) ∙ sym (decided-on-body s q bs (part s at len) f h (i .which) (i .reads))
+    go (Body at len f) i = decided-on-body t q cs (part s at len) f k (e ∙ i .which) (i .reads)
+        ∙ sym (decided-on-body s q bs (part s at len) f h (i .which) (i .reads))
 
 -- `OthersDecided`.
 pub others-decided : OthersDecided

@@ -25,13 +25,15 @@ held-found s id d u =
     body-with-exactly id (u .0) (encode d) (u .1 .bodies) .1 (encoding-read d (a .bytes) (a .allowed) .3 ∙ a .named, (a .place, a .inside, a .there))
 
 -- A descriptor whose encoding is the body with an id is held under it.
-pub found-among : (id : List ℕ) (bs : List (List ℕ)) (d : Descriptor) → BodiesOk bs → Allowed d → AreBytes (encode d) → bodyWith id bs ≡ some (encode d) → Among bs id d
+pub found-among : (id : List ℕ) (bs : List (List ℕ)) (d : Descriptor) → BodiesOk bs → Allowed d → AreBytes (encode d)
+    → bodyWith id bs ≡ some (encode d) → Among bs id d
 found-among id bs d o a b e =
     let w = body-with-exactly id bs (encode d) o .0 e in
     record { allowed = a; bytes = b; named = sym (encoding-read d b a .3) ∙ w .0; place = w .1 .0; inside = w .1 .1; there = w .1 .2 }
 
 -- A body that a check notes in bytes is the encoding of a descriptor with the id.
-body-among : (s id : List ℕ) (bs : List (List ℕ)) (at len : ℕ) (f : Fields) → AreBytes s → BodiesOk bs → HeldBody s id bs at len f → (d : Descriptor) × Among bs id d
+body-among : (s id : List ℕ) (bs : List (List ℕ)) (at len : ℕ) (f : Fields) → AreBytes s → BodiesOk bs → HeldBody s id bs at len f
+    → (d : Descriptor) × Among bs id d
 body-among s id bs at len f b o h =
     let bytes : AreBytes (part s at len) = part-bytes s at len b in
     let r = body-read (part s at len) bytes (ap isRead (h .reads)) in

@@ -11,8 +11,9 @@ use Rattle.steps.specs.declared.Window.{Window}
 use Rattle.steps.specs.Key.{isVerdict}
 use Rattle.image.specs.Layout.{idSize}
 
--- the arguments of a request but for the image: the descriptor's id, the fay, the terminal and the resource that ask; the mode; the clock and the host's session
--- length, in seconds; the ids that are revoked, one after the other; the host's verdict on the signature, and the key's window
+-- the arguments of a request but for the image: the descriptor's id, the fay, the terminal and the resource that ask; the mode; the
+-- clock and the host's session length, in seconds; the ids that are revoked, one after the other; the host's verdict on the signature,
+-- and the key's window
 pub record Asked : Type 0 where
   pub id : List ℕ
   pub fay : List ℕ

@@ -1,4 +1,5 @@
--- The decision of a request, as the code takes it: the steps in document 01's order. These definitions compute. A reader of the promises does not need this page.
+-- The decision of a request, as the code takes it: the steps in document 01's order. These definitions compute. A reader of the
+-- promises does not need this page.
 use mathlib.Core.Bool.{Bool, true, false, not, cond, _&&_}
 use mathlib.Core.List.{List, [], _∷_}
 use Prim.Native.Nat.{ℕ, zero, suc, _+_, _-_, min}

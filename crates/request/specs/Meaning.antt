@@ -21,7 +21,12 @@ firstServing (g ∷ gs) m x i = orNext (grantServes g m x) i (maskOf (g .modes))
 
 -- what the steps look at
 abbrev pub factsOfDescriptor : Descriptor → Facts
-factsOfDescriptor d = record { before = d .payload .notBefore; after = d .payload .notAfter; fay = d .payload .fay; terminal = d .payload .terminal }
+factsOfDescriptor d = record {
+  before = d .payload .notBefore;
+  after = d .payload .notAfter;
+  fay = d .payload .fay;
+  terminal = d .payload .terminal;
+}
 
 -- the decision of a request in a sound image that holds the descriptor d under the id
 unfoldable pub decidedFor : Asked → Descriptor → Decision

@@ -43,7 +43,8 @@ AskedInOrder = (id fay terminal resource : List ℕ) (mode clock session : ℕ) 
 
 -- an id is in the revocation list exactly when it is one of its parts of 16 bytes
 abbrev pub ListedExactly : Type 0
-ListedExactly = (revoked id : List ℕ) → (isListed revoked id ≡ true) ↔ ((i : ℕ) × (16 * (i + 1) ≤ length revoked) × (part revoked (16 * i) 16 ≡ id))
+ListedExactly = (revoked id : List ℕ) → (isListed revoked id ≡ true)
+    ↔ ((i : ℕ) × (16 * (i + 1) ≤ length revoked) × (part revoked (16 * i) 16 ≡ id))
 
 -- ---- what an image holds under an id
 
@@ -62,7 +63,8 @@ pub record Among (bs : List (List ℕ)) (id : List ℕ) (d : Descriptor) : Type 
   pub inside : place < length bs
   pub there : getD bs place [] ≡ encode d
 
--- what the bytes s hold under the id: they are the image of no list of bodies; or of bodies of which none has the id; or of bodies of which d has it
+-- what the bytes s hold under the id: they are the image of no list of bodies; or of bodies of which none has the id; or of bodies of
+-- which d has it
 abbrev pub Under : List ℕ → List ℕ → Stored → Type 0
 Under s id badImage = AreBytes s × ((bs : List (List ℕ)) → Holds s bs → ⊥)
 Under s id notHeld = (bs : List (List ℕ)) × Holds s bs × AreBytes s × ((d : Descriptor) → Among bs id d → ⊥)
@@ -78,8 +80,8 @@ AllStored = (s id : List ℕ) → AreBytes s → (x : Stored) × Under s id x
 abbrev pub refusal : ℕ → DecisionNumbers
 refusal n = record { answer = n; grant = 0; mask = 0; «session_end» = 0 }
 
--- the arguments are well formed: the verdict is not above 2, the mode not above 3, the id 16 bytes; the fay, terminal and resource ids are well formed, the last
--- at most 256 bytes; the revocation list is a multiple of 16
+-- the arguments are well formed: the verdict is not above 2, the mode not above 3, the id 16 bytes; the fay, terminal and resource ids
+-- are well formed, the last at most 256 bytes; the revocation list is a multiple of 16
 abbrev pub formed : Asked → Bool
 formed q =
     leb (q .verdict) 2
@@ -129,8 +131,8 @@ abbrev pub firstMask : List Grant → ℕ → Path → ℕ
 firstMask [] m x = 0
 firstMask (g ∷ gs) m x = cond (grantServes g m x) (unionOf (g ∷ [])) (firstMask gs m x)
 
--- granted: that grant's place, its mask, and the session's end, the smaller of not_after and now + the host's session length; where the id is not held a step fails,
--- and nothing is granted
+-- granted: that grant's place, its mask, and the session's end, the smaller of not_after and now + the host's session length; where the
+-- id is not held a step fails, and nothing is granted
 abbrev pub grantedFor : Asked → Stored → DecisionNumbers
 grantedFor q badImage = refusal 0
 grantedFor q notHeld = refusal 0
@@ -154,7 +156,8 @@ DecidedExactly = (s : List ℕ) (q : Asked) (x : Stored) → Under s (q .id) x �
 
 -- the answer is 0 exactly when every step passes
 abbrev pub GrantedExactly : Type 0
-GrantedExactly = (s : List ℕ) (q : Asked) (x : Stored) → Under s (q .id) x → (numbersOf (decisionOf s q) .answer ≡ 0) ↔ AllPass (stepsFor q x)
+GrantedExactly = (s : List ℕ) (q : Asked) (x : Stored) → Under s (q .id) x → (numbersOf (decisionOf s q) .answer ≡ 0)
+    ↔ AllPass (stepsFor q x)
 
 -- and another answer exactly when it is that of the first step that fails
 abbrev pub RefusedExactly : Type 0
@@ -163,7 +166,8 @@ RefusedExactly = (s : List ℕ) (q : Asked) (x : Stored) (n : ℕ) → Under s (
 
 -- whatever the image is, a refusal's other numbers are 0
 abbrev pub RefusalsZero : Type 0
-RefusalsZero = (s : List ℕ) (q : Asked) → (numbersOf (decisionOf s q) .answer ≡ 0 → ⊥) → numbersOf (decisionOf s q) ≡ refusal (numbersOf (decisionOf s q) .answer)
+RefusalsZero = (s : List ℕ) (q : Asked) → (numbersOf (decisionOf s q) .answer ≡ 0 → ⊥)
+    → numbersOf (decisionOf s q) ≡ refusal (numbersOf (decisionOf s q) .answer)
 
 -- an image whose image edition or mode edition is another than 1 grants nothing; it is answered 16, where the arguments are well formed
 abbrev pub EditionsRefused : Type 0
@@ -179,8 +183,8 @@ pub record FirstServes (q : Asked) (d : Descriptor) (i : ℕ) (g : Grant) : Type
   pub serves : grantServes g (q .mode) (pathOf (q .resource)) ≡ true
   pub first : (j : ℕ) (h : Grant) → j < i → getD (d .payload .grants) j h ≡ h → grantServes h (q .mode) (pathOf (q .resource)) ≡ false
 
--- where the answer is 0 a descriptor is held under the id, and the numbers are the place of its first grant that serves, that grant's mask, and the smaller of
--- not_after and now + the host's session length
+-- where the answer is 0 a descriptor is held under the id, and the numbers are the place of its first grant that serves, that grant's
+-- mask, and the smaller of not_after and now + the host's session length
 abbrev pub GrantedGives : Type 0
 GrantedGives = (s : List ℕ) (q : Asked) → AreBytes s → numbersOf (decisionOf s q) .answer ≡ 0
     → (d : Descriptor) × Under s (q .id) (held d)
@@ -193,7 +197,8 @@ GrantedGives = (s : List ℕ) (q : Asked) → AreBytes s → numbersOf (decision
 abbrev pub BeginBoundary : Type 0
 BeginBoundary = (s : List ℕ) (q : Asked) (d : Descriptor) → Under s (q .id) (held d)
     → (q .clock ≡ d .payload .notBefore → (numbersOf (decisionOf s q) .answer ≡ 9 → ⊥) × (numbersOf (decisionOf s q) .answer ≡ 10 → ⊥))
-    × (q .clock + 1 ≡ d .payload .notBefore → formed q ≡ true → isListed (q .revoked) (q .id) ≡ false → numbersOf (decisionOf s q) ≡ refusal 9)
+    × (q .clock + 1 ≡ d .payload .notBefore → formed q ≡ true → isListed (q .revoked) (q .id) ≡ false
+    → numbersOf (decisionOf s q) ≡ refusal 9)
 
 -- one second before not_after is answered neither 9 nor 10; now = not_after is answered 10, where the steps before pass
 abbrev pub EndBoundary : Type 0
@@ -203,12 +208,15 @@ EndBoundary = (s : List ℕ) (q : Asked) (d : Descriptor) → Under s (q .id) (h
 
 -- ---- with submission
 
--- what was submitted with the answer 0 is an allowed descriptor's encoding, and after it a request for its id is decided on that very descriptor
+-- what was submitted with the answer 0 is an allowed descriptor's encoding, and after it a request for its id is decided on that very
+-- descriptor
 abbrev pub StoredDecided : Type 0
-StoredDecided = (d b : List ℕ) (clock verdict : ℕ) (window : Window) → AreBytes d → AreBytes b → numberOf (submitted d b clock verdict window) ≡ 0
+StoredDecided = (d b : List ℕ) (clock verdict : ℕ) (window : Window) → AreBytes d → AreBytes b
+    → numberOf (submitted d b clock verdict window) ≡ 0
     → (c : Descriptor) × Allowed c × (b ≡ encode c)
     × ((q : Asked) → q .id ≡ c .payload .id
-    → Under (afterOf d b clock verdict window) (q .id) (held c) × (numbersOf (decisionOf (afterOf d b clock verdict window) q) ≡ answerFor q (held c)))
+    → Under (afterOf d b clock verdict window) (q .id) (held c)
+    × (numbersOf (decisionOf (afterOf d b clock verdict window) q) ≡ answerFor q (held c)))
 
 -- after a submission, whatever it answered, a request for an id that what was submitted does not have is answered as before it
 abbrev pub OthersDecided : Type 0

@@ -28,7 +28,8 @@ allFrom f a (suc n) = f a && allFrom f (suc a) n
 all-at : (f : ℕ → Bool) (a n k : ℕ) → allFrom f a n ≡ true → k < n → f (a + k) ≡ true
 unfolding allFrom
 all-at f a zero k e h = absurd (omega arith)
-all-at f a (suc n) zero e h = let here : a ≡ a + 0 = omega arith in subst (λ (b : ℕ). f b ≡ true) here (and-left (f a) (allFrom f (suc a) n) e)
+all-at f a (suc n) zero e h = let here : a ≡ a + 0 = omega arith in subst (λ (b : ℕ). f b ≡ true) here
+    (and-left (f a) (allFrom f (suc a) n) e)
 all-at f a (suc n) (suc k) e h =
     let there : suc a + k ≡ a + suc k = omega arith in
     subst (λ (b : ℕ). f b ≡ true) there (all-at f (suc a) n k (and-right (f a) (allFrom f (suc a) n) e) (omega arith))

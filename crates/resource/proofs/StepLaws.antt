@@ -1,5 +1,5 @@
--- Laws of matching the first level of a pattern against the first level of a path (specs/Scan.antt), and what it says of all levels (specs/Text.antt).
--- Assumes nothing.
+-- Laws of matching the first level of a pattern against the first level of a path (specs/Scan.antt), and what it says of all levels
+-- (specs/Text.antt). Assumes nothing.
 use mathlib.Core.Path.{_≡_, refl, sym, ap, subst, _∙_}
 use mathlib.Core.Bool.{Bool, true, false, not, cond, _&&_, _||_, and-true, and-false}
 use mathlib.Core.List.{List, [], _∷_, _++_, append-nil}
@@ -220,7 +220,8 @@ front-name i (x ∷ l) (y ∷ k) {a} {b} h g e f = go (eqb x y) refl (front-name
     sum : i + suc (length l) ≡ (i + 1) + length l
     sum = omega arith
 
-    go : (t : Bool) → eqb x y ≡ t → nameStep (i + 1) (l ++ a) (k ++ b) ≡ cond (same l k) (tailStep ((i + 1) + length l) ((i + 1) + length l) a b) Differ
+    go : (t : Bool) → eqb x y ≡ t → nameStep (i + 1) (l ++ a) (k ++ b)
+        ≡ cond (same l k) (tailStep ((i + 1) + length l) ((i + 1) + length l) a b) Differ
         → nameStep i (x ∷ (l ++ a)) (y ∷ (k ++ b)) ≡ cond (eqb x y && same l k) (tailStep (i + suc (length l)) (i + suc (length l)) a b) Differ
     go true q r = name-equal i x y (l ++ a) (k ++ b) q (front-byte x l h) ∙ r ∙ sym (rw (q, sum))
     go false q r = name-other i x y (l ++ a) (k ++ b) q ∙ sym (rw q)
@@ -248,7 +249,8 @@ unfolding stepOf
 front-step l k {a} {b} h g e f = rw (front-star l h e, front-length k g f) (go (isStar l) refl)
   where
     go : (t : Bool) → isStar l ≡ t
-        → cond t (starStep (l ++ a) (k ++ b) (length k)) (nameStep 0 (l ++ a) (k ++ b)) ≡ cond (t || same l k) (tailStep (length l) (length k) a b) Differ
+        → cond t (starStep (l ++ a) (k ++ b) (length k)) (nameStep 0 (l ++ a) (k ++ b))
+        ≡ cond (t || same l k) (tailStep (length l) (length k) a b) Differ
     go true q = rw (same-equal l (42 ∷ []) q) (star-tail k e f)
     go false q = front-name 0 l k h g e f ∙ same-lengths l k a b (same l k) refl
 
@@ -293,7 +295,8 @@ star-level s = go (front-of (parted s))
 -- ---- what the step says of matching
 
 -- a level that is "*", or any other but "**", against a name
-level-match : (l k : List ℕ) (q : Levels) (xs : List (List ℕ)) → matches (withLevel (isStar l) l q) (k ∷ xs) ≡ ((isStar l || same l k) && matches q xs)
+level-match : (l k : List ℕ) (q : Levels) (xs : List (List ℕ))
+    → matches (withLevel (isStar l) l q) (k ∷ xs) ≡ ((isStar l || same l k) && matches q xs)
 level-match l k q xs = go (isStar l)
   where
     go : (t : Bool) → matches (withLevel t l q) (k ∷ xs) ≡ ((t || same l k) && matches q xs)
@@ -316,7 +319,8 @@ none-left l (k ∷ ls) = go (isStar l) (levelsOf (k ∷ ls))
     go false q = refl
 
 -- a pattern that is not "**" matches by its first level, and then by the others
-first-match : (p r : List ℕ) (ls ks : List (List ℕ)) (t : Bool) → Firsts p r ls ks t → isDeep p ≡ false → levelsMatch p r ≡ (t && matches (levelsOf ls) ks)
+first-match : (p r : List ℕ) (ls ks : List (List ℕ)) (t : Bool) → Firsts p r ls ks t → isDeep p ≡ false
+    → levelsMatch p r ≡ (t && matches (levelsOf ls) ks)
 unfolding levelsMatch
 first-match p r ls ks t f d =
     rw (f .of-p, f .of-r, first-spelled p (f .first-p) ls (f .of-p) d)

@@ -1,5 +1,5 @@
--- What the crates above stand on: of texts, of their first levels, and of covering. A reader of the promises does not need this page. Each statement `NameOfIt`
--- is proved in proofs/Laws.antt as `name-of-it`.
+-- What the crates above stand on: of texts, of their first levels, and of covering. A reader of the promises does not need this page.
+-- Each statement `NameOfIt` is proved in proofs/Laws.antt as `name-of-it`.
 use mathlib.Core.Path.{_≡_}
 use mathlib.Core.Logic.{_↔_}
 use mathlib.Core.Bool.{Bool, true, false, _&&_, _||_}
@@ -55,7 +55,8 @@ FirstStar = (s : List ℕ) → (l : List ℕ) × (ls : List (List ℕ)) × (leve
 
 -- the first level of a text that is not "**" spells "*" or a name, before what the others spell
 abbrev pub SpelledFirst : Type 0
-SpelledFirst = (s l : List ℕ) (ls : List (List ℕ)) → levels s ≡ l ∷ ls → isDeep s ≡ false → levelsOf (l ∷ ls) ≡ withLevel (isStar l) l (levelsOf ls)
+SpelledFirst = (s l : List ℕ) (ls : List (List ℕ)) → levels s ≡ l ∷ ls → isDeep s ≡ false
+    → levelsOf (l ∷ ls) ≡ withLevel (isStar l) l (levelsOf ls)
 
 -- ---- the first levels of two texts, and what the step from them says
 
@@ -74,7 +75,8 @@ alike [] (k ∷ ks) = false
 alike (l ∷ ls) [] = false
 alike (l ∷ ls) (k ∷ ks) = true
 
--- what a step says: the first levels do not fit, or levels follow only one of them; they fit and are the last; or they fit and "/" follows both
+-- what a step says: the first levels do not fit, or levels follow only one of them; they fit and are the last; or they fit and "/"
+-- follows both
 abbrev pub FirstLevels : List ℕ → List ℕ → Step → Type 0
 FirstLevels p r Differ = (ls : List (List ℕ)) × (ks : List (List ℕ)) × (t : Bool) × Firsts p r ls ks t × ((t && alike ls ks) ≡ false)
 FirstLevels p r Finish = Firsts p r [] [] true

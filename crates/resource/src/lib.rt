@@ -67,8 +67,8 @@ pub fn is_deep(p: &[u8]) -> bool
     matcher::is_deep(p)
 }
 
-// The first level of a pattern's levels p against the first level of r: a name against the same bytes, "*" against any. Where r is a pattern's
-// levels too, its wildcards stand for names that p does not have.
+// The first level of a pattern's levels p against the first level of r: a name against the same bytes, "*" against any. Where r is a
+// pattern's levels too, its wildcards stand for names that p does not have.
 pub fn step_levels(p: &[u8], r: &[u8]) -> Step
     ensures { λ o. ⌜ o ≡ stepOf (now (p .entry)) (now (r .entry)) ⌝ }
 {

@@ -42,7 +42,8 @@ unfolding inOrder orElse
 order-mapped f [] r = refl
 order-mapped f (s ∷ steps) r = go (s .passes) (order-mapped f steps r)
   where
-    go : (t : Bool) → f (inOrder steps r) ≡ inOrder (mapped f steps) (f r) → f (orElse t (s .refusal) (inOrder steps r)) ≡ orElse t (f (s .refusal)) (inOrder (mapped f steps) (f r))
+    go : (t : Bool) → f (inOrder steps r) ≡ inOrder (mapped f steps) (f r)
+        → f (orElse t (s .refusal) (inOrder steps r)) ≡ orElse t (f (s .refusal)) (inOrder (mapped f steps) (f r))
     go true e = e
     go false e = refl
 
@@ -53,7 +54,8 @@ pub all-pass : {R : Type 0} (steps : List (Step R)) → allPass steps ≡ true �
 all-pass [] e = tt
 all-pass (s ∷ steps) e = go (s .passes) refl e (all-pass steps)
   where
-    go : (b : Bool) → s .passes ≡ b → (b && allPass steps) ≡ true → (allPass steps ≡ true → AllPass steps) → (s .passes ≡ true) × AllPass steps
+    go : (b : Bool) → s .passes ≡ b → (b && allPass steps) ≡ true → (allPass steps ≡ true → AllPass steps)
+        → (s .passes ≡ true) × AllPass steps
     go true p e f = (p, f e)
     go false p e f = absurd (false≢true e)
 
@@ -62,7 +64,8 @@ pub none-is : {R : Type 0} (f : R → ℕ) (r : R) (steps : List (Step R)) → n
 none-is f r [] e = tt
 none-is f r (s ∷ steps) e = go (eqb (f (s .refusal)) (f r)) refl e (none-is f r steps)
   where
-    go : (b : Bool) → eqb (f (s .refusal)) (f r) ≡ b → (not b && noneHas f (f r) steps) ≡ true → (noneHas f (f r) steps ≡ true → NoneIs r steps)
+    go : (b : Bool) → eqb (f (s .refusal)) (f r) ≡ b → (not b && noneHas f (f r) steps) ≡ true
+        → (noneHas f (f r) steps ≡ true → NoneIs r steps)
         → (s .refusal ≡ r → ⊥) × NoneIs r steps
     go true p e k = absurd (false≢true e)
     go false p e k = (λ q. eqb-false (f (s .refusal)) (f r) p (ap f q), k e)

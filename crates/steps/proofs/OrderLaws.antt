@@ -15,7 +15,8 @@ unfolding inOrder orElse
 pass-exactly R [] r n = (λ e. tt, λ a. refl)
 pass-exactly R (s ∷ steps) r n = go (s .passes) refl (pass-exactly R steps r (n .1))
   where
-    go : (b : Bool) → s .passes ≡ b → (inOrder steps r ≡ r) ↔ AllPass steps → (orElse b (s .refusal) (inOrder steps r) ≡ r) ↔ ((s .passes ≡ true) × AllPass steps)
+    go : (b : Bool) → s .passes ≡ b → (inOrder steps r ≡ r) ↔ AllPass steps → (orElse b (s .refusal) (inOrder steps r) ≡ r)
+        ↔ ((s .passes ≡ true) × AllPass steps)
     go true e k = (λ h. (e, k .0 h), λ a. k .1 (a .1))
     go false e k = (λ h. absurd (n .0 h), λ a. no-way (a .0) e)
 
@@ -39,6 +40,7 @@ unfolding inOrder orElse
 fail-exactly R [] r x n = (λ e. absurd (n (sym e)), λ f. nothing-fails f)
 fail-exactly R (s ∷ steps) r x n = go (s .passes) refl (fail-exactly R steps r x n)
   where
-    go : (b : Bool) → s .passes ≡ b → (inOrder steps r ≡ x) ↔ FirstFails steps x → (orElse b (s .refusal) (inOrder steps r) ≡ x) ↔ FirstFails (s ∷ steps) x
+    go : (b : Bool) → s .passes ≡ b → (inOrder steps r ≡ x) ↔ FirstFails steps x → (orElse b (s .refusal) (inOrder steps r) ≡ x)
+        ↔ FirstFails (s ∷ steps) x
     go true e k = (λ h. later e (k .0 h), λ f. k .1 (fails-later f e))
     go false e k = (λ h. subst (FirstFails (s ∷ steps)) h (here e), λ f. fails-here f e)

@@ -1,4 +1,5 @@
--- What the crates above stand on: how an answer comes about step by step, and steps named by the number of their refusal. A reader of the promises does not need this page.
+-- What the crates above stand on: how an answer comes about step by step, and steps named by the number of their refusal. A reader of
+-- the promises does not need this page.
 use mathlib.Core.Path.{_≡_}
 use mathlib.Core.Bool.{Bool, true, false, not, cond, _&&_, _||_}
 use mathlib.Core.List.{List, [], _∷_}

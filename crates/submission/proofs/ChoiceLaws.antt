@@ -69,7 +69,8 @@ pub record Storing (d b : List ℕ) (clock verdict : ℕ) (window : Window) (r :
 
 -- An answer is what the steps come to, and leaves the buffer as it was; a body that is to be stored has passed every step.
 abbrev pub ChoiceIs : List ℕ → List ℕ → ℕ → ℕ → Window → Reading → Survey → Choice → Type 0
-ChoiceIs d b clock verdict window r v (Answer a) = (a ≡ inOrder (stepsBy d b clock verdict window r v) answers.Done) × (afterAnswer d b (isHeld v) a ≡ d)
+ChoiceIs d b clock verdict window r v (Answer a) = (a ≡ inOrder (stepsBy d b clock verdict window r v) answers.Done)
+    × (afterAnswer d b (isHeld v) a ≡ d)
 ChoiceIs d b clock verdict window r v (Store n end id mask) = Storing d b clock verdict window r v n end id mask
 
 -- A refusal whose step fails, where those before it pass, is a choice that says so.
@@ -80,14 +81,16 @@ refuses d b clock verdict window r v a n e =
     (sym (number-is (inOrder steps answers.Done) a (failed-by numberOf (numberOf a) steps answers.Done e)), refused-keeps d b (isHeld v) a (λ z. omega (arith, ap numberOf z)))
 
 -- Where every step passes, the answer is 0.
-all-done : (d b : List ℕ) (clock verdict : ℕ) (window : Window) (r : Reading) (v : Survey) → allPass (stepsBy d b clock verdict window r v) ≡ true
+all-done : (d b : List ℕ) (clock verdict : ℕ) (window : Window) (r : Reading) (v : Survey)
+    → allPass (stepsBy d b clock verdict window r v) ≡ true
     → answers.Done ≡ inOrder (stepsBy d b clock verdict window r v) answers.Done
 all-done d b clock verdict window r v e =
     let steps : List (Step Submission) = stepsBy d b clock verdict window r v in
     sym (passed-end steps answers.Done (all-pass steps e))
 
 module _ (d b : List ℕ) (clock verdict : ℕ) (window : Window) (known : isVerdict verdict ≡ true) where
-  module _ (n end : ℕ) (f : Fields) (early : leb (f .before) (clock + longestLead) ≡ true) (issuer : isThat verdict noKey ≡ false) (key : keyOpen window clock ≡ true) (signed : isThat verdict bad ≡ false) where
+  module _ (n end : ℕ) (f : Fields) (early : leb (f .before) (clock + longestLead) ≡ true) (issuer : isThat verdict noKey ≡ false)
+      (key : keyOpen window clock ≡ true) (signed : isThat verdict bad ≡ false) where
     -- Where the steps before it pass, the place of the body is what the last two steps come to.
     placed-is : (h : Held) → ChoiceIs d b clock verdict window (Read f) (Sound n end h) (placed d b n end h f)
     unfolding stepsBy placed

@@ -1,4 +1,5 @@
--- Laws that the proofs of the code apply: what the tests, calls and writes of the code say of the definitions of specs/Stages.antt. Assumes nothing.
+-- Laws that the proofs of the code apply: what the tests, calls and writes of the code say of the definitions of specs/Stages.antt.
+-- Assumes nothing.
 use mathlib.Core.Path.{_≡_, sym, ap, _∙_, subst}
 use mathlib.Core.Bool.{Bool, true, false, not}
 use mathlib.Core.List.{List}
@@ -33,12 +34,14 @@ use Rattle.submission.specs.declared.choose.Choice.the-variants.{Answer,
 use Rattle.submission.specs.declared.choose.Admission.{Admission}
 use Rattle.submission.specs.declared.choose.Admission.the-variants.{Refused, Admitted}
 use Rattle.submission.specs.Submission.{longestLead}
-use Rattle.submission.specs.Stages.{admitted, placed, whenAdmitted, chosenRead, chosenUnread, chosenBy, choiceOf, raised, withRow, grown}
+use Rattle.submission.specs.Stages.{admitted, placed, whenAdmitted, chosenRead, chosenUnread, chosenBy, choiceOf, raised, withRow}
+use Rattle.submission.specs.Stages.{grown}
 
 -- ---- the beginning, the issuer, the key and the signature
 
 -- A descriptor that begins more than a day ahead is refused.
-pub admit-late : (before clock verdict : ℕ) (window : Window) → clock + longestLead < before → Refused answers.Validity ≡ admitted before clock verdict window
+pub admit-late : (before clock verdict : ℕ) (window : Window) → clock + longestLead < before
+    → Refused answers.Validity ≡ admitted before clock verdict window
 unfolding admitted
 admit-late before clock verdict window h = rw (lt-leb before (clock + longestLead) h)
 
@@ -149,7 +152,8 @@ pub id-room : (b : List ℕ) (o : Reading) (f : Fields) → o ≡ readingOf (rea
 id-room b o f k e = read-in b f (reading-is b o (Read f) k e) .id
 
 -- A verdict that is none of the three is refused.
-pub choice-malformed : (d b : List ℕ) (clock verdict : ℕ) (window : Window) → 2 < verdict → Answer answers.Malformed ≡ choiceOf d b clock verdict window
+pub choice-malformed : (d b : List ℕ) (clock verdict : ℕ) (window : Window) → 2 < verdict
+    → Answer answers.Malformed ≡ choiceOf d b clock verdict window
 unfolding choiceOf isVerdict
 choice-malformed d b clock verdict window h = rw (lt-leb verdict 2 h)
 
@@ -170,11 +174,13 @@ module _ (d b : List ℕ) (clock verdict : ℕ) (window : Window) (h : verdict �
       ∙ choice-by (Read f) e
 
   -- A body with a fault of structure.
-  pub choice-structure : (r : Choice) → o ≡ Structure → r ≡ chosenUnread answers.Structure (surveyOf d (replicate idSize 0)) → r ≡ choiceOf d b clock verdict window
+  pub choice-structure : (r : Choice) → o ≡ Structure → r ≡ chosenUnread answers.Structure (surveyOf d (replicate idSize 0))
+      → r ≡ choiceOf d b clock verdict window
   choice-structure r e p = p ∙ choice-by Structure e
 
   -- A body with a period that is not valid.
-  pub choice-validity : (r : Choice) → o ≡ Validity → r ≡ chosenUnread answers.Validity (surveyOf d (replicate idSize 0)) → r ≡ choiceOf d b clock verdict window
+  pub choice-validity : (r : Choice) → o ≡ Validity → r ≡ chosenUnread answers.Validity (surveyOf d (replicate idSize 0))
+      → r ≡ choiceOf d b clock verdict window
   choice-validity r e p = p ∙ choice-by Validity e
 
 -- ---- the offsets are raised
@@ -184,7 +190,8 @@ pub raise-begin : (d : List ℕ) (n : ℕ) → raised d n 0 ≡ raised d (n - 0)
 raise-begin d n = let k : n ≡ n - 0 = omega arith in ap (λ (m : ℕ). raised d m 0) k
 
 -- A row whose offset was raised leaves the rows after it.
-pub raise-next : (d d′ : List ℕ) (n i v : ℕ) → i < n → v ≡ numberIn d (rowPlace i + offsetPlace) 4 → d′ ≡ putAt d (rowPlace i + offsetPlace) (bigEndian 4 (v + rowSize))
+pub raise-next : (d d′ : List ℕ) (n i v : ℕ) → i < n → v ≡ numberIn d (rowPlace i + offsetPlace) 4
+    → d′ ≡ putAt d (rowPlace i + offsetPlace) (bigEndian 4 (v + rowSize))
     → raised d (n - i) i ≡ raised d′ (n - (i + 1)) (i + 1)
 unfolding raised
 raise-next d d′ n i v l e p =
@@ -202,7 +209,8 @@ raise-end d n i l = let k : n - i ≡ 0 = omega arith in ap (λ (m : ℕ). raise
 
 -- The five writes of a row.
 pub row-done : (d d₁ d₂ d₃ d₄ d₅ : List ℕ) (r at : ℕ) (b : List ℕ) (id mask : ℕ)
-    → d₁ ≡ putAt d r (take (id + idSize - id) (drop id b)) → d₂ ≡ putAt d₁ (r + offsetPlace) (bigEndian 4 at) → d₃ ≡ putAt d₂ (r + lengthPlace) (bigEndian 4 (length b))
+    → d₁ ≡ putAt d r (take (id + idSize - id) (drop id b)) → d₂ ≡ putAt d₁ (r + offsetPlace) (bigEndian 4 at)
+    → d₃ ≡ putAt d₂ (r + lengthPlace) (bigEndian 4 (length b))
     → d₄ ≡ putAt d₃ (r + maskPlace) (bigEndian 1 mask) → d₅ ≡ putAt d₄ (r + zeroPlace) (bigEndian 7 0) → d₅ ≡ withRow d r at b id mask
 unfolding withRow
 row-done d d₁ d₂ d₃ d₄ d₅ r at b id mask e₁ e₂ e₃ e₄ e₅ = rw (e₅, e₄, e₃, e₂, e₁, lent-part b id idSize)

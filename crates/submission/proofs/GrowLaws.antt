@@ -21,13 +21,16 @@ use Rattle.submission.proofs.RaiseLaws.{rows-raised, with-row, header-c
 
 -- What is written, from what each write leaves.
 writes : (d : List ℕ) (n end : ℕ) (b : List ℕ) (id mask : ℕ) (d₁ d₃ d₄ d₅ : List ℕ) → movedUp d (rowPlace n) end rowSize ≡ d₁
-    → withRow (raised d₁ n 0) (rowPlace n) (end + rowSize) b id mask ≡ d₃ → putAt d₃ (end + rowSize) b ≡ d₄ → putAt d₄ countPlace (bigEndian 2 (n + 1)) ≡ d₅
+    → withRow (raised d₁ n 0) (rowPlace n) (end + rowSize) b id mask ≡ d₃ → putAt d₃ (end + rowSize) b ≡ d₄
+    → putAt d₄ countPlace (bigEndian 2 (n + 1)) ≡ d₅
     → grown d n end b id mask ≡ d₅
 unfolding grown
 writes d n end b id mask d₁ d₃ d₄ d₅ e₁ e₃ e₄ e₅ = rw (e₁, e₃, e₄) e₅
 
--- In the image of the bodies bs, with room for a row and the body, the writes leave the image of those bodies and the new one, and the old bytes beyond its end.
-pub grown-image : (d : List ℕ) (bs : List (List ℕ)) (b : List ℕ) (f : Fields) → Holds d bs → reading b ≡ Read f → length (imageOf bs) + rowSize + length b ≤ length d
+-- In the image of the bodies bs, with room for a row and the body, the writes leave the image of those bodies and the new one, and the
+-- old bytes beyond its end.
+pub grown-image : (d : List ℕ) (bs : List (List ℕ)) (b : List ℕ) (f : Fields) → Holds d bs → reading b ≡ Read f
+    → length (imageOf bs) + rowSize + length b ≤ length d
     → grown d (length bs) (length (imageOf bs)) b (f .id) (f .mask) ≡ imageOf (bs ++ (b ∷ [])) ++ drop (length (imageOf (bs ++ (b ∷ [])))) d
 unfolding moved
 grown-image d bs b f h e room =
@@ -96,7 +99,8 @@ grown-image d bs b f h e room =
     let m : ℕ = length (imageOf (bs ++ (b ∷ []))) in
     let ml : m ≡ end + rowSize + length b = one-more .of-image bs b in
     let rest : drop m d₅ ≡ drop m d
-    = k₅ .after m (omega arith) ∙ k₄ .after m (omega arith) ∙ k₃ .after m (omega arith) ∙ k₂ .after m (omega arith) ∙ k₁ .after m (omega arith) in
+    = k₅ .after m (omega arith) ∙ k₄ .after m (omega arith) ∙ k₃ .after m (omega arith) ∙ k₂ .after m (omega arith)
+    ∙ k₁ .after m (omega arith) in
     writes d n end b (f .id) (f .mask) d₁ d₃ d₄ d₅ e₁ e₃ e₄ e₅
     ∙ has-front d₅ (imageOf (bs ++ (b ∷ []))) has
     ∙ ap (λ (x : List ℕ). imageOf (bs ++ (b ∷ [])) ++ x) rest

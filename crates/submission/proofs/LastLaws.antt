@@ -1,4 +1,5 @@
--- The last two steps, what they leave in the buffer and what a lookup then finds, in document 01's numbers (specs/Promises.antt). Assumes nothing.
+-- The last two steps, what they leave in the buffer and what a lookup then finds, in document 01's numbers (specs/Promises.antt).
+-- Assumes nothing.
 use mathlib.Core.Path.{_≡_, refl, sym, ap, _∙_}
 use mathlib.Core.Logic.{_⊎_, inl, ⊎-elim}
 use mathlib.Core.Bool.{Bool, true, false, not, _&&_, _||_}
@@ -24,7 +25,8 @@ use Rattle.image.proofs.Promises.{layout-fixed, lookup-exactly}
 use Rattle.image.proofs.Laws.{encoding-read}
 use Rattle.submission.specs.declared.Submission.the-variants as answers
 use Rattle.submission.specs.Submission.{submitted, afterOf, numberOf}
-use Rattle.submission.specs.Promises.{bodies, descriptor, stepsFor, Gives, larger, Ready, LastSteps, StoredFound, OthersFound, LeadBoundary, RowBoundary}
+use Rattle.submission.specs.Promises.{bodies, descriptor, stepsFor, Gives, larger, Ready, LastSteps, StoredFound, OthersFound}
+use Rattle.submission.specs.Promises.{LeadBoundary, RowBoundary}
 use Rattle.submission.proofs.NumberLaws.{itself, number-descriptor}
 use Rattle.submission.proofs.StoredLaws.{refusal-keeps, repeat-keeps, stored-last, after-holds}
 
@@ -148,7 +150,8 @@ Alike s d id =
     (n .answer ≡ m .answer) × (part s (n .«body_at») (n .«body_len») ≡ part d (m .«body_at») (m .«body_len»))
 
 -- Buffers in which the id has the same body, or none, are alike.
-same-body : (s d id : List ℕ) (cs bs : List (List ℕ)) → Holds s cs → Holds d bs → length id ≡ 16 → bodyWith id cs ≡ bodyWith id bs → Alike s d id
+same-body : (s d id : List ℕ) (cs bs : List (List ℕ)) → Holds s cs → Holds d bs → length id ≡ 16 → bodyWith id cs ≡ bodyWith id bs
+    → Alike s d id
 unfolding part
 same-body s d id cs bs k h l e = go (bodyWith id bs) refl
   where
@@ -157,7 +160,8 @@ same-body s d id cs bs k h l e = go (bodyWith id bs) refl
         let n : numbersOf (findOf s id) ≡ refusal 7 = lookup-exactly .not-held s id cs l k (e ∙ f) in
         let m : numbersOf (findOf d id) ≡ refusal 7 = lookup-exactly .not-held d id bs l h f in (
           ap (λ (q : StoredNumbers). q .answer) (n ∙ sym m),
-          ap (λ (q : StoredNumbers). part s (q .«body_at») (q .«body_len»)) n ∙ sym (ap (λ (q : StoredNumbers). part d (q .«body_at») (q .«body_len»)) m),
+          ap (λ (q : StoredNumbers). part s (q .«body_at») (q .«body_len»)) n
+              ∙ sym (ap (λ (q : StoredNumbers). part d (q .«body_at») (q .«body_len»)) m),
         )
     go (some y) f =
         let n = lookup-exactly .held s id cs y l k (e ∙ f) in

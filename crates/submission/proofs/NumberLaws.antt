@@ -30,7 +30,8 @@ use Rattle.image.specs.Laws.{HeldIs}
 use Rattle.image.proofs.Laws.{body-read, encoding-read, survey-tells, survey-says, survey-unsound, one-more}
 use Rattle.submission.specs.declared.Submission.the-variants as answers
 use Rattle.submission.specs.Submission.{stepsBy, steps, submitted, numberOf}
-use Rattle.submission.specs.Promises.{Stored, unsound, bodies, structure, validity, descriptor as encoding, IsStored, IsBody, AlwaysMeets, stepsFor, SubmittedExactly, DoneExactly, RefusedExactly}
+use Rattle.submission.specs.Promises.{Stored, unsound, bodies, structure, validity, descriptor as encoding, IsStored, IsBody}
+use Rattle.submission.specs.Promises.{AlwaysMeets, stepsFor, SubmittedExactly, DoneExactly, RefusedExactly}
 use Rattle.submission.specs.Promises as promised
 
 -- ---- the number, by what reading answers and what the survey finds
@@ -44,7 +45,8 @@ number-by : (d b : List ℕ) (clock verdict : ℕ) (window : Window) (r : Readin
     → numberOf (submitted d b clock verdict window) ≡ numberBy d b clock verdict window r v
 unfolding submitted steps
 number-by d b clock verdict window r v e f =
-    order-mapped numberOf (stepsBy d b clock verdict window (reading b) (surveyOf d (idOf b))) answers.Done ∙ ap₂ (numberBy d b clock verdict window) e f
+    order-mapped numberOf (stepsBy d b clock verdict window (reading b) (surveyOf d (idOf b))) answers.Done
+    ∙ ap₂ (numberBy d b clock verdict window) e f
 
 -- A survey that does not call the image sound, whatever reading answers.
 by-unsound : (d b : List ℕ) (clock verdict : ℕ) (window : Window) (r : Reading) (x : promised.Body)
@@ -54,7 +56,8 @@ by-unsound d b clock verdict window r x = refl
 
 -- A body that reading answers with 1.
 by-structure : (d b : List ℕ) (clock verdict : ℕ) (window : Window) (bs : List (List ℕ)) (n end : ℕ) (h : Held)
-    → numberBy d b clock verdict window Structure (Sound n end h) ≡ inOrder (stepsFor (bodies bs) structure (length d) clock verdict window) 0
+    → numberBy d b clock verdict window Structure (Sound n end h)
+    ≡ inOrder (stepsFor (bodies bs) structure (length d) clock verdict window) 0
 unfolding stepsBy inOrder orElse isVerdict
 by-structure d b clock verdict window bs n end h = refl
 
@@ -70,13 +73,15 @@ by-descriptor : (d : List ℕ) (clock verdict : ℕ) (window : Window) (bs : Lis
     → numberBy d (encode c) clock verdict window (Read f) (Sound (length bs) (length (imageOf bs)) h)
     ≡ inOrder (stepsFor (bodies bs) (encoding c) (length d) clock verdict window) 0
 unfolding stepsBy isVerdict isThat keyOpen
-by-descriptor d clock verdict window bs c f Missing e k = ap (λ (l : List (Step ℕ)). inOrder l 0) (rw (e, k, one-more .of-image bs (encode c)))
+by-descriptor d clock verdict window bs c f Missing e k = ap (λ (l : List (Step ℕ)). inOrder l 0)
+    (rw (e, k, one-more .of-image bs (encode c)))
 by-descriptor d clock verdict window bs c f (Body at len g) e k = ap (λ (l : List (Step ℕ)). inOrder l 0) (rw (e, k .which))
 
 -- ---- the number of a descriptor
 
 -- The number for an allowed descriptor and a buffer that holds a list of bodies.
-pub number-descriptor : (d : List ℕ) (clock verdict : ℕ) (window : Window) (bs : List (List ℕ)) (c : Descriptor) → Holds d bs → AreBytes (encode c) → Allowed c
+pub number-descriptor : (d : List ℕ) (clock verdict : ℕ) (window : Window) (bs : List (List ℕ)) (c : Descriptor) → Holds d bs
+    → AreBytes (encode c) → Allowed c
     → numberOf (submitted d (encode c) clock verdict window) ≡ inOrder (stepsFor (bodies bs) (encoding c) (length d) clock verdict window) 0
 number-descriptor d clock verdict window bs c h bytes a =
     let r = encoding-read c bytes a in
@@ -109,7 +114,8 @@ validity-read b e = go (readingOf (readOf b)) e
 -- `SubmittedExactly`.
 pub submitted-exactly : SubmittedExactly
 submitted-exactly d b clock verdict window unsound x m =
-    number-by d b clock verdict window (reading b) Unsound refl (survey-unsound d (idOf b) (m .buffer-bytes) .1 (m .stored)) ∙ by-unsound d b clock verdict window (reading b) x
+    number-by d b clock verdict window (reading b) Unsound refl (survey-unsound d (idOf b) (m .buffer-bytes) .1 (m .stored))
+    ∙ by-unsound d b clock verdict window (reading b) x
 submitted-exactly d b clock verdict window (bodies bs) structure m =
     let w = survey-tells d (idOf b) bs (m .stored) in
     number-by d b clock verdict window Structure (Sound (length bs) (length (imageOf bs)) (w .0)) (structure-read b (m .body)) (w .1)
@@ -129,9 +135,11 @@ itself n = n
 -- No step's number is 0.
 never-zero : (s : Stored) (x : promised.Body) (room clock verdict : ℕ) (window : Window) → NoneIs 0 (stepsFor s x room clock verdict window)
 never-zero unsound x room clock verdict window = none-is itself 0 (stepsFor unsound x room clock verdict window) refl
-never-zero (bodies bs) structure room clock verdict window = none-is itself 0 (stepsFor (bodies bs) structure room clock verdict window) refl
+never-zero (bodies bs) structure room clock verdict window = none-is itself 0
+    (stepsFor (bodies bs) structure room clock verdict window) refl
 never-zero (bodies bs) validity room clock verdict window = none-is itself 0 (stepsFor (bodies bs) validity room clock verdict window) refl
-never-zero (bodies bs) (encoding c) room clock verdict window = none-is itself 0 (stepsFor (bodies bs) (encoding c) room clock verdict window) refl
+never-zero (bodies bs) (encoding c) room clock verdict window = none-is itself 0
+    (stepsFor (bodies bs) (encoding c) room clock verdict window) refl
 
 -- `DoneExactly`.
 pub done-exactly : DoneExactly

@@ -1,5 +1,6 @@
 -- The promises of specs/Promises.antt, each from its law. Assumes nothing.
-use Rattle.submission.specs.Promises.{AlwaysMeets, SubmittedExactly, DoneExactly, RefusedExactly, EditionsRefused, RefusalKeeps, RepeatKeeps, LastSteps, StoredFound, OthersFound, LeadBoundary, RowBoundary}
+use Rattle.submission.specs.Promises.{AlwaysMeets, SubmittedExactly, DoneExactly, RefusedExactly, EditionsRefused, RefusalKeeps}
+use Rattle.submission.specs.Promises.{RepeatKeeps, LastSteps, StoredFound, OthersFound, LeadBoundary, RowBoundary}
 use Rattle.submission.proofs.NumberLaws as number
 use Rattle.submission.proofs.StoredLaws as stored
 use Rattle.submission.proofs.LastLaws as last

@@ -1,4 +1,5 @@
--- What the writes of one row leave (specs/Stages.antt): an offset raised, all offsets raised, a row written in pieces, the row count written. Assumes nothing.
+-- What the writes of one row leave (specs/Stages.antt): an offset raised, all offsets raised, a row written in pieces, the row count
+-- written. Assumes nothing.
 use mathlib.Core.Path.{_≡_, refl, sym, ap, _∙_, subst}
 use mathlib.Core.List.{List, [], _∷_, _++_, append-assoc}
 use Prim.Native.Nat.{ℕ, suc, _+_, _*_, _≤_, _<_}
@@ -54,7 +55,8 @@ row-raised d r at b small h =
 
 -- The offsets of all rows raised: the rows of the bodies that lie so much higher, and no other byte is changed.
 pub rows-raised : (d : List ℕ) (i at : ℕ) (bs : List (List ℕ)) → at + length (joined bs) < 4294967296 → Has d (rowPlace i) (rowsOf at bs)
-    → Has (raised d (length bs) i) (rowPlace i) (rowsOf (at + rowSize) bs) × Kept d (raised d (length bs) i) (rowPlace i) (rowPlace i + rowSize * length bs)
+    → Has (raised d (length bs) i) (rowPlace i) (rowsOf (at + rowSize) bs)
+    × Kept d (raised d (length bs) i) (rowPlace i) (rowPlace i + rowSize * length bs)
 unfolding raised rowsOf joined
 rows-raised d i at [] small h = (h, kept-self d (rowPlace i) (rowPlace i + 0))
 rows-raised d i at (b ∷ bs) small h =
@@ -70,14 +72,17 @@ rows-raised d i at (b ∷ bs) small h =
     let d″ : List ℕ = raised d′ (length bs) (i + 1) in
     let s : (at + length b) + rowSize ≡ (at + rowSize) + length b = omega arith in
     let first : Has d″ r (row (at + rowSize) b) = y .1 .before r (row (at + rowSize) b) (omega (arith, lengths .of-row (at + rowSize) b)) (x .0) in (
-      has-both d″ r rowSize next (row (at + rowSize) b) (rowsOf ((at + rowSize) + length b) bs) (lengths .of-row (at + rowSize) b) step first (subst (λ (n : ℕ). Has d″ next (rowsOf n bs)) s (y .0)),
-      kept-join d d′ d″ r (r + rowSize) next (next + rowSize * length bs) r (r + rowSize * suc (length bs)) (x .1) (y .1) (omega arith) (omega arith) (omega arith) (omega arith),
+      has-both d″ r rowSize next (row (at + rowSize) b) (rowsOf ((at + rowSize) + length b) bs)
+          (lengths .of-row (at + rowSize) b) step first (subst (λ (n : ℕ). Has d″ next (rowsOf n bs)) s (y .0)),
+      kept-join d d′ d″ r (r + rowSize) next (next + rowSize * length bs) r (r + rowSize * suc (length bs)) (x .1) (y .1) (omega arith)
+          (omega arith) (omega arith) (omega arith),
     )
 
 -- ---- a row in pieces
 
 -- A piece written right after another is the two written together.
-put-next : (d : List ℕ) (r : ℕ) (s t : List ℕ) (p : ℕ) → r + length s ≡ p → p + length t ≤ length d → putAt (over d r s) p t ≡ over d r (s ++ t)
+put-next : (d : List ℕ) (r : ℕ) (s t : List ℕ) (p : ℕ) → r + length s ≡ p → p + length t ≤ length d
+    → putAt (over d r s) p t ≡ over d r (s ++ t)
 put-next d r s t p e h =
     let k : Kept d (over d r s) r (r + length s) = kept-over d r s (omega arith) in
     put-fits (over d r s) p t (omega (arith, k .long)) ∙ ap (λ (q : ℕ). over (over d r s) q t) (sym e) ∙ over-append d r s t (omega arith)
@@ -87,7 +92,8 @@ five : (a b c d e : List ℕ) → (((a ++ b) ++ c) ++ d) ++ e ≡ a ++ (b ++ (c 
 five a b c d e = simp append-assoc
 
 -- The row of a body, written in its five pieces, is the row written.
-pub with-row : (d : List ℕ) (r at : ℕ) (b : List ℕ) (f : Fields) → reading b ≡ Read f → r + rowSize ≤ length d → withRow d r at b (f .id) (f .mask) ≡ over d r (row at b)
+pub with-row : (d : List ℕ) (r at : ℕ) (b : List ℕ) (f : Fields) → reading b ≡ Read f → r + rowSize ≤ length d
+    → withRow d r at b (f .id) (f .mask) ≡ over d r (row at b)
 unfolding withRow row
 with-row d r at b f e room =
     let i : List ℕ = idOf b in

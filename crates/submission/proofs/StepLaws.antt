@@ -56,7 +56,8 @@ pub done-exactly : (d b : List ℕ) (clock verdict : ℕ) (window : Window)
     → (submitted d b clock verdict window ≡ answers.Done) ↔ AllPass (steps d b clock verdict window)
 unfolding submitted steps stepsBy
 done-exactly d b clock verdict window =
-    order.pass-exactly Submission (steps d b clock verdict window) answers.Done (none-is numberOf answers.Done (steps d b clock verdict window) refl)
+    order.pass-exactly Submission (steps d b clock verdict window) answers.Done
+    (none-is numberOf answers.Done (steps d b clock verdict window) refl)
 
 -- ---- what an answer says
 
@@ -81,7 +82,8 @@ done-passed d b clock verdict window e =
     let by : (n : ℕ) → passesBy numberOf n (steps d b clock verdict window) ≡ true = λ n. passed-by numberOf n (steps d b clock verdict window) p in
     record {
       sound = and-left _ true (by (numberOf answers.BadImage));
-      reads = read-passes (reading b) (and-left _ true (by (numberOf answers.Structure))) (and-left (not (isValidity (reading b))) _ (by (numberOf answers.Validity)));
+      reads = read-passes (reading b) (and-left _ true (by (numberOf answers.Structure)))
+          (and-left (not (isValidity (reading b))) _ (by (numberOf answers.Validity)));
       same-bytes = and-left _ true (by (numberOf answers.Duplicate));
       room = and-left _ true (by (numberOf answers.Full));
     }

@@ -33,7 +33,8 @@ use Rattle.submission.proofs.StepLaws.{number-is, done-passed, unsound-
 -- ---- what the survey finds
 
 -- The survey for an id that no body has.
-survey-new : (d id : List ℕ) (bs : List (List ℕ)) → Holds d bs → bodyWith id bs ≡ none → surveyOf d id ≡ Sound (length bs) (length (imageOf bs)) Missing
+survey-new : (d id : List ℕ) (bs : List (List ℕ)) → Holds d bs → bodyWith id bs ≡ none
+    → surveyOf d id ≡ Sound (length bs) (length (imageOf bs)) Missing
 survey-new d id bs h new = let w = survey-tells d id bs h in w .1 ∙ ap (Sound (length bs) (length (imageOf bs))) (go (w .0) (w .2))
   where
     go : (x : Held) → HeldIs d id bs x → x ≡ Missing
@@ -61,11 +62,13 @@ survey-repeat d id bs c h held = let w = survey-tells d id bs h in go (w .0) (w 
 -- `RefusalKeeps`.
 pub refusal-keeps : RefusalKeeps
 unfolding afterOf
-refusal-keeps d b clock verdict window other = refused-keeps d b (isHeld (surveyOf d (idOf b))) (submitted d b clock verdict window) (λ e. other (ap numberOf e))
+refusal-keeps d b clock verdict window other = refused-keeps d b (isHeld (surveyOf d (idOf b))) (submitted d b clock verdict window)
+    (λ e. other (ap numberOf e))
 
 -- `RepeatKeeps`.
 pub repeat-keeps : RepeatKeeps
-repeat-keeps d b clock verdict window bs c h held = after-held d b clock verdict window (ap isHeld (survey-repeat d (idOf b) bs c h held .found))
+repeat-keeps d b clock verdict window bs c h held = after-held d b clock verdict window
+    (ap isHeld (survey-repeat d (idOf b) bs c h held .found))
 
 -- `EditionsRefused`.
 pub editions-refused : EditionsRefused
@@ -86,7 +89,8 @@ done-means d b clock verdict window bytes a z =
     go (Sound n end h) e t = (bodiesOf d, survey-says d (idOf b) bytes n end h e .holds)
     go Unsound e t = absurd (false≢true (sym (ap isSound e) ∙ t))
 
-module _ (d b : List ℕ) (clock verdict : ℕ) (window : Window) (bs : List (List ℕ)) (h : Holds d bs) (z : numberOf (submitted d b clock verdict window) ≡ 0) where
+module _ (d b : List ℕ) (clock verdict : ℕ) (window : Window) (bs : List (List ℕ)) (h : Holds d bs)
+    (z : numberOf (submitted d b clock verdict window) ≡ 0) where
   -- The answer is 0.
   done : submitted d b clock verdict window ≡ answers.Done
   done = number-is (submitted d b clock verdict window) answers.Done z
@@ -143,7 +147,8 @@ after-holds d b clock verdict window bs h = go (bodyWith (idOf b) bs) (eqb (numb
 
     go : (o : Option (List ℕ)) (t : Bool) → bodyWith (idOf b) bs ≡ o → eqb (numberOf (submitted d b clock verdict window)) 0 ≡ t
         → After d b clock verdict window bs
-    go (some c) t e f = kept (repeat-keeps d b clock verdict window bs c h e) (λ z. e ∙ ap some (repeat-same d b clock verdict window bs h z c e))
+    go (some c) t e f = kept (repeat-keeps d b clock verdict window bs c h e)
+        (λ z. e ∙ ap some (repeat-same d b clock verdict window bs h z c e))
     go none true e f =
         let z : numberOf (submitted d b clock verdict window) ≡ 0 = eqb-true (numberOf (submitted d b clock verdict window)) 0 f in
         (bs ++ (b ∷ []), stored-last d b clock verdict window bs h z e .0, λ i. one-more .mine bs b e, λ id o. one-more .others id bs b o)

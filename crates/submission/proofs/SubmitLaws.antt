@@ -1,5 +1,5 @@
--- What a choice comes to: an answer is the submission's and leaves the buffer as it was; a body that is stored leaves the buffer after the submission
--- (specs/Stages.antt, specs/Submission.antt). Assumes nothing.
+-- What a choice comes to: an answer is the submission's and leaves the buffer as it was; a body that is stored leaves the buffer after
+-- the submission (specs/Stages.antt, specs/Submission.antt). Assumes nothing.
 use mathlib.Core.Path.{_≡_, sym, ap, ap₂, _∙_, subst}
 use mathlib.Core.Bool.{Bool, true, false}
 use mathlib.Core.List.{List, [], _∷_, _++_}
@@ -26,12 +26,14 @@ use Rattle.submission.proofs.GrowLaws.{grown-image}
 -- ---- the buffer after a submission
 
 -- Where the id is held the buffer is as it was.
-pub after-held : (d b : List ℕ) (clock verdict : ℕ) (window : Window) → isHeld (surveyOf d (idOf b)) ≡ true → afterOf d b clock verdict window ≡ d
+pub after-held : (d b : List ℕ) (clock verdict : ℕ) (window : Window) → isHeld (surveyOf d (idOf b)) ≡ true
+    → afterOf d b clock verdict window ≡ d
 unfolding afterOf
 after-held d b clock verdict window e = ap (λ (t : Bool). afterAnswer d b t (submitted d b clock verdict window)) e
 
 -- Where the id is not held, the answer 0 leaves the image of the bodies and the new one, and the old bytes beyond its end.
-pub after-new : (d b : List ℕ) (clock verdict : ℕ) (window : Window) → isHeld (surveyOf d (idOf b)) ≡ false → submitted d b clock verdict window ≡ answers.Done
+pub after-new : (d b : List ℕ) (clock verdict : ℕ) (window : Window) → isHeld (surveyOf d (idOf b)) ≡ false
+    → submitted d b clock verdict window ≡ answers.Done
     → afterOf d b clock verdict window ≡ imageOf (bodiesOf d ++ (b ∷ [])) ++ drop (length (imageOf (bodiesOf d ++ (b ∷ [])))) d
 unfolding afterOf withBody
 after-new d b clock verdict window e f = ap₂ (afterAnswer d b) e f
@@ -57,7 +59,8 @@ choice-answer d b clock verdict window a e =
     (k .0, sym (k .1) ∙ ap (afterAnswer d b (isHeld v)) (k .0))
 
 -- A body that is to be stored is stored.
-pub choice-store : (d b : List ℕ) (clock verdict : ℕ) (window : Window) (n end id mask : ℕ) → AreBytes d → choiceOf d b clock verdict window ≡ Store n end id mask
+pub choice-store : (d b : List ℕ) (clock verdict : ℕ) (window : Window) (n end id mask : ℕ) → AreBytes d
+    → choiceOf d b clock verdict window ≡ Store n end id mask
     → Stores d b clock verdict window n end id mask
 unfolding submitted steps
 choice-store d b clock verdict window n end id mask bytes e =
@@ -75,7 +78,8 @@ choice-store d b clock verdict window n end id mask bytes e =
     = ap₂ (λ (x y : ℕ). grown d x y b id mask) many last ∙ ap₂ (grown d (length bs) (length (imageOf bs)) b) (k .named) (k .modes) in
     record {
       done = k .done;
-      after = writes ∙ grown-image d bs b f (s .holds) (k .reads) (omega arith) ∙ sym (after-new d b clock verdict window (ap isHeld (k .found)) (sym (k .done)));
+      after = writes ∙ grown-image d bs b f (s .holds) (k .reads) (omega arith)
+          ∙ sym (after-new d b clock verdict window (ap isHeld (k .found)) (sym (k .done)));
       few = k .few;
       start = omega arith;
       room = room;

@@ -1,5 +1,5 @@
--- What is promised of submission, and nothing else. Each statement `NameOfIt` is proved in proofs/Promises.antt as `name-of-it`. Document 01, "Submission, in
--- this order".
+-- What is promised of submission, and nothing else. Each statement `NameOfIt` is proved in proofs/Promises.antt as `name-of-it`.
+-- Document 01, "Submission, in this order".
 use mathlib.Core.Path.{_≡_}
 use mathlib.Core.Logic.{_↔_, _⊎_}
 use mathlib.Core.Bool.{Bool, true, false, not, _&&_, _||_}
@@ -66,9 +66,9 @@ abbrev pub isHeld : Option (List ℕ) → Bool
 isHeld none = false
 isHeld (some c) = true
 
--- The steps of a submission to a buffer of `room` bytes, each with its number. 15: host verdict above 2. 16. Then 1 or 2 from reading; 2 if not_before > now +
--- 86,400. 3: verdict 2. 14: now < valid_from, or there is a valid_until and now > valid_until. 4: verdict 1. Then, if the id is held, other bytes 5. 6 exactly
--- when it is not, and 64 rows are held or the larger image exceeds the buffer.
+-- The steps of a submission to a buffer of `room` bytes, each with its number. 15: host verdict above 2. 16. Then 1 or 2 from reading;
+-- 2 if not_before > now + 86,400. 3: verdict 2. 14: now < valid_from, or there is a valid_until and now > valid_until. 4: verdict 1.
+-- Then, if the id is held, other bytes 5. 6 exactly when it is not, and 64 rows are held or the larger image exceeds the buffer.
 abbrev pub stepsFor : Stored → Body → ℕ → ℕ → ℕ → Window → List (Step ℕ)
 stepsFor unsound x room clock verdict window =
     step (leb verdict 2) 15
@@ -122,11 +122,13 @@ EditionsRefused = (d b : List ℕ) (clock verdict : ℕ) (window : Window) → v
 
 -- a refusal leaves every byte as it was
 abbrev pub RefusalKeeps : Type 0
-RefusalKeeps = (d b : List ℕ) (clock verdict : ℕ) (window : Window) → (numberOf (submitted d b clock verdict window) ≡ 0 → ⊥) → afterOf d b clock verdict window ≡ d
+RefusalKeeps = (d b : List ℕ) (clock verdict : ℕ) (window : Window) → (numberOf (submitted d b clock verdict window) ≡ 0 → ⊥)
+    → afterOf d b clock verdict window ≡ d
 
 -- so does a repeat: a body is held under the id
 abbrev pub RepeatKeeps : Type 0
-RepeatKeeps = (d b : List ℕ) (clock verdict : ℕ) (window : Window) (bs : List (List ℕ)) (c : List ℕ) → Holds d bs → bodyWith (idOf b) bs ≡ some c
+RepeatKeeps = (d b : List ℕ) (clock verdict : ℕ) (window : Window) (bs : List (List ℕ)) (c : List ℕ) → Holds d bs
+    → bodyWith (idOf b) bs ≡ some c
     → afterOf d b clock verdict window ≡ d
 
 -- the number that is answered, and the buffer after it
@@ -145,8 +147,8 @@ pub record Ready (d : List ℕ) (bs : List (List ℕ)) (c : Descriptor) (clock :
   pub opened : window .from ≤ clock
   pub lasts : window .bounded ≡ true → clock ≤ window .until
 
--- Where the signature is good and the steps before pass: if the id is held, the same bytes give 0 and no change, other bytes 5; 6 if 64 rows are held or the
--- larger image exceeds the buffer; else the row and body are added last, and bytes beyond the new end stay.
+-- Where the signature is good and the steps before pass: if the id is held, the same bytes give 0 and no change, other bytes 5; 6 if 64
+-- rows are held or the larger image exceeds the buffer; else the row and body are added last, and bytes beyond the new end stay.
 pub record LastSteps : Type 0 where
   pub same-held : (d : List ℕ) (bs : List (List ℕ)) (c : Descriptor) (clock : ℕ) (window : Window)
       → Ready d bs c clock window → c .payload .notBefore ≤ clock + 86400
@@ -168,13 +170,15 @@ pub record LastSteps : Type 0 where
 
 -- what was stored is what a lookup then finds
 abbrev pub StoredFound : Type 0
-StoredFound = (d b : List ℕ) (clock verdict : ℕ) (window : Window) (bs : List (List ℕ)) → Holds d bs → numberOf (submitted d b clock verdict window) ≡ 0
+StoredFound = (d b : List ℕ) (clock verdict : ℕ) (window : Window) (bs : List (List ℕ)) → Holds d bs
+    → numberOf (submitted d b clock verdict window) ≡ 0
     → let after = afterOf d b clock verdict window in
     FoundAt after b (numbersOf (findOf after (idOf b)))
 
 -- and every other id is answered what it was answered before, with the same bytes
 abbrev pub OthersFound : Type 0
-OthersFound = (d b : List ℕ) (clock verdict : ℕ) (window : Window) (bs : List (List ℕ)) (id : List ℕ) → Holds d bs → length id ≡ 16 → (idOf b ≡ id → ⊥)
+OthersFound = (d b : List ℕ) (clock verdict : ℕ) (window : Window) (bs : List (List ℕ)) (id : List ℕ) → Holds d bs → length id ≡ 16
+    → (idOf b ≡ id → ⊥)
     → let after = afterOf d b clock verdict window in
     let n = numbersOf (findOf after id) in
     let m = numbersOf (findOf d id) in
@@ -195,5 +199,6 @@ abbrev pub RowBoundary : Type 0
 RowBoundary = (d : List ℕ) (bs : List (List ℕ)) (c : Descriptor) (clock : ℕ) (window : Window) → Ready d bs c clock window
     → c .payload .notBefore ≤ clock + 86400 → bodyWith (c .payload .id) bs ≡ none → length (imageOf (larger bs c)) ≤ length d
     → (length bs ≡ 63
-    → (numberOf (submitted d (encode c) clock 0 window) ≡ 0) × Holds (afterOf d (encode c) clock 0 window) (larger bs c) × (length (larger bs c) ≡ 64))
+    → (numberOf (submitted d (encode c) clock 0 window) ≡ 0) × Holds (afterOf d (encode c) clock 0 window) (larger bs c)
+    × (length (larger bs c) ≡ 64))
     × (length bs ≡ 64 → Gives d (encode c) clock 0 window 6 d)

@@ -1,5 +1,5 @@
--- What the code's stages answer and write, in the code's own order. A reader of the promises does not need this page: the laws in proofs/ tie it to
--- Submission.antt.
+-- What the code's stages answer and write, in the code's own order. A reader of the promises does not need this page: the laws in
+-- proofs/ tie it to Submission.antt.
 use mathlib.Core.Bool.{Bool, true, false, not, cond, _&&_}
 use mathlib.Core.List.{List, []}
 use Prim.Native.Nat.{ℕ, zero, suc, _+_}
@@ -41,7 +41,8 @@ admitted before clock verdict window =
 -- whether the body is held, held with other bytes, has room or not
 unfoldable pub placed : List ℕ → List ℕ → ℕ → ℕ → Held → Fields → Choice
 placed d b n end (Body at len g) f = cond (same (part d at len) b) (Answer answers.Done) (Answer answers.Duplicate)
-placed d b n end Missing f = cond (ltb n mostRows && leb (end + rowSize + length b) (length d)) (Store n end (f .id) (f .mask)) (Answer answers.Full)
+placed d b n end Missing f = cond (ltb n mostRows && leb (end + rowSize + length b) (length d)) (Store n end (f .id) (f .mask))
+    (Answer answers.Full)
 
 -- the refusal, or where the body is placed
 abbrev pub whenAdmitted : Admission → Choice → Choice
@@ -85,7 +86,8 @@ withRow d r at b id mask =
     let d₄ = putAt d₃ (r + maskPlace) (bigEndian 1 mask) in
     putAt d₄ (r + zeroPlace) (bigEndian 7 0)
 
--- n rows are held, which end at `end`: the bodies move up by a row, the offsets follow, row and body are added last, and the row count is one more
+-- n rows are held, which end at `end`: the bodies move up by a row, the offsets follow, row and body are added last, and the row count
+-- is one more
 unfoldable pub grown : List ℕ → ℕ → ℕ → List ℕ → ℕ → ℕ → List ℕ
 grown d n end b id mask =
     let d₁ = movedUp d (rowPlace n) end rowSize in

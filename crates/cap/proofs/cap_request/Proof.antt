@@ -17,7 +17,8 @@ use Rattle.cap.proofs.numbers.window.Reads as window-reads
 use Rattle.request.proofs.request.Reads as request-reads
 
 -- The numbers of a request with the key's window w′.
-shown-asked : (s id fay terminal resource : List ℕ) (mode clock session : ℕ) (revoked : List ℕ) (verdict : ℕ) (w w′ : Window) (r : Decision) → w ≡ w′
+shown-asked : (s id fay terminal resource : List ℕ) (mode clock session : ℕ) (revoked : List ℕ) (verdict : ℕ) (w w′ : Window)
+    (r : Decision) → w ≡ w′
     → r ≡ decisionOf s (asked id fay terminal resource mode clock session revoked verdict w)
     → numbersOf r ≡ numbersOf (decisionOf s (asked id fay terminal resource mode clock session revoked verdict w′))
 shown-asked s id fay terminal resource mode clock session revoked verdict w w′ r e k =

@@ -7,9 +7,11 @@ use Prim.Native.Nat.{ℕ, suc}
 use lib.ListN.{length}
 use Rattle.exact.specs.Reads.{encAll}
 use Rattle.cbor_item.specs.Encoding.{head}
-use Rattle.descriptor.specs.Model.{Pair, Grant, Payload, Signature, Descriptor, encPair, encPairs, encModes, encGrant, encGrants, encodePayload, encSignature, encode}
+use Rattle.descriptor.specs.Model.{Pair, Grant, Payload, Signature, Descriptor, encPair, encPairs, encModes, encGrant, encGrants}
+use Rattle.descriptor.specs.Model.{encodePayload, encSignature, encode}
 use Rattle.octets.specs.Order.{before}
-use Rattle.descriptor_laws.specs.Promises.{Entry, text, map, descriptorEntries, payloadEntries, signatureEntries, grantEntries, pairEntries, ascending, IsMap, MapsDeterministic}
+use Rattle.descriptor_laws.specs.Promises.{Entry, text, map, descriptorEntries, payloadEntries, signatureEntries, grantEntries}
+use Rattle.descriptor_laws.specs.Promises.{pairEntries, ascending, IsMap, MapsDeterministic}
 use Rattle.descriptor_laws.proofs.encoding.NameLaws as named
 
 -- ---- payload
@@ -83,8 +85,10 @@ module _ (gs : List Grant) (issued : ℕ) (issuer : List ℕ) (after since : ℕ
 of-payload : (p : Payload) → IsMap (encodePayload p) (payloadEntries p)
 of-payload p =
     record {
-      same = payload-map (p .grants) (p .issuedAt) (p .issuer) (p .notAfter) (p .notBefore) (p .terminal) (p .id) (p .fay) (p .metadata) (p .grantor);
-      order = payload-order (p .grants) (p .issuedAt) (p .issuer) (p .notAfter) (p .notBefore) (p .terminal) (p .id) (p .fay) (p .metadata) (p .grantor);
+      same = payload-map (p .grants) (p .issuedAt) (p .issuer) (p .notAfter) (p .notBefore) (p .terminal) (p .id) (p .fay) (p .metadata)
+          (p .grantor);
+      order = payload-order (p .grants) (p .issuedAt) (p .issuer) (p .notAfter) (p .notBefore) (p .terminal) (p .id) (p .fay)
+          (p .metadata) (p .grantor);
     }
 
 -- ---- grant

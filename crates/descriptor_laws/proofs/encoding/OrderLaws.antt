@@ -105,7 +105,8 @@ all-after last (p ∷ ps) a (suc j) q l e =
     transitive last (text (p .key)) (text (q .key)) (a .0 .ascends) (all-after (text (p .key)) ps (a .1) j q (omega arith) e)
 
 -- so of two the first stands before the second
-pub two-ascend : (last : List ℕ) (ps : List Pair) → AllFrom PairOk keyOf last ps → EachTwo (λ (p q : Pair). before (text (p .key)) (text (q .key)) ≡ true) ps
+pub two-ascend : (last : List ℕ) (ps : List Pair) → AllFrom PairOk keyOf last ps
+    → EachTwo (λ (p q : Pair). before (text (p .key)) (text (q .key)) ≡ true) ps
 two-ascend last [] a i j p q l m e f = absurd (omega arith)
 two-ascend last (r ∷ ps) a i zero p q l m e f = absurd (omega arith)
 two-ascend last (r ∷ ps) a zero (suc j) p q l m e f =

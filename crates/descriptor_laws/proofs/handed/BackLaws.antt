@@ -26,7 +26,8 @@ use Rattle.descriptor_laws.proofs.whole.DescriptorLaws.{halves-encode}
 use Rattle.descriptor_laws.proofs.whole.AnswerLaws.{reads-exactly}
 use Rattle.descriptor_laws.proofs.places.SeenLaws.{payload-here}
 use Rattle.descriptor_laws.proofs.places.PlaceLaws.{terminal-part, id-part, fay-part}
-use Rattle.descriptor_laws.proofs.handed.PartLaws.{lies, pairs-count, metadata-stands, issuer-lies, grantor-lies, key-lies, value-lies}
+use Rattle.descriptor_laws.proofs.handed.PartLaws.{lies, pairs-count, metadata-stands, issuer-lies, grantor-lies, key-lies}
+use Rattle.descriptor_laws.proofs.handed.PartLaws.{value-lies}
 use Rattle.descriptor_laws.proofs.handed.NumberLaws.{answered-exactly}
 
 -- ---- counts

@@ -15,7 +15,8 @@ use Rattle.descriptor.specs.Allowed.{GrantOk}
 use Rattle.descriptor.specs.Reader.{GrantSeen, grantAt}
 use Rattle.descriptor.specs.View.{grantView}
 use Rattle.descriptor.specs.Numbers.{grantNumbers}
-use Rattle.descriptor_laws.specs.Promises.{array, StandsIf, GrantHandedBack, noGrant, GrantStands, GrantFound, GrantAbsent, GrantHanded}
+use Rattle.descriptor_laws.specs.Promises.{array, StandsIf, GrantHandedBack, noGrant, GrantStands, GrantFound, GrantAbsent}
+use Rattle.descriptor_laws.specs.Promises.{GrantHanded}
 use Rattle.descriptor_laws.proofs.grants.MaskLaws.{mask-exactly}
 use Rattle.descriptor_laws.proofs.grants.GrantLaws.{grant-exact}
 use Rattle.descriptor_laws.proofs.grants.GrantsLaws.{pattern-at}
@@ -53,15 +54,18 @@ module _ (s : List ℕ) (at : ℕ) (g : Grant) where
       }
 
 -- so are those of what is read of it
-read-found : (s : List ℕ) → AreBytes s → (at : ℕ) (g : Grant) → GrantOk g → Has s at (encGrant g) → GrantHandedBack s g (grantNumbers (grantAt s at))
+read-found : (s : List ℕ) → AreBytes s → (at : ℕ) (g : Grant) → GrantOk g → Has s at (encGrant g)
+    → GrantHandedBack s g (grantNumbers (grantAt s at))
 read-found s bs at g q h =
-    subst (λ (o : Got GrantSeen). GrantHandedBack s g (grantNumbers o)) (sym (complete (grant-exact s bs at) g q h)) (seen-found s at g (at + length (encGrant g)) q h)
+    subst (λ (o : Got GrantSeen). GrantHandedBack s g (grantNumbers o)) (sym (complete (grant-exact s bs at) g q h))
+    (seen-found s at g (at + length (encGrant g)) q h)
 
 pub grant-found : GrantFound
 grant-found s bs at g w = read-found s bs at g (within-grant _ g (w .allowed)) (w .there)
 
 -- where no grant stands there are zeros
-none-found : (s : List ℕ) (at : ℕ) (o : Got GrantSeen) → Reads s at GrantOk encGrant (grantView at) o → ((g : Grant) → GrantStands s at g → ⊥)
+none-found : (s : List ℕ) (at : ℕ) (o : Got GrantSeen) → Reads s at GrantOk encGrant (grantView at) o
+    → ((g : Grant) → GrantStands s at g → ⊥)
     → grantNumbers o ≡ noGrant
 none-found s at (got v n) (found a) f = absurd (f (a .val) (record { allowed = grant-within _ (a .val) (a .fine) refl; there = a .has }))
 none-found s at refused (lacks r) f = refl

@@ -82,7 +82,8 @@ module _ (d : Descriptor) where
       content-lies s _ 3 (p .issuer) (has-right s _ kIssuerId _ (has-left s _ (kIssuerId ++ encText (p .issuer)) _ centre-at))
 
   -- grantor_id
-  pub grantor-lies : let v = partIf (descriptorView 0 d .payload .middle .grantor) in LiesIf (encode d) (v .at) (v .len) (d .payload .grantor)
+  pub grantor-lies : let v = partIf (descriptorView 0 d .payload .middle .grantor) in LiesIf (encode d) (v .at) (v .len)
+      (d .payload .grantor)
   grantor-lies =
       let s : List ℕ = encode d in
       let p : Payload = d .payload in
@@ -92,7 +93,8 @@ module _ (d : Descriptor) where
 
 module _ (d : Descriptor) where
   -- the signature from the text of key_id on
-  signed-at : Has (encode d) (0 + length beforePayload + length (encodePayload (d .payload)) + length beforeKeyId) (encFromKey (d .signature))
+  signed-at : Has (encode d) (0 + length beforePayload + length (encodePayload (d .payload)) + length beforeKeyId)
+      (encFromKey (d .signature))
   signed-at =
       let s : List ℕ = encode d in
       let e : List ℕ = encodePayload (d .payload) in

@@ -20,7 +20,8 @@ use Rattle.octets.proofs.TruthLaws.{eqb-test, leb-test, ltb-test, same-test, an
 use Rattle.descriptor_laws.proofs.values.OptionLaws.{size-small, size-view}
 use Rattle.resource.proofs.Laws.{terminal-length}
 use Rattle.descriptor_laws.proofs.grants.GrantsLaws.{owner, first-at, together-own, own-together}
-use Rattle.descriptor_laws.proofs.payload.PieceLaws.{Front, FrontOk, encFront, frontView, Centre, encCentre, centreView, Back, BackOk, encBack, backView, opening-exact, middle-exact, closing-exact}
+use Rattle.descriptor_laws.proofs.payload.PieceLaws.{Front, FrontOk, encFront, frontView, Centre, encCentre, centreView, Back}
+use Rattle.descriptor_laws.proofs.payload.PieceLaws.{BackOk, encBack, backView, opening-exact, middle-exact, closing-exact}
 
 -- ---- a payload and its pieces
 
@@ -74,7 +75,8 @@ Fits f c b =
 
 -- the test of these conditions
 fits-test : (s : List ℕ) (p : PayloadSeen) (k : ℕ) (u t : List ℕ)
-    → size (p .opening .pairs) + size (p .middle .grantor) ≡ k → part s (p .opening .grants .first) 45 ≡ u → part s (p .closing .terminal) 45 ≡ t
+    → size (p .opening .pairs) + size (p .middle .grantor) ≡ k → part s (p .opening .grants .first) 45 ≡ u
+    → part s (p .closing .terminal) 45 ≡ t
     → T (payloadFits s p) ↔ ((p .opening .keys ≡ 8 + k) × ((u ≡ t) × ((p .opening .issuedAt ≤ p .middle .notBefore) × (p .middle .notBefore < p .middle .notAfter))))
 unfolding payloadFits
 fits-test s p k u t ek eu et =
@@ -112,7 +114,8 @@ module _ (s : List ℕ) (bs : AreBytes s) where
       refine (closing-exact s bs _) (λ b. Fits f c b) (λ b. piecesView at f c b) _ _
       (λ b p₂ h₂. (
         fits-test s (piecesView at f c b) (size (f .metadata) + size (c .grantor)) (owner (f .grants)) (b .terminal)
-            (ap₂ (λ (i j : ℕ). i + j) (size-view _ (f .metadata)) (size-view _ (c .grantor))) (front-owner s at f p₀ h₀) (back-terminal s _ b p₂ h₂),
+            (ap₂ (λ (i j : ℕ). i + j) (size-view _ (f .metadata)) (size-view _ (c .grantor))) (front-owner s at f p₀ h₀)
+            (back-terminal s _ b p₂ h₂),
         refl,
       )))))
       PayloadOk encodePayload (payloadView at) (λ v. payloadOf (v .0) (v .1 .0) (v .1 .1))

@@ -14,7 +14,8 @@ use Rattle.octets.proofs.BytesLaws.{has-left, has-clash}
 use Rattle.exact.proofs.ReadsLaws.{recast, seq, keyed, mapped}
 use Rattle.exact.proofs.OptionalLaws.{optional}
 use Rattle.resource.specs.Identifier.{isFay, isTerminal}
-use Rattle.descriptor.specs.Keys.{kGrants, kMetadata, kIssuedAt, kIssuerId, kNotAfter, kGrantorId, kNotBefore, kTerminalId, kDescriptorId, kSubjectFayId}
+use Rattle.descriptor.specs.Keys.{kGrants, kMetadata, kIssuedAt, kIssuerId, kNotAfter, kGrantorId, kNotBefore, kTerminalId, kDescriptorId}
+use Rattle.descriptor.specs.Keys.{kSubjectFayId}
 use Rattle.descriptor.specs.Model.{Pair, Grant, encText, encBytes}
 use Rattle.descriptor.specs.Allowed.{TimeOk, TextOk, PairsOk}
 use Rattle.descriptor.specs.Value.{timeAt}

@@ -28,7 +28,8 @@ key-apart : (s : List ℕ) (at : ℕ) (metadata : Option (List Pair)) (rest : Li
     → Has s at (encOpt kMetadata encPairs metadata ++ (kIssuedAt ++ rest)) → Has s at (encGrant g) → ⊥
 unfolding encGrant
 key-apart s at none rest g h k =
-    has-clash s at _ kIssuedAt (heads-apart (g .constraints) .1) (has-left s at (head 5 (2 + size (g .constraints))) _ k) (has-left s at kIssuedAt rest h)
+    has-clash s at _ kIssuedAt (heads-apart (g .constraints) .1) (has-left s at (head 5 (2 + size (g .constraints))) _ k)
+    (has-left s at kIssuedAt rest h)
 key-apart s at (some ps) rest g h k =
     has-clash s at _ kMetadata (heads-apart (g .constraints) .0) (has-left s at (head 5 (2 + size (g .constraints))) _ k)
     (has-left s at kMetadata (encPairs ps) (has-left s at (kMetadata ++ encPairs ps) (kIssuedAt ++ rest) h))

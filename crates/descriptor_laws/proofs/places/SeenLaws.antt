@@ -74,13 +74,15 @@ grants-here d q =
     (has-right s _ kGrants _ (subst (Has s _) (append-assoc kGrants (encGrants (p .grants)) (behindGrants p)) keys))
 
 -- where they stand
-pub all-grants : (d : Descriptor) → Formed d → Has (encode d) (descriptorView 0 d .payload .opening .grants .start) (encAll encGrant (d .payload .grants))
+pub all-grants : (d : Descriptor) → Formed d → Has (encode d) (descriptorView 0 d .payload .opening .grants .start)
+    (encAll encGrant (d .payload .grants))
 all-grants d q = has-left (encode d) _ (encAll encGrant (d .payload .grants)) (behindGrants (d .payload)) (grants-here d q)
 
 -- where the i-th stands
 pub grant-here : (d : Descriptor) → Formed d → (i : ℕ) (g : Grant) → i < length (d .payload .grants) → getD (d .payload .grants) i g ≡ g
     → Has (encode d) (grantPlace d i) (encGrant g)
-grant-here d q i g l e = subst (λ (x : Grant). Has (encode d) (grantPlace d i) (encGrant x)) e (all-at (encode d) encGrant _ (d .payload .grants) i g l (all-grants d q))
+grant-here d q i g l e = subst (λ (x : Grant). Has (encode d) (grantPlace d i) (encGrant x)) e
+    (all-at (encode d) encGrant _ (d .payload .grants) i g l (all-grants d q))
 
 -- the next stands after it
 next-grant : (d : Descriptor) (i : ℕ) (g : Grant) → i < length (d .payload .grants) → getD (d .payload .grants) i g ≡ g
@@ -94,4 +96,5 @@ next-grant d i g l e =
 pub grants-walk : GrantsWalk
 grants-walk d bs q i g l e =
     let ok : GrantOk g = subst GrantOk e (all-get GrantOk (d .payload .grants) i g l (q .payload .grants)) in
-    complete (grant-exact (encode d) bs (grantPlace d i)) g ok (grant-here d q i g l e) ∙ ap (got (grantView (grantPlace d i) g)) (next-grant d i g l e)
+    complete (grant-exact (encode d) bs (grantPlace d i)) g ok (grant-here d q i g l e)
+    ∙ ap (got (grantView (grantPlace d i) g)) (next-grant d i g l e)

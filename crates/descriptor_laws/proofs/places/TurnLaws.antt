@@ -56,7 +56,8 @@ module _ (s t : List ℕ) (bs : AreBytes s) where
   turn-from [] at a o h = no-more at
   turn-from (g ∷ gs) at a o h =
       let mine : Has s at (encGrant g) = has-left s at (encGrant g) (encAll encGrant gs) h in
-      one-more (length gs) at (at + length (encGrant g)) (grantView at g) g gs (complete (grant-exact s bs at) g (a .0) mine) (grant-seen at g (a .0) (o .0) mine)
+      one-more (length gs) at (at + length (encGrant g)) (grantView at g) g gs (complete (grant-exact s bs at) g (a .0) mine)
+      (grant-seen at g (a .0) (o .0) mine)
       (turn-from gs (at + length (encGrant g)) (a .1) (o .1) (has-right s at (encGrant g) (encAll encGrant gs) h))
 
 pub grants-in-turn : GrantsInTurn

@@ -51,7 +51,8 @@ pair-exact s bs last g at i =
     (λ p q h. ((p .key, p .value), ((q .key, q .ascends), q .value), refl, refl))
 
 -- the reader of a map of at most so many pairs is exact
-pub pairs-exact : (s : List ℕ) → AreBytes s → (most at : ℕ) → most < 2 ^ 64 → Reads s at (PairsOk most) encPairs (λ (ps : List Pair). length ps) (pairsAt s most at)
+pub pairs-exact : (s : List ℕ) → AreBytes s → (most at : ℕ) → most < 2 ^ 64
+    → Reads s at (PairsOk most) encPairs (λ (ps : List Pair). length ps) (pairsAt s most at)
 unfolding pairsAt encPairs
 pairs-exact s bs most at l =
     recast

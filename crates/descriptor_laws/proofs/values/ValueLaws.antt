@@ -105,7 +105,8 @@ one-from s at i (k ∷ ks) apart =
 
 module _ (s : List ℕ) (bs : AreBytes s) (at : ℕ) where
   -- reading a number between two limits under a head is exact
-  pub count-exact : (major lo hi : ℕ) → major < 8 → hi < 2 ^ 64 → Reads s at (λ (n : ℕ). (lo ≤ n) × (n ≤ hi)) (head major) (λ (n : ℕ). n) (countAt s at major lo hi)
+  pub count-exact : (major lo hi : ℕ) → major < 8 → hi < 2 ^ 64
+      → Reads s at (λ (n : ℕ). (lo ≤ n) × (n ≤ hi)) (head major) (λ (n : ℕ). n) (countAt s at major lo hi)
   unfolding countAt
   count-exact major lo hi k l =
       recast
@@ -144,12 +145,14 @@ module _ (s : List ℕ) (bs : AreBytes s) (at : ℕ) where
       short (λ c e. rw e (T-true (good c)))
 
   -- reading a byte string of lo to hi bytes is exact
-  pub bytes-exact : (lo hi : ℕ) → hi < 2 ^ 64 → Reads s at (λ (c : List ℕ). (lo ≤ length c) × (length c ≤ hi)) encBytes (contentSpan at 2) (bytesAt s at lo hi)
+  pub bytes-exact : (lo hi : ℕ) → hi < 2 ^ 64 → Reads s at (λ (c : List ℕ). (lo ≤ length c) × (length c ≤ hi)) encBytes
+      (contentSpan at 2) (bytesAt s at lo hi)
   unfolding bytesAt
   bytes-exact lo hi l =
       string-exact 2 (λ c. (lo ≤ length c) × (length c ≤ hi)) (λ c. within lo hi (c .len)) (lit< tt)
       (λ c p. omega arith) (λ c e. within-test lo hi (length c))
 
   -- reading one of a table is exact, where no two entries can stand at one place
-  pub one-exact : (table : List (List ℕ)) → Apart table → Reads s at (λ (m : ℕ). m < length table) (λ (m : ℕ). getD table m []) (λ (m : ℕ). m) (oneOf s at 0 table)
+  pub one-exact : (table : List (List ℕ)) → Apart table → Reads s at (λ (m : ℕ). m < length table) (λ (m : ℕ). getD table m [])
+      (λ (m : ℕ). m) (oneOf s at 0 table)
   one-exact table apart = simp zero-add at (one-from s at 0 table apart)

@@ -22,7 +22,8 @@ pub record Both (d : Descriptor) : Type 0 where
   pub signature : SignatureOk (d .signature)
 
 -- the encoding of a descriptor is its payload and its signature from key_id on, each after fixed bytes
-pub halves-encode : (d : Descriptor) → (beforePayload ++ encodePayload (d .payload)) ++ (beforeKeyId ++ encFromKey (d .signature)) ≡ encode d
+pub halves-encode : (d : Descriptor) → (beforePayload ++ encodePayload (d .payload)) ++ (beforeKeyId ++ encFromKey (d .signature))
+    ≡ encode d
 unfolding encode encSignature beforePayload beforeKeyId head kPayload kVersion kSignature kKeyId
 halves-encode d = refl
 

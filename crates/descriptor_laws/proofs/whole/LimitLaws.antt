@@ -1,4 +1,5 @@
--- What is allowed (specs/Allowed.antt of `descriptor`) is what lies within the limits of specs/Promises.antt, and the other way about. Assumes nothing.
+-- What is allowed (specs/Allowed.antt of `descriptor`) is what lies within the limits of specs/Promises.antt, and the other way about.
+-- Assumes nothing.
 use mathlib.Core.Path.{_≡_, refl, sym, _∙_, subst}
 use mathlib.Core.Bool.{Bool, true, false, _||_, false≢true}
 use mathlib.Core.List.{List, [], _∷_, _++_}
@@ -15,7 +16,8 @@ use Rattle.resource.specs.Text.{isPattern, longest, patternOk}
 use Rattle.descriptor.specs.Model.{Pair, Grant, Descriptor}
 use Rattle.octets.specs.Order.{before}
 use Rattle.descriptor.specs.Allowed.{TextOk, PairOk, keyOf, PairsOk, isIn, ModeOk, seenWith, ModesOk, GrantOk, All, Formed}
-use Rattle.descriptor_laws.specs.Promises.{text, Each, EachTwo, TextWithin, PairsWithin, ModesWithin, GrantWithin, Within, AllowedExactly}
+use Rattle.descriptor_laws.specs.Promises.{text, Each, EachTwo, TextWithin, PairsWithin, ModesWithin, GrantWithin, Within}
+use Rattle.descriptor_laws.specs.Promises.{AllowedExactly}
 use Rattle.descriptor_laws.proofs.encoding.OrderLaws.{empty-before, two-ascend}
 use Rattle.descriptor_laws.proofs.places.SeenLaws.{all-get}
 
@@ -157,7 +159,8 @@ each-mode : (seen ms : List ℕ) → Each (λ (m : ℕ). m < 4) ms → Each (λ 
 each-mode seen [] k f o = tt
 each-mode seen (m ∷ ms) k f o = (
   record { known = k 0 m (omega arith) refl; new = f 0 m (omega arith) refl },
-  each-mode (m ∷ seen) ms (each-rest _ m ms k) (λ i n l e. in-not n m seen (two-first _ m ms o i n l e) (each-rest _ m ms f i n l e)) (two-rest _ m ms o),
+  each-mode (m ∷ seen) ms (each-rest _ m ms k) (λ i n l e. in-not n m seen (two-first _ m ms o i n l e) (each-rest _ m ms f i n l e))
+      (two-rest _ m ms o),
 )
 
 modes-within : (ms : List ℕ) → ModesOk ms → ModesWithin ms

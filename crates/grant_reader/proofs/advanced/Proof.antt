@@ -1,7 +1,8 @@
--- `advanced` gives the reader after the grant at its place. The borrow checker covers no function over a struct that holds a slice, so the proof follows
--- the MIR statement by statement: both fields are read, `place_after` is called on them, and a reader is made of the same slice and the number that came
--- back. Of `place_after` only its contract is used. A reader can be copied: one copy of what it owns stays for the end, the slice of a second is lent to
--- `place_after`, and a third, with the new number, is what the result owns. Assumes nothing.
+-- `advanced` gives the reader after the grant at its place. The borrow checker covers no function over a struct that holds a slice, so
+-- the proof follows the MIR statement by statement: both fields are read, `place_after` is called on them, and a reader is made of the
+-- same slice and the number that came back. Of `place_after` only its contract is used. A reader can be copied: one copy of what it
+-- owns stays for the end, the slice of a second is lent to `place_after`, and a third, with the new number, is what the result owns.
+-- Assumes nothing.
 use mathlib.Core.Path.{_≡_, refl, ap}
 use Prim.Native.Nat.{ℕ, _<_, _^_}
 use mathlib.Core.List.{[], _∷_}
@@ -20,9 +21,11 @@ use ghost.Atoms.{Atoms, sem}
 use contract.Lifetimes.{Lfts}
 use contract.Monad.{Fun, fact}
 use contract.Running.{givenOf, tables, tablesOf}
-use types.Kit.{Given, ‵, raw, _⊛_, given, ⋆, some, later, _$_, _∵_, !, qed, by, move, drop, use1, use2, split, join, learn, pick, rewrite, fsplit, fjoin, suffices, frame, await, done}
+use types.Kit.{Given, ‵, raw, _⊛_, given, ⋆, some, later, _$_, _∵_, !, qed, by, move, drop, use1, use2, split, join, learn, pick, rewrite}
+use types.Kit.{fsplit, fjoin, suffices, frame, await, done}
 use types.Part.{agg, whole, sub, look-in}
-use types.Run.{look, init, forget, stop, fld, from, load, of-opd, and-then, no-more, assigns, land, returns, enter, alloc1, alloc0, params1, pass1, pass0, free1, free0}
+use types.Run.{look, init, forget, stop, fld, from, load, of-opd, and-then, no-more, assigns, land, returns, enter, alloc1, alloc0}
+use types.Run.{params1, pass1, pass0, free1, free0}
 use sound.WpLaws.{FmC, fmOf, WpFn-mono}
 use denote.RattleType.{RattleType, owns}
 use denote.Laws.{Is, shows}
@@ -70,7 +73,8 @@ module _ {M : Type 1} (𝓤 : URA M) (H : Heap 𝓤) (A : Atoms 𝓤) (mem : Mem
   abbrev PlaceAfter : Contract 𝓤
   PlaceAfter = tripleOf 𝓤 H A after.signature (after.spec 𝓤 H A mem run)
 
-module _ {M : Type 1} (𝓤 : URA M) (H : Heap 𝓤) (A : Atoms 𝓤) (W : Given 𝓤 H A) (mem : Memory → SProp 𝓤) (run : Routine → Fun 𝓤) (κ : Lft) (q : Share) (r : GrantReader) where
+module _ {M : Type 1} (𝓤 : URA M) (H : Heap 𝓤) (A : Atoms 𝓤) (W : Given 𝓤 H A) (mem : Memory → SProp 𝓤) (run : Routine → Fun 𝓤)
+    (κ : Lft) (q : Share) (r : GrantReader) where
   -- the machine value of the reader
   abbrev mach : Val
   mach = R′.lowered r
@@ -116,7 +120,8 @@ module _ {M : Type 1} (𝓤 : URA M) (H : Heap 𝓤) (A : Atoms 𝓤) (W : Given
   asked = qed W ((‵ (flft κ q) ⊛ ‵ ftrue) ∷ ‵ (owns (ShrSlice (named 0) κ u8 ∷ usize ∷ []) fields passed) ∷ []) ∵ join ! $ frame ! $ done !
 
   -- what the reader owns gives that, and what the reader owns
-  lends : r .at < 2 ^ 64 → ent 𝓤 (onEntry 𝓤 H A advanced.signature (κ, tt) (q, tt) (r, tt) (mach ∷ [], tt)) (sep 𝓤 (PlaceAfter 𝓤 H A mem run .pre to) (sem 𝓤 H A Own))
+  lends : r .at < 2 ^ 64 → ent 𝓤 (onEntry 𝓤 H A advanced.signature (κ, tt) (q, tt) (r, tt) (mach ∷ [], tt))
+      (sep 𝓤 (PlaceAfter 𝓤 H A mem run .pre to) (sem 𝓤 H A Own))
   lends fits =
       qed W ((‵ (flft κ q) ⊛ ‵ ftrue) ∷ ‵ (owns (Reader (κ, tt) ∷ []) (r, tt) (mach ∷ [], tt)) ∷ []) ∵
       move ! (1 ∷ []) $ fsplit ! $ move ! (1 ∷ []) $ drop ! $ use1 W (‵ Own ⊛ ‵ Own) (LL.copy D (R′.the-copy (namedLft 1 0 tt (κ, tt))) 𝓤 H A W .twice r (mach ∷ [])) $ split ! $
@@ -139,7 +144,8 @@ module _ {M : Type 1} (𝓤 : URA M) (H : Heap 𝓤) (A : Atoms 𝓤) (W : Given
 
   module _ (C : Calls 𝓤 H) (Λ : Loops 𝓤 H) (fm : FmC 𝓤 H (W .laws) C) (known : Triple 𝓤 (C #place-after) (PlaceAfter 𝓤 H A mem run)) where
     -- the statements one after the other
-    walk : Holds (hasTy (R′.mir (named 0)) mach) × WT mach → ent 𝓤 (onEntry 𝓤 H A advanced.signature (κ, tt) (q, tt) (r, tt) (mach ∷ [], tt)) (WpFn 𝓤 H C Λ code.function (mach ∷ []) Post)
+    walk : Holds (hasTy (R′.mir (named 0)) mach) × WT mach → ent 𝓤
+        (onEntry 𝓤 H A advanced.signature (κ, tt) (q, tt) (r, tt) (mach ∷ [], tt)) (WpFn 𝓤 H C Λ code.function (mach ∷ []) Post)
     walk wt =
         qed W (raw (onEntry 𝓤 H A advanced.signature (κ, tt) (q, tt) (r, tt) (mach ∷ [], tt)) ∷ []) ∵ enter ! C Λ code.function (mach ∷ []) _ $
         alloc1 ! (λ l₀. alloc1 ! (λ l₁. alloc1 ! (λ l₂. alloc1 ! (λ l₃. alloc1 ! (λ l₄. alloc1 ! (λ l₅. alloc0 ! $ params1 ! $ pass1 ! (init ! 8 refl wt) $ pass0 ! $
@@ -169,10 +175,12 @@ module _ {M : Type 1} (𝓤 : URA M) (H : Heap 𝓤) (A : Atoms 𝓤) (W : Given
       (λ κs qs bounds a g are. via 𝓤 _ (fst∗ 𝓤 _ (emp 𝓤)) (walk 𝓤 H A W mem run (κs .0) (qs .0) (a .0) C Λ fm known (LL.lawful (R.the-type (namedLft 1 0 tt κs)) (R′.the-laws (namedLft 1 0 tt κs)) 𝓤 H A W .typed (a .0) _ (are .0) .0)))
 
 -- the function meets its contract where `place_after` does
-meets : {M : Type 1} (𝓤 : URA M) (H : Heap 𝓤) (A : Atoms 𝓤) (W : Given 𝓤 H A) (mem : Memory → SProp 𝓤) (run : Routine → Fun 𝓤) (𝓣 : Tables 𝓤 H)
+meets : {M : Type 1} (𝓤 : URA M) (H : Heap 𝓤) (A : Atoms 𝓤) (W : Given 𝓤 H A) (mem : Memory → SProp 𝓤) (run : Routine → Fun 𝓤)
+    (𝓣 : Tables 𝓤 H)
     → Triple 𝓤 (𝓣 .C #place-after) (PlaceAfter 𝓤 H A mem run)
     → Meets 𝓤 H A advanced.signature (WpFn 𝓤 H (𝓣 .C) (𝓣 .Λ) code.function) (advanced.spec 𝓤 H A mem run)
-meets 𝓤 H A W mem run 𝓣 known = walk-meets 𝓤 H A advanced.ended stayed W (goes-none 𝓤 H A W 1 Reader yes (λ κs x f. refl), tt) (advanced.clauses 𝓤 H A mem run) (WpFn 𝓤 H (𝓣 .C) (𝓣 .Λ) code.function) (WpFn-mono 𝓤 H (W .laws) 𝓣 code.function)
+meets 𝓤 H A W mem run 𝓣 known = walk-meets 𝓤 H A advanced.ended stayed W (goes-none 𝓤 H A W 1 Reader yes (λ κs x f. refl), tt)
+    (advanced.clauses 𝓤 H A mem run) (WpFn 𝓤 H (𝓣 .C) (𝓣 .Λ) code.function) (WpFn-mono 𝓤 H (W .laws) 𝓣 code.function)
     (walks 𝓤 H A W mem run (𝓣 .C) (𝓣 .Λ) (fmOf 𝓤 H (W .laws) 𝓣) known)
 
 -- and `place_after` does

@@ -1,4 +1,5 @@
--- `answer_input` is safe and ends. The invariant: both slices keep their lengths. The measure: the number of turns that are left. Assumes nothing.
+-- `answer_input` is safe and ends. The invariant: both slices keep their lengths. The measure: the number of turns that are left.
+-- Assumes nothing.
 use mathlib.Core.Path.{_≡_}
 use native.Mathlib.Omega.{arith}
 use lib.ListN.{length}

@@ -25,9 +25,12 @@ compared-requires c κs =
     let x = y .before .before .before .before in
     let b = x .before .before .before in
     let a = b .before .before .args in (
-      terminal-room _ _ (are-bytes (a .parent .now) (b .before .shared-slice-known .given)) (sym (x .v .given .1) ∙ x .before .before .read-descriptor .ensures),
-      terminal-room _ _ (are-bytes (a .child .now) (b .shared-slice-known2 .given)) (sym (y .w .given .1) ∙ y .before .before .read-descriptor2 .ensures),
-      grants-few _ _ (are-bytes (a .parent .now) (b .before .shared-slice-known .given)) (sym (x .v .given .1) ∙ x .before .before .read-descriptor .ensures),
+      terminal-room _ _ (are-bytes (a .parent .now) (b .before .shared-slice-known .given))
+          (sym (x .v .given .1) ∙ x .before .before .read-descriptor .ensures),
+      terminal-room _ _ (are-bytes (a .child .now) (b .shared-slice-known2 .given))
+          (sym (y .w .given .1) ∙ y .before .before .read-descriptor2 .ensures),
+      grants-few _ _ (are-bytes (a .parent .now) (b .before .shared-slice-known .given))
+          (sym (x .v .given .1) ∙ x .before .before .read-descriptor .ensures),
     )
 
 enum-told : tie.Need-enum-told
@@ -56,13 +59,15 @@ returns-2 : tie.Need-returns-2
 returns-2 c =
     let d = c .before .before in
     let x = d .before .before in
-    narrow-structure _ _ _ (sym (x .v .given .1) ∙ x .before .before .read-descriptor .ensures) (sym (c .enum-told .given .1) ∙ d .read-descriptor2 .ensures)
+    narrow-structure _ _ _ (sym (x .v .given .1) ∙ x .before .before .read-descriptor .ensures)
+    (sym (c .enum-told .given .1) ∙ d .read-descriptor2 .ensures)
 
 returns-3 : tie.Need-returns-3
 returns-3 c =
     let d = c .before .before in
     let x = d .before .before in
-    narrow-validity _ _ _ (sym (x .v .given .1) ∙ x .before .before .read-descriptor .ensures) (sym (c .enum-told2 .given .1) ∙ d .read-descriptor2 .ensures)
+    narrow-validity _ _ _ (sym (x .v .given .1) ∙ x .before .before .read-descriptor .ensures)
+    (sym (c .enum-told2 .given .1) ∙ d .read-descriptor2 .ensures)
 
 returns-4 : tie.Need-returns-4
 returns-4 c = narrow-no-parent _ _ _ (omega arith) (sym (c .enum-told3 .given .1) ∙ c .before .before .read-descriptor .ensures)

@@ -29,7 +29,8 @@ at1 c = at2 c .before
 abbrev questions : tie.Start → Asked
 questions s =
     let a = s .args in
-    asked (a .id .now) (a .fay .now) (a .terminal .now) (a .resource .now) (a .mode) (a .clock) (a .session) (a .revoked .now) (a .verdict) (a .window)
+    asked (a .id .now) (a .fay .now) (a .terminal .now) (a .resource .now) (a .mode) (a .clock) (a .session) (a .revoked .now)
+    (a .verdict) (a .window)
 
 -- the image is no longer than a number holds
 small : (k : tie.After-shared-slice-known) → length (k .before .args .image .now) < 2 ^ 64
@@ -56,7 +57,8 @@ surveyed : (c : tie.After-held2)
     ≡ surveyOf (a .image .now) (a .id .now)
 surveyed c =
     let h = before-match c in
-    sym (h .held .given .1 ∙ ap (Sound (h .held .given .0 .0) (h .held .given .0 .1 .0)) (c .held2 .given .1)) ∙ h .before .before .check .ensures
+    sym (h .held .given .1 ∙ ap (Sound (h .held .given .0 .0) (h .held .given .0 .1 .0)) (c .held2 .given .1))
+    ∙ h .before .before .check .ensures
 
 -- the body lies in the image
 inside : (c : tie.After-held2)

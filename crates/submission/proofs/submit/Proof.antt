@@ -7,7 +7,8 @@ use Rattle.submission.proofs.submit.Tie as tie
 
 -- what is known where the body is to be stored
 stores : (x : tie.After-rows) → let a = x .before .before .before .before .before .before .args in
-    Stores (a .image .now) (a .body .now) (a .clock) (a .verdict) (a .window) (x .rows .given .0 .0) (x .rows .given .0 .1 .0) (x .rows .given .0 .1 .1 .0) (x .rows .given .0 .1 .1 .1 .0)
+    Stores (a .image .now) (a .body .now) (a .clock) (a .verdict) (a .window) (x .rows .given .0 .0) (x .rows .given .0 .1 .0)
+    (x .rows .given .0 .1 .1 .0) (x .rows .given .0 .1 .1 .1 .0)
 stores x =
     let h = x .before .before in
     choice-store _ _ _ _ _ _ _ _ _ (h .choose .ensures .1) (sym (h .choose .ensures .0) ∙ x .rows .given .1)

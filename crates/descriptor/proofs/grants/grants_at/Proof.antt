@@ -8,19 +8,22 @@ use Rattle.exact.proofs.ReadsLaws.{took, stopped}
 use Rattle.descriptor.specs.Answer.{countRead, grantRead, sumOf, sumRead}
 use Rattle.descriptor.specs.Value.{countAt}
 use Rattle.descriptor.specs.Reader.{grantsAt}
-use Rattle.descriptor.proofs.GrantBounds.{count-room, grant-room, more-room, grantsFrom, grants-begin, grants-next, grants-stop, grants-done}
+use Rattle.descriptor.proofs.GrantBounds.{count-room, grant-room, more-room, grantsFrom, grants-begin, grants-next, grants-stop}
+use Rattle.descriptor.proofs.GrantBounds.{grants-done}
 use borrow.Author.Needs.{needs}
 use Rattle.descriptor.proofs.grants.grants_at.Statement.{statement}
 use Rattle.descriptor.proofs.grants.grants_at.Tie as tie
 
 abbrev Inv-loop : tie.InvT-loop
-Inv-loop s at count start next first sum₀ left₀ here₀ sum left here = (first + 45 ≤ length s) × (sum .pairs + left * 8 ≤ 2048) × (grantsFrom s count start first left (sumOf sum) here ≡ grantsAt s at)
+Inv-loop s at count start next first sum₀ left₀ here₀ sum left here = (first + 45 ≤ length s) × (sum .pairs + left * 8 ≤ 2048)
+    × (grantsFrom s count start first left (sumOf sum) here ≡ grantsAt s at)
 
 abbrev μ-loop : tie.MeasureT-loop
 μ-loop s at count start next first sum₀ left₀ here₀ sum left here = left
 
 -- how many grants there are to be
-counted : (k : tie.After-count Inv-loop μ-loop) → got (k .count .given .0 .0) (k .count .given .0 .1 .0) ≡ countAt (k .before .before .before .before .args .s .now) (k .before .before .before .before .args .at) 4 1 256
+counted : (k : tie.After-count Inv-loop μ-loop) → got (k .count .given .0 .0) (k .count .given .0 .1 .0)
+    ≡ countAt (k .before .before .before .before .args .s .now) (k .before .before .before .before .args .at) 4 1 256
 counted k = sym (ap countRead (k .count .given .1)) ∙ k .before .before .count-at .ensures
 
 -- they are 1 to 256
@@ -55,7 +58,8 @@ enum-told-2 c = search needs
 
 returns-2 : tie.Need-returns-2 Inv-loop μ-loop
 unfolding grantsAt
-returns-2 c = took _ (counted (c .before .before .before .before)) (stopped _ (sym (ap grantRead (c .enum-told2 .given .1)) ∙ c .before .before .grant-at .ensures))
+returns-2 c = took _ (counted (c .before .before .before .before))
+    (stopped _ (sym (ap grantRead (c .enum-told2 .given .1)) ∙ c .before .before .grant-at .ensures))
 
 sub-left : tie.Need-sub-left Inv-loop μ-loop
 sub-left c = omega (arith, limits (c .before .before .before .before .before) .0)
@@ -78,7 +82,8 @@ enum-told-3 c = search needs
 returns-3 : tie.Need-returns-3 Inv-loop μ-loop
 returns-3 c =
     let l = c .before .before .before .before in
-    grants-stop _ _ _ _ _ _ _ (c .before .before .before .loop-test .taken) (sym (ap sumRead (c .enum-told3 .given .1)) ∙ c .before .before .more-at .ensures) ∙ l .loop .inv .2
+    grants-stop _ _ _ _ _ _ _ (c .before .before .before .loop-test .taken)
+    (sym (ap sumRead (c .enum-told3 .given .1)) ∙ c .before .before .more-at .ensures) ∙ l .loop .inv .2
 
 sub-left-2 : tie.Need-sub-left-2 Inv-loop μ-loop
 sub-left-2 c = search needs

@@ -14,7 +14,8 @@ use Rattle.descriptor.proofs.grants.more_at.Statement.{statement}
 use Rattle.descriptor.proofs.grants.more_at.Tie as tie
 
 -- the grant that was read is within the bytes
-seen : (k : tie.After-fields) → (k .fields .given .0 .0 .pattern + 46 ≤ length (k .before .before .before .before .args .s .now)) × (k .fields .given .0 .0 .pairs ≤ 8)
+seen : (k : tie.After-fields) → (k .fields .given .0 .0 .pattern + 46 ≤ length (k .before .before .before .before .args .s .now))
+    × (k .fields .given .0 .0 .pairs ≤ 8)
 seen k = grant-room _ _ (sym (ap grantRead (k .fields .given .1)) ∙ k .before .before .grant-at .ensures)
 
 grant-at-requires : tie.Need-grant-at-requires

@@ -55,7 +55,8 @@ returns-2 c =
     let t = c .before in
     let e1 = t .before .before .before in
     let a = e1 .before .before .before .before .args in
-    mode-write (a .s .now) (a .mask) (a .at) (sym (e1 .before .has-at .ensures) ∙ e1 .if1 .left) (sym (t .before .has-at2 .ensures) ∙ t .if2 .taken) (c .with-mode2 .ensures)
+    mode-write (a .s .now) (a .mask) (a .at) (sym (e1 .before .has-at .ensures) ∙ e1 .if1 .left)
+    (sym (t .before .has-at2 .ensures) ∙ t .if2 .taken) (c .with-mode2 .ensures)
 
 slice-aggregate-has-at-3 : tie.Need-slice-aggregate-has-at-3
 slice-aggregate-has-at-3 c = search needs
@@ -80,7 +81,8 @@ returns-3 c =
     let e2 = t .before .before .before in
     let e1 = e2 .before .before .before in
     let a = e1 .before .before .before .before .args in
-    mode-execute (a .s .now) (a .mask) (a .at) (sym (e1 .before .has-at .ensures) ∙ e1 .if1 .left) (sym (e2 .before .has-at2 .ensures) ∙ e2 .if2 .left)
+    mode-execute (a .s .now) (a .mask) (a .at) (sym (e1 .before .has-at .ensures) ∙ e1 .if1 .left)
+    (sym (e2 .before .has-at2 .ensures) ∙ e2 .if2 .left)
     (sym (t .before .has-at3 .ensures) ∙ t .if3 .taken) (c .with-mode3 .ensures)
 
 slice-aggregate-has-at-4 : tie.Need-slice-aggregate-has-at-4
@@ -107,7 +109,8 @@ returns-4 c =
     let e2 = e3 .before .before .before in
     let e1 = e2 .before .before .before in
     let a = e1 .before .before .before .before .args in
-    mode-configure (a .s .now) (a .mask) (a .at) (sym (e1 .before .has-at .ensures) ∙ e1 .if1 .left) (sym (e2 .before .has-at2 .ensures) ∙ e2 .if2 .left)
+    mode-configure (a .s .now) (a .mask) (a .at) (sym (e1 .before .has-at .ensures) ∙ e1 .if1 .left)
+    (sym (e2 .before .has-at2 .ensures) ∙ e2 .if2 .left)
     (sym (e3 .before .has-at3 .ensures) ∙ e3 .if3 .left) (sym (t .before .has-at4 .ensures) ∙ t .if4 .taken) (c .with-mode4 .ensures)
 
 returns-5 : tie.Need-returns-5
@@ -117,7 +120,8 @@ returns-5 c =
     let e2 = e3 .before .before .before in
     let e1 = e2 .before .before .before in
     let a = e1 .before .before .before .before .args in
-    mode-none (a .s .now) (a .mask) (a .at) (sym (e1 .before .has-at .ensures) ∙ e1 .if1 .left) (sym (e2 .before .has-at2 .ensures) ∙ e2 .if2 .left)
+    mode-none (a .s .now) (a .mask) (a .at) (sym (e1 .before .has-at .ensures) ∙ e1 .if1 .left)
+    (sym (e2 .before .has-at2 .ensures) ∙ e2 .if2 .left)
     (sym (e3 .before .has-at3 .ensures) ∙ e3 .if3 .left) (sym (c .before .has-at4 .ensures) ∙ c .if4 .left)
 
 pub mode-at-spec : {M : Type 1} → statement M

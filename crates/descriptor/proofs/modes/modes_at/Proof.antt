@@ -1,4 +1,5 @@
--- `modes_at` meets its contract. The invariant: the mask is small, and the modes that are left decide. The measure: how many are left. Assumes nothing.
+-- `modes_at` meets its contract. The invariant: the mask is small, and the modes that are left decide. The measure: how many are left.
+-- Assumes nothing.
 use mathlib.Core.Path.{_≡_, refl, sym, ap, _∙_}
 use Prim.Native.Nat.{_<_}
 use native.Mathlib.Omega.{arith}
@@ -20,11 +21,13 @@ abbrev μ-loop : tie.MeasureT-loop
 μ-loop s at value next left₀ mask₀ here₀ left mask here = left
 
 -- what was answered for the head
-counted : (k : tie.After-value Inv-loop μ-loop) → got (k .value .given .0 .0) (k .value .given .0 .1 .0) ≡ countAt (k .before .before .before .before .args .s .now) (k .before .before .before .before .args .at) 4 1 4
+counted : (k : tie.After-value Inv-loop μ-loop) → got (k .value .given .0 .0) (k .value .given .0 .1 .0)
+    ≡ countAt (k .before .before .before .before .args .s .now) (k .before .before .before .before .args .at) 4 1 4
 counted k = sym (ap countRead (k .value .given .1)) ∙ k .before .before .count-at .ensures
 
 -- what was answered for one mode
-one : (w : tie.After-with Inv-loop μ-loop) → got (w .with .given .0 .0) (w .with .given .0 .1 .0) ≡ modeAt (w .before .before .before .before .before .before .before .before .before .before .args .s .now) (w .before .before .before .before .loop .mask) (w .before .before .before .before .loop .here)
+one : (w : tie.After-with Inv-loop μ-loop) → got (w .with .given .0 .0) (w .with .given .0 .1 .0)
+    ≡ modeAt (w .before .before .before .before .before .before .before .before .before .before .args .s .now) (w .before .before .before .before .loop .mask) (w .before .before .before .before .loop .here)
 one w = sym (ap countRead (w .with .given .1)) ∙ w .before .before .mode-at .ensures
 
 count-at-requires : tie.Need-count-at-requires Inv-loop μ-loop
@@ -57,7 +60,8 @@ returns-2 c =
     let l = c .before .before .before .before in
     let k = l .before .before in
     let a = k .before .before .before .before .args in
-    modes-no (a .s .now) (a .at) (k .value .given .0 .0) (k .value .given .0 .1 .0) (l .loop .left) (l .loop .mask) (l .loop .here) (counted k) (l .loop .inv .1) (omega arith)
+    modes-no (a .s .now) (a .at) (k .value .given .0 .0) (k .value .given .0 .1 .0) (l .loop .left) (l .loop .mask) (l .loop .here)
+    (counted k) (l .loop .inv .1) (omega arith)
     (sym (ap countRead (c .enum-told2 .given .1)) ∙ c .before .before .mode-at .ensures)
 
 sub-left : tie.Need-sub-left Inv-loop μ-loop
@@ -80,7 +84,8 @@ returns-3 c =
     let l = c .before in
     let k = l .before .before in
     let a = k .before .before .before .before .args in
-    modes-yes (a .s .now) (a .at) (k .value .given .0 .0) (k .value .given .0 .1 .0) (l .loop .left) (l .loop .mask) (l .loop .here) (counted k) (l .loop .inv .1) (omega arith)
+    modes-yes (a .s .now) (a .at) (k .value .given .0 .0) (k .value .given .0 .1 .0) (l .loop .left) (l .loop .mask) (l .loop .here)
+    (counted k) (l .loop .inv .1) (omega arith)
 
 pub modes-at-spec : {M : Type 1} → statement M
 modes-at-spec =

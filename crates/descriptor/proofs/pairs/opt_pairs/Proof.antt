@@ -34,12 +34,14 @@ returns-2 : tie.Need-returns-2
 returns-2 c =
     let k = c .before in
     let e = k .before .before .before in
-    opt-present _ _ _ (T-of-not _ (e .before .has-at .ensures) (e .if1 .left)) (sym (ap countRead (k .value .given .1)) ∙ k .before .before .pairs-at .ensures)
+    opt-present _ _ _ (T-of-not _ (e .before .has-at .ensures) (e .if1 .left))
+    (sym (ap countRead (k .value .given .1)) ∙ k .before .before .pairs-at .ensures)
 
 returns-3 : tie.Need-returns-3
 returns-3 c =
     let e = c .before .before .before in
-    opt-broken _ _ _ (T-of-not _ (e .before .has-at .ensures) (e .if1 .left)) (sym (ap countRead (c .enum-told .given .1)) ∙ c .before .before .pairs-at .ensures)
+    opt-broken _ _ _ (T-of-not _ (e .before .has-at .ensures) (e .if1 .left))
+    (sym (ap countRead (c .enum-told .given .1)) ∙ c .before .before .pairs-at .ensures)
 
 pub opt-pairs-spec : {M : Type 1} → statement M
 opt-pairs-spec =

@@ -18,8 +18,10 @@ key : (k : tie.After-start) → got (spanOf (k .start .given .0 .0) (k .start .g
 key k = sym (ap spanRead (k .start .given .1)) ∙ k .before .before .text-at .ensures
 
 -- the key lies in the bytes, after its place
-key-in : (k : tie.After-start) → (k .before .before .before .before .args .at ≤ k .start .given .0 .0) × (k .start .given .0 .0 + k .start .given .0 .1 .0 ≤ length (k .before .before .before .before .args .s .now))
-key-in k = text-bound (k .before .before .before .before .args .s .now) (k .before .before .before .before .args .at) 1 64 (k .start .given .0 .0) (k .start .given .0 .1 .0) (key k)
+key-in : (k : tie.After-start) → (k .before .before .before .before .args .at ≤ k .start .given .0 .0)
+    × (k .start .given .0 .0 + k .start .given .0 .1 .0 ≤ length (k .before .before .before .before .args .s .now))
+key-in k = text-bound (k .before .before .before .before .args .s .now) (k .before .before .before .before .args .at) 1 64
+    (k .start .given .0 .0) (k .start .given .0 .1 .0) (key k)
 
 -- what was answered for the value's text
 value : (f : tie.After-from) → got (spanOf (f .from .given .0 .0) (f .from .given .0 .1 .0)) (f .from .given .0 .0 + f .from .given .0 .1 .0) ≡ textAt (f .before .before .before .before .before .before .before .before .before .before .before .before .args .s .now) (f .before .before .before .before .before .before .before .before .start .given .0 .0 + f .before .before .before .before .before .before .before .before .start .given .0 .1 .0) 0 256
@@ -70,7 +72,8 @@ returns-2 : tie.Need-returns-2
 returns-2 c =
     let k = c .before .before .before .before .before in
     let a = k .before .before .before .before .args in
-    pair-early (a .s .now) (a .last) (a .len) (a .at) (k .start .given .0 .0) (k .start .given .0 .1 .0) _ (key k) (c .before .before2 .ensures) (c .if1 .taken)
+    pair-early (a .s .now) (a .last) (a .len) (a .at) (k .start .given .0 .0) (k .start .given .0 .1 .0) _ (key k)
+    (c .before .before2 .ensures) (c .if1 .taken)
 
 text-at-requires-2 : tie.Need-text-at-requires-2
 text-at-requires-2 c κs = search needs
@@ -86,7 +89,8 @@ returns-3 c =
     let e = c .before .before .before in
     let k = e .before .before .before .before .before in
     let a = k .before .before .before .before .args in
-    pair-no (a .s .now) (a .last) (a .len) (a .at) (k .start .given .0 .0) (k .start .given .0 .1 .0) _ (key k) (e .before .before2 .ensures) (e .if1 .left)
+    pair-no (a .s .now) (a .last) (a .len) (a .at) (k .start .given .0 .0) (k .start .given .0 .1 .0) _ (key k)
+    (e .before .before2 .ensures) (e .if1 .left)
     (sym (ap spanRead (c .enum-told2 .given .1)) ∙ c .before .before .text-at2 .ensures)
 
 sub-t12 : tie.Need-sub-t12
@@ -105,7 +109,8 @@ returns-4 c =
     let e = f .before .before .before in
     let k = e .before .before .before .before .before in
     let a = k .before .before .before .before .args in
-    pair-yes (a .s .now) (a .last) (a .len) (a .at) (k .start .given .0 .0) (k .start .given .0 .1 .0) _ (key k) (e .before .before2 .ensures) (f .from .given .0 .0) (f .from .given .0 .1 .0)
+    pair-yes (a .s .now) (a .last) (a .len) (a .at) (k .start .given .0 .0) (k .start .given .0 .1 .0) _ (key k)
+    (e .before .before2 .ensures) (f .from .given .0 .0) (f .from .given .0 .1 .0)
     (e .if1 .left) (value f)
 
 pub pair-at-spec : {M : Type 1} → statement M

@@ -1,4 +1,5 @@
--- `pairs_at` meets its contract. The invariant: the last key lies in the bytes, and the pairs that are left decide. The measure: how many are left. Assumes nothing.
+-- `pairs_at` meets its contract. The invariant: the last key lies in the bytes, and the pairs that are left decide. The measure: how
+-- many are left. Assumes nothing.
 use mathlib.Core.Path.{_≡_, refl, sym, ap, _∙_}
 use Prim.Native.Nat.{_+_, _≤_}
 use native.Mathlib.Omega.{arith}
@@ -16,13 +17,15 @@ use Rattle.descriptor.proofs.pairs.pairs_at.Statement.{statement}
 use Rattle.descriptor.proofs.pairs.pairs_at.Tie as tie
 
 abbrev Inv-loop : tie.InvT-loop
-Inv-loop s most at value next left₀ last₀ len₀ here₀ left last len here = (last + len ≤ length s) × (many (pairAt s) left (spanOf last len) here ≡ many (pairAt s) value (spanOf 0 0) next)
+Inv-loop s most at value next left₀ last₀ len₀ here₀ left last len here = (last + len ≤ length s)
+    × (many (pairAt s) left (spanOf last len) here ≡ many (pairAt s) value (spanOf 0 0) next)
 
 abbrev μ-loop : tie.MeasureT-loop
 μ-loop s most at value next left₀ last₀ len₀ here₀ left last len here = left
 
 -- what was answered for the head
-counted : (k : tie.After-value Inv-loop μ-loop) → got (k .value .given .0 .0) (k .value .given .0 .1 .0) ≡ countAt (k .before .before .before .before .args .s .now) (k .before .before .before .before .args .at) 5 0 (k .before .before .before .before .args .most)
+counted : (k : tie.After-value Inv-loop μ-loop) → got (k .value .given .0 .0) (k .value .given .0 .1 .0)
+    ≡ countAt (k .before .before .before .before .args .s .now) (k .before .before .before .before .args .at) 5 0 (k .before .before .before .before .args .most)
 counted k = sym (ap countRead (k .value .given .1)) ∙ k .before .before .count-at .ensures
 
 -- what was answered for one pair
@@ -59,7 +62,8 @@ returns-2 c =
     let l = c .before .before .before .before in
     let k = l .before .before in
     let a = k .before .before .before .before .args in
-    pairs-no (a .s .now) (a .most) (a .at) (k .value .given .0 .0) (k .value .given .0 .1 .0) (l .loop .left) (l .loop .last) (l .loop .len) (l .loop .here) (counted k) (l .loop .inv .1) (omega arith)
+    pairs-no (a .s .now) (a .most) (a .at) (k .value .given .0 .0) (k .value .given .0 .1 .0) (l .loop .left) (l .loop .last)
+    (l .loop .len) (l .loop .here) (counted k) (l .loop .inv .1) (omega arith)
     (sym (ap (pairRead (l .loop .here)) (c .enum-told2 .given .1)) ∙ c .before .before .pair-at .ensures)
 
 sub-left : tie.Need-sub-left Inv-loop μ-loop
@@ -82,7 +86,8 @@ returns-3 c =
     let l = c .before in
     let k = l .before .before in
     let a = k .before .before .before .before .args in
-    pairs-yes (a .s .now) (a .most) (a .at) (k .value .given .0 .0) (k .value .given .0 .1 .0) (l .loop .left) (l .loop .last) (l .loop .len) (l .loop .here) (counted k) (l .loop .inv .1) (omega arith)
+    pairs-yes (a .s .now) (a .most) (a .at) (k .value .given .0 .0) (k .value .given .0 .1 .0) (l .loop .left) (l .loop .last)
+    (l .loop .len) (l .loop .here) (counted k) (l .loop .inv .1) (omega arith)
 
 pub pairs-at-spec : {M : Type 1} → statement M
 pairs-at-spec =

@@ -24,16 +24,19 @@ short : (k : tie.After-payload) → length (k .before .before .before .before .b
 short k = k .before .before .before .before .before .before .if1 .left
 
 -- the payload that was read
-payload : (k : tie.After-payload) → got (payloadOf (k .payload .given .0 .0)) (k .payload .given .0 .1 .0) ≡ payloadAt (k .before .before .before .before .before .before .before .before .args .s .now) 9
+payload : (k : tie.After-payload) → got (payloadOf (k .payload .given .0 .0)) (k .payload .given .0 .1 .0)
+    ≡ payloadAt (k .before .before .before .before .before .before .before .before .args .s .now) 9
 payload k = sym (ap payloadRead (k .payload .given .1)) ∙ k .before .before .payload-at .ensures
 
 -- it stands after its key
-keyed : (k : tie.After-payload) → got (payloadOf (k .payload .given .0 .0)) (k .payload .given .0 .1 .0) ≡ guard (hasAt (k .before .before .before .before .before .before .before .before .args .s .now) 0 beforePayload) (payloadAt (k .before .before .before .before .before .before .before .before .args .s .now) (0 + length beforePayload))
+keyed : (k : tie.After-payload) → got (payloadOf (k .payload .given .0 .0)) (k .payload .given .0 .1 .0)
+    ≡ guard (hasAt (k .before .before .before .before .before .before .before .before .args .s .now) 0 beforePayload) (payloadAt (k .before .before .before .before .before .before .before .before .args .s .now) (0 + length beforePayload))
 unfolding beforePayload kPayload
 keyed k = let h = k .before .before .before in passed _ (T-of-not _ (h .before .has-at .ensures) (h .if2 .left)) (payload k)
 
 -- it ends after its start, and its period is not empty
-fits : (k : tie.After-payload) → (9 ≤ k .payload .given .0 .1 .0) × (k .payload .given .0 .0 .middle .before < k .payload .given .0 .0 .middle .after)
+fits : (k : tie.After-payload) → (9 ≤ k .payload .given .0 .1 .0)
+    × (k .payload .given .0 .0 .middle .before < k .payload .given .0 .0 .middle .after)
 fits k = payload-room _ _ (payload k)
 
 -- the descriptor that was read
@@ -56,7 +59,8 @@ has-at-requires c κs = search needs
 
 returns-2 : tie.Need-returns-2
 unfolding descriptorAt beforePayload kPayload
-returns-2 c = read-refused _ (c .before .before .before .if1 .left) (stopped _ (failed _ _ (not-T-of _ (c .before .has-at .ensures) (c .if2 .taken))))
+returns-2 c = read-refused _ (c .before .before .before .if1 .left)
+    (stopped _ (failed _ _ (not-T-of _ (c .before .has-at .ensures) (c .if2 .taken))))
 
 payload-at-requires : tie.Need-payload-at-requires
 payload-at-requires c κs = search needs
@@ -133,7 +137,8 @@ returns-8 : tie.Need-returns-8
 returns-8 c =
     let e = c .before .before .before .before in
     let g = e .before .before in
-    ap Read (c .fields-of .ensures) ∙ read-all _ (short (g .before .before .before .before .before .before .before)) (signed g) (e .if4 .left) (c .before .if5 .left)
+    ap Read (c .fields-of .ensures) ∙ read-all _ (short (g .before .before .before .before .before .before .before)) (signed g)
+    (e .if4 .left) (c .before .if5 .left)
 
 pub whole-spec : {M : Type 1} → statement M
 whole-spec =

@@ -26,13 +26,15 @@ returns : tie.Need-returns
 returns c =
     let k = c .before .before in
     let a = k .before .before .before .before .args in
-    bytes-no (a .s .now) (a .at) (a .lo) (a .hi) (k .start .given .0 .0) (k .start .given .0 .1 .0) (here k) (λ l h. omega (arith, c .if1 .taken))
+    bytes-no (a .s .now) (a .at) (a .lo) (a .hi) (k .start .given .0 .0) (k .start .given .0 .1 .0) (here k)
+    (λ l h. omega (arith, c .if1 .taken))
 
 returns-2 : tie.Need-returns-2
 returns-2 c =
     let k = c .before .before .before in
     let a = k .before .before .before .before .args in
-    bytes-no (a .s .now) (a .at) (a .lo) (a .hi) (k .start .given .0 .0) (k .start .given .0 .1 .0) (here k) (λ l h. omega (arith, c .if2 .taken))
+    bytes-no (a .s .now) (a .at) (a .lo) (a .hi) (k .start .given .0 .0) (k .start .given .0 .1 .0) (here k)
+    (λ l h. omega (arith, c .if2 .taken))
 
 enum-told : tie.Need-enum-told
 enum-told c = search needs
@@ -41,7 +43,8 @@ returns-3 : tie.Need-returns-3
 returns-3 c =
     let k = c .before .before .before in
     let a = k .before .before .before .before .args in
-    bytes-yes (a .s .now) (a .at) (a .lo) (a .hi) (k .start .given .0 .0) (k .start .given .0 .1 .0) (here k) (c .before .if1 .left) (c .if2 .left)
+    bytes-yes (a .s .now) (a .at) (a .lo) (a .hi) (k .start .given .0 .0) (k .start .given .0 .1 .0) (here k) (c .before .if1 .left)
+    (c .if2 .left)
 
 returns-4 : tie.Need-returns-4
 unfolding bytesAt

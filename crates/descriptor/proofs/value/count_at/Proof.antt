@@ -11,7 +11,8 @@ use Rattle.descriptor.proofs.value.count_at.Statement.{statement}
 use Rattle.descriptor.proofs.value.count_at.Tie as tie
 
 -- what was answered for the head
-here : (k : tie.After-kind) → got (headOf (k .kind .given .0 .0) (k .kind .given .0 .1 .0)) (k .kind .given .0 .1 .1 .0) ≡ headAt (k .before .before .before .before .args .s .now) (k .before .before .before .before .args .at)
+here : (k : tie.After-kind) → got (headOf (k .kind .given .0 .0) (k .kind .given .0 .1 .0)) (k .kind .given .0 .1 .1 .0)
+    ≡ headAt (k .before .before .before .before .args .s .now) (k .before .before .before .before .args .at)
 here k = sym (ap headRead (k .kind .given .1)) ∙ k .before .before .read-head .ensures
 
 read-head-requires : tie.Need-read-head-requires
@@ -49,7 +50,8 @@ returns-4 c =
     let k = c .before .before .before .before in
     let a = k .before .before .before .before .args in
     let h = k .kind .given .0 in
-    count-yes (a .s .now) (a .at) (a .major) (a .lo) (a .hi) (h .0) (h .1 .0) (h .1 .1 .0) (here k) (c .before .before .if1 .left) (c .before .if2 .left) (c .if3 .left)
+    count-yes (a .s .now) (a .at) (a .major) (a .lo) (a .hi) (h .0) (h .1 .0) (h .1 .1 .0) (here k) (c .before .before .if1 .left)
+    (c .before .if2 .left) (c .if3 .left)
 
 returns-5 : tie.Need-returns-5
 unfolding countAt

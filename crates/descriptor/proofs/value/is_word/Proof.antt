@@ -21,7 +21,8 @@ returns-2 : tie.Need-returns-2
 returns-2 c = rw (c .before .match .keys2) (c .is-fay .ensures)
 
 returns-3 : tie.Need-returns-3
-returns-3 c = c .is-pattern .ensures ∙ word-other (c .before .before .before .args .kind) (c .before .before .before .args .w .now) (c .before .match .rest .0 .1) (c .before .match .rest .1)
+returns-3 c = c .is-pattern .ensures ∙ word-other (c .before .before .before .args .kind) (c .before .before .before .args .w .now)
+    (c .before .match .rest .0 .1) (c .before .match .rest .1)
 
 pub is-word-spec : {M : Type 1} → statement M
 is-word-spec =

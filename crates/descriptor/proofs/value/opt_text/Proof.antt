@@ -34,12 +34,14 @@ returns-2 : tie.Need-returns-2
 returns-2 c =
     let k = c .before in
     let e = k .before .before .before in
-    opt-present _ _ _ (T-of-not _ (e .before .has-at .ensures) (e .if1 .left)) (sym (ap spanRead (k .start .given .1)) ∙ k .before .before .text-at .ensures)
+    opt-present _ _ _ (T-of-not _ (e .before .has-at .ensures) (e .if1 .left))
+    (sym (ap spanRead (k .start .given .1)) ∙ k .before .before .text-at .ensures)
 
 returns-3 : tie.Need-returns-3
 returns-3 c =
     let e = c .before .before .before in
-    opt-broken _ _ _ (T-of-not _ (e .before .has-at .ensures) (e .if1 .left)) (sym (ap spanRead (c .enum-told .given .1)) ∙ c .before .before .text-at .ensures)
+    opt-broken _ _ _ (T-of-not _ (e .before .has-at .ensures) (e .if1 .left))
+    (sym (ap spanRead (c .enum-told .given .1)) ∙ c .before .before .text-at .ensures)
 
 pub opt-text-spec : {M : Type 1} → statement M
 opt-text-spec =

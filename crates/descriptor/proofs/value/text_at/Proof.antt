@@ -19,7 +19,8 @@ here k = sym (ap spanRead (k .start .given .1)) ∙ k .before .before .read-span
 
 -- it lies in the bytes
 fits : (k : tie.After-start) → k .start .given .0 .0 + k .start .given .0 .1 .0 ≤ length (k .before .before .before .before .args .s .now)
-fits k = span-bound (k .before .before .before .before .args .s .now) (k .before .before .before .before .args .at) 3 (k .start .given .0 .0) (k .start .given .0 .1 .0) (here k)
+fits k = span-bound (k .before .before .before .before .args .s .now) (k .before .before .before .before .args .at) 3
+    (k .start .given .0 .0) (k .start .given .0 .1 .0) (here k)
 
 read-span-requires : tie.Need-read-span-requires
 read-span-requires c κs = search needs
@@ -31,13 +32,15 @@ returns : tie.Need-returns
 returns c =
     let k = c .before .before in
     let a = k .before .before .before .before .args in
-    text-long (a .s .now) (a .at) (a .lo) (a .hi) (k .start .given .0 .0) (k .start .given .0 .1 .0) (here k) (λ l h. omega (arith, c .if1 .taken))
+    text-long (a .s .now) (a .at) (a .lo) (a .hi) (k .start .given .0 .0) (k .start .given .0 .1 .0) (here k)
+    (λ l h. omega (arith, c .if1 .taken))
 
 returns-2 : tie.Need-returns-2
 returns-2 c =
     let k = c .before .before .before in
     let a = k .before .before .before .before .args in
-    text-long (a .s .now) (a .at) (a .lo) (a .hi) (k .start .given .0 .0) (k .start .given .0 .1 .0) (here k) (λ l h. omega (arith, c .if2 .taken))
+    text-long (a .s .now) (a .at) (a .lo) (a .hi) (k .start .given .0 .0) (k .start .given .0 .1 .0) (here k)
+    (λ l h. omega (arith, c .if2 .taken))
 
 add-end : tie.Need-add-end
 add-end c = omega (arith, fits (c .before .before .before))
@@ -62,13 +65,15 @@ returns-3 c =
     let e = c .before .before .before in
     let k = e .before .before .before in
     let a = k .before .before .before .before .args in
-    text-yes (a .s .now) (a .at) (a .lo) (a .hi) (k .start .given .0 .0) (k .start .given .0 .1 .0) _ (here k) (e .before .if1 .left) (e .if2 .left) (c .before .is-utf8 .ensures) (c .if3 .taken)
+    text-yes (a .s .now) (a .at) (a .lo) (a .hi) (k .start .given .0 .0) (k .start .given .0 .1 .0) _ (here k) (e .before .if1 .left)
+    (e .if2 .left) (c .before .is-utf8 .ensures) (c .if3 .taken)
 
 returns-4 : tie.Need-returns-4
 returns-4 c =
     let k = c .before .before .before .before .before .before in
     let a = k .before .before .before .before .args in
-    text-no (a .s .now) (a .at) (a .lo) (a .hi) (k .start .given .0 .0) (k .start .given .0 .1 .0) _ (here k) (c .before .is-utf8 .ensures) (c .if3 .left)
+    text-no (a .s .now) (a .at) (a .lo) (a .hi) (k .start .given .0 .0) (k .start .given .0 .1 .0) _ (here k)
+    (c .before .is-utf8 .ensures) (c .if3 .left)
 
 returns-5 : tie.Need-returns-5
 unfolding textAt

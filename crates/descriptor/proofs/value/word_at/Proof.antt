@@ -20,7 +20,8 @@ here k = sym (ap spanRead (k .start .given .1)) ∙ k .before .before .read-span
 
 -- it lies in the bytes
 fits : (k : tie.After-start) → k .start .given .0 .0 + k .start .given .0 .1 .0 ≤ length (k .before .before .before .before .args .s .now)
-fits k = span-bound (k .before .before .before .before .args .s .now) (k .before .before .before .before .args .at) 3 (k .start .given .0 .0) (k .start .given .0 .1 .0) (here k)
+fits k = span-bound (k .before .before .before .before .args .s .now) (k .before .before .before .before .args .at) 3
+    (k .start .given .0 .0) (k .start .given .0 .1 .0) (here k)
 
 read-span-requires : tie.Need-read-span-requires
 read-span-requires c κs = search needs
@@ -50,13 +51,15 @@ returns : tie.Need-returns
 returns c =
     let k = c .before .before .before .before in
     let a = k .before .before .before .before .args in
-    word-yes (wordOk (a .kind)) (a .s .now) (a .at) (k .start .given .0 .0) (k .start .given .0 .1 .0) _ (here k) (c .before .is-word .ensures) (c .if1 .taken)
+    word-yes (wordOk (a .kind)) (a .s .now) (a .at) (k .start .given .0 .0) (k .start .given .0 .1 .0) _ (here k)
+    (c .before .is-word .ensures) (c .if1 .taken)
 
 returns-2 : tie.Need-returns-2
 returns-2 c =
     let k = c .before .before .before .before in
     let a = k .before .before .before .before .args in
-    word-no (wordOk (a .kind)) (a .s .now) (a .at) (k .start .given .0 .0) (k .start .given .0 .1 .0) _ (here k) (c .before .is-word .ensures) (c .if1 .left)
+    word-no (wordOk (a .kind)) (a .s .now) (a .at) (k .start .given .0 .0) (k .start .given .0 .1 .0) _ (here k)
+    (c .before .is-word .ensures) (c .if1 .left)
 
 returns-3 : tie.Need-returns-3
 unfolding wordAt

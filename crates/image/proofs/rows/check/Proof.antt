@@ -36,7 +36,8 @@ all-rows-requires c κs =
 returns-4 : tie.Need-returns-4
 returns-4 c =
     let u = c .before .before .before in
-    survey-rows _ _ (omega arith) _ (u .before .header-fits .ensures) (u .if2 .left) _ (c .before .before .number-at .ensures .0) (omega arith) _ (c .all-rows .ensures)
+    survey-rows _ _ (omega arith) _ (u .before .header-fits .ensures) (u .if2 .left) _ (c .before .before .number-at .ensures .0)
+    (omega arith) _ (c .all-rows .ensures)
 
 pub check-spec : {M : Type 1} → statement M
 check-spec =

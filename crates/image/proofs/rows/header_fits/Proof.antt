@@ -19,7 +19,8 @@ number-at-requires-4 c κs = search needs
 
 returns : tie.Need-returns
 returns c =
-    header-is _ _ _ _ _ (omega arith) (c .before .before .before .number-at .ensures .0) (c .before .before .number-at2 .ensures .0) (c .before .number-at3 .ensures .0) (c .number-at4 .ensures .0)
+    header-is _ _ _ _ _ (omega arith) (c .before .before .before .number-at .ensures .0) (c .before .before .number-at2 .ensures .0)
+    (c .before .number-at3 .ensures .0) (c .number-at4 .ensures .0)
 
 pub header-fits-spec : {M : Type 1} → statement M
 header-fits-spec =

@@ -13,7 +13,8 @@ opened : (k : tie.After-read-descriptor)
     → rowAt (k .before .before .before .before .before .args .s .now) (k .before .before .before .before .before .args .i) (k .before .before .before .before .before .args .at)
     ≡ onRead (k .read-descriptor .result)
     (afterRead (k .before .before .before .before .before .args .s .now) (k .before .before .before .before .before .args .i) (k .before .before .before .before .before .args .at) (k .before .before .before .number-at .result))
-opened k = row-read _ _ _ _ _ (omega arith) (k .before .before .before .number-at .ensures .0) (omega arith) (omega arith) (k .read-descriptor .ensures)
+opened k = row-read _ _ _ _ _ (omega arith) (k .before .before .before .number-at .ensures .0) (omega arith) (omega arith)
+    (k .read-descriptor .ensures)
 
 mul-r : tie.Need-mul-r
 mul-r c = search needs

@@ -59,7 +59,8 @@ number-at-requires-3 c κs = search needs
 returns-2 : tie.Need-returns-2
 returns-2 c =
     let k = c .before .before .before .before in
-    fits-is _ _ _ _ _ _ _ _ (omega arith) (k .before .same-bytes .ensures) (k .if1 .left) (c .before .before .before .number-at .ensures .0) (c .before .before .number-at2 .ensures .0) (c .number-at3 .ensures .0)
+    fits-is _ _ _ _ _ _ _ _ (omega arith) (k .before .same-bytes .ensures) (k .if1 .left)
+    (c .before .before .before .number-at .ensures .0) (c .before .before .number-at2 .ensures .0) (c .number-at3 .ensures .0)
 
 pub row-fits-spec : {M : Type 1} → statement M
 row-fits-spec =

@@ -14,7 +14,8 @@ parted-requires : tie.Need-parted-requires
 parted-requires c κs = search needs
 
 returns : tie.Need-returns
-returns c = c .parted .ensures ∙ ap (verdictAt _) (c .before .until .ensures .0 ∙ zero-add _) ∙ sym (verdict-short _ (c .before .before .if1 .taken))
+returns c = c .parted .ensures ∙ ap (verdictAt _) (c .before .until .ensures .0 ∙ zero-add _)
+    ∙ sym (verdict-short _ (c .before .before .if1 .taken))
 
 returns-2 : tie.Need-returns-2
 returns-2 c = sym (verdict-long _ (c .if1 .left))

@@ -1,5 +1,5 @@
--- `answers` meets its contract. The invariant: what is left to be answered leads to the same as the whole block, and at most four bytes are written for each
--- byte before. The measure: what is left. Assumes nothing.
+-- `answers` meets its contract. The invariant: what is left to be answered leads to the same as the whole block, and at most four bytes
+-- are written for each byte before. The measure: what is left. Assumes nothing.
 use mathlib.Core.Path.{_≡_, refl, _∙_}
 use Prim.Native.Nat.{_-_, _*_, _≤_}
 use native.Mathlib.Omega.{arith}
@@ -11,7 +11,8 @@ use Rattle.match_lines.proofs.write.answers.Statement.{statement}
 use Rattle.match_lines.proofs.write.answers.Tie as tie
 
 abbrev Inv-loop : tie.InvT-loop
-Inv-loop s long out₀ from₀ at₀ too-long₀ out from at too-long = (from ≤ length s) × (at ≤ 4 * from) × (length out ≡ length out₀) × Left long s out₀ out from at too-long
+Inv-loop s long out₀ from₀ at₀ too-long₀ out from at too-long = (from ≤ length s) × (at ≤ 4 * from) × (length out ≡ length out₀)
+    × Left long s out₀ out from at too-long
 
 abbrev μ-loop : tie.MeasureT-loop
 μ-loop s long out₀ from₀ at₀ too-long₀ out from at too-long = length s - from
@@ -75,7 +76,8 @@ loop-again c =
       omega (arith, within (e .before)),
       omega (arith, word-le (v .verdict-if .result), within (e .before)),
       omega arith,
-      left-next _ _ _ _ _ _ _ (i .3) (i .0) _ (e .before .until .ensures .0) (e .if2 .left) (omega (arith, within (e .before))) _ _ _ (v .verdict-if .ensures) (p .put .ensures .0) (p .put .ensures .1),
+      left-next _ _ _ _ _ _ _ (i .3) (i .0) _ (e .before .until .ensures .0) (e .if2 .left) (omega (arith, within (e .before))) _ _ _
+          (v .verdict-if .ensures) (p .put .ensures .0) (p .put .ensures .1),
     )
 
 pub answers-spec : {M : Type 1} → statement M

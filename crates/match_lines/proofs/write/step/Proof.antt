@@ -14,7 +14,8 @@ fits p =
     let w = p .before .before .before .before in
     let l = w .before .before .before in
     let a = l .before .before .before .before .args in
-    step-fits (a .long) (a .buffer .now) (a .n) (l .least .result) (a .out .now) (l .least .ensures .0) (l .least .ensures .1) _ _ (w .answers .ensures .0) (w .answers .ensures .1) _ _ _ (p .progress .given .1)
+    step-fits (a .long) (a .buffer .now) (a .n) (l .least .result) (a .out .now) (l .least .ensures .0) (l .least .ensures .1) _ _
+    (w .answers .ensures .0) (w .answers .ensures .1) _ _ _ (p .progress .given .1)
 
 least-requires : tie.Need-least-requires
 least-requires c κs = search needs
@@ -56,7 +57,8 @@ returns c =
     let w = p .before .before .before .before in
     let l = w .before .before .before in
     let a = l .before .before .before .before .args in
-    step-done (a .long) (a .buffer .now) (a .n) (l .least .result) (a .out .now) (l .least .ensures .0) (l .least .ensures .1) _ _ (w .answers .ensures .0) (w .answers .ensures .1) _ _ _ _ (p .progress .given .1) (m .move-down .ensures)
+    step-done (a .long) (a .buffer .now) (a .n) (l .least .result) (a .out .now) (l .least .ensures .0) (l .least .ensures .1) _ _
+    (w .answers .ensures .0) (w .answers .ensures .1) _ _ _ _ (p .progress .given .1) (m .move-down .ensures)
 
 same-length-3 : tie.Need-same-length-3
 same-length-3 c = search needs
@@ -69,7 +71,8 @@ returns-2 c =
     let w = c .before .before .before .before in
     let l = w .before .before .before in
     let a = l .before .before .before .before .args in
-    step-refused (a .long) (a .buffer .now) (a .n) (l .least .result) (a .out .now) (l .least .ensures .0) (l .least .ensures .1) _ _ (w .answers .ensures .0) (w .answers .ensures .1) (c .enum-told .given .1)
+    step-refused (a .long) (a .buffer .now) (a .n) (l .least .result) (a .out .now) (l .least .ensures .0) (l .least .ensures .1) _ _
+    (w .answers .ensures .0) (w .answers .ensures .1) (c .enum-told .given .1)
 
 pub step-spec : {M : Type 1} → statement M
 step-spec =

@@ -41,7 +41,8 @@ given t = (
 )
 
 -- q is not "**"
-q-not-deep : (t : ℕ) (a : cover-lts.Else1 (given t) (cover-at t) cover.Post) → isDeep (a .before .before .before .before .args .q .now) ≡ false
+q-not-deep : (t : ℕ) (a : cover-lts.Else1 (given t) (cover-at t) cover.Post)
+    → isDeep (a .before .before .before .before .args .q .now) ≡ false
 q-not-deep t a = sym (a .before .is-deep .ensures) ∙ a .if1 .left
 
 -- what the step of the first levels says
@@ -77,7 +78,8 @@ cover-fresh-requires : (t : ℕ) → cover-lts.Need-fresh-requires (given t) (co
 cover-fresh-requires t c κs = search needs
 
 cover-returns-2 : (t : ℕ) → cover-lts.Need-returns-2 (given t) (cover-at t) cover.Post
-cover-returns-2 t c = let e = c .before in c .fresh .ensures ∙ sym (fresh-told _ _ (q-not-deep t (e .before .before)) (sym (e .before .is-deep2 .ensures) ∙ e .if2 .taken))
+cover-returns-2 t c = let e = c .before in c .fresh .ensures ∙ sym
+    (fresh-told _ _ (q-not-deep t (e .before .before)) (sym (e .before .is-deep2 .ensures) ∙ e .if2 .taken))
 
 cover-step-levels-requires : (t : ℕ) → cover-lts.Need-step-levels-requires (given t) (cover-at t) cover.Post
 cover-step-levels-requires t c κs = search needs

@@ -22,7 +22,8 @@ noted j =
 
 -- they are 128
 full : (j : tie.Joined1) → 128 ≡ length (j .if1 .d)
-full j = ⊎-elim (λ w. sym (ap length (w .5) ∙ w .2 .kept .1 .1 .1 .1 .1 .1 .0 ∙ length-replicate {A = ℕ} 128 0)) (λ w. sym (ap length (w .1) ∙ length-replicate {A = ℕ} 128 0)) (j .if1 .came)
+full j = ⊎-elim (λ w. sym (ap length (w .5) ∙ w .2 .kept .1 .1 .1 .1 .1 .1 .0 ∙ length-replicate {A = ℕ} 128 0))
+    (λ w. sym (ap length (w .1) ∙ length-replicate {A = ℕ} 128 0)) (j .if1 .came)
 
 ends-deep-requires : tie.Need-ends-deep-requires
 ends-deep-requires c κs = search needs

@@ -14,7 +14,8 @@ returns : tie.Need-returns
 returns c =
     let a = c .before in
     let e = a .before in
-    covers-nothing _ _ _ _ _ _ _ _ (e .before .before .if1 .taken) (e .ends-deep .ensures) (c .if2 .taken) (a .alone .ensures (c .if2 .taken))
+    covers-nothing _ _ _ _ _ _ _ _ (e .before .before .if1 .taken) (e .ends-deep .ensures) (c .if2 .taken)
+    (a .alone .ensures (c .if2 .taken))
 
 escape-requires : tie.Need-escape-requires
 escape-requires c κs = search needs

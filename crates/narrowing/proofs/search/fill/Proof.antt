@@ -1,5 +1,5 @@
--- `fill` meets its contract. The invariant: the rows so far are in place, and noting them and then the grants that are left is noting all. The measure: the grants
--- left. Assumes nothing.
+-- `fill` meets its contract. The invariant: the rows so far are in place, and noting them and then the grants that are left is noting
+-- all. The measure: the grants left. Assumes nothing.
 use mathlib.Core.Path.{_≡_, refl, sym, ap, _∙_}
 use Prim.Native.Nat.{_+_, _*_, _≤_, _<_}
 use native.Mathlib.Omega.{arith}
@@ -7,7 +7,8 @@ use lib.ListN.{length}
 use borrow.Author.Needs.{needs}
 use Rattle.descriptor.specs.Answer.{grantRead}
 use Rattle.descriptor.proofs.GrantBounds.{pattern-room}
-use Rattle.narrowing.proofs.TableLaws.{Begun, written-length, second-room, third-room, begun-first, begun-next, begun-stop, begun-done}
+use Rattle.narrowing.proofs.TableLaws.{Begun, written-length, second-room, third-room, begun-first, begun-next, begun-stop}
+use Rattle.narrowing.proofs.TableLaws.{begun-done}
 use Rattle.narrowing.proofs.search.fill.Statement.{statement}
 use Rattle.narrowing.proofs.search.fill.Tie as tie
 
@@ -24,7 +25,8 @@ room : (k : tie.After-fields Inv-loop μ-loop)
 room k = pattern-room _ _ (sym (ap grantRead (k .fields .given .1)) ∙ k .before .before .read-grant .ensures)
 
 -- the table has the next row
-free : (k : tie.After-fields Inv-loop μ-loop) → 3 * k .before .before .before .before .loop .i + 2 < length (k .before .before .before .before .loop .table)
+free : (k : tie.After-fields Inv-loop μ-loop) → 3 * k .before .before .before .before .loop .i + 2 < length
+    (k .before .before .before .before .loop .table)
 free k = let i = k .before .before .before in omega (arith, i .before .loop .inv .1 .free, i .loop-test .taken)
 
 loop-holds : tie.Need-loop-holds Inv-loop μ-loop
@@ -89,7 +91,8 @@ returns : tie.Need-returns Inv-loop μ-loop
 returns c =
     let r = c .before .before in
     let i = r .before in (
-      begun-stop _ _ _ _ _ _ _ (i .before .loop .inv .1) (i .loop-test .taken) (sym (ap grantRead (c .enum-told .given .1)) ∙ r .read-grant .ensures),
+      begun-stop _ _ _ _ _ _ _ (i .before .loop .inv .1) (i .loop-test .taken)
+          (sym (ap grantRead (c .enum-told .given .1)) ∙ r .read-grant .ensures),
       i .before .loop .inv .0,
     )
 

@@ -1,4 +1,5 @@
--- `least_lacking` meets its contract. The invariant: the search from k on answers what the whole search does. The measure: what is left. Assumes nothing.
+-- `least_lacking` meets its contract. The invariant: the search from k on answers what the whole search does. The measure: what is
+-- left. Assumes nothing.
 use mathlib.Core.Path.{_≡_, refl, sym, _∙_}
 use Prim.Native.Nat.{_-_, _≤_}
 use native.Mathlib.Omega.{arith}

@@ -1,4 +1,5 @@
--- `lowest` meets its contract. The invariant: the search from the mode on answers what the whole search does. The measure: the modes left. Assumes nothing.
+-- `lowest` meets its contract. The invariant: the search from the mode on answers what the whole search does. The measure: the modes
+-- left. Assumes nothing.
 use mathlib.Core.Path.{_≡_, refl, sym, _∙_}
 use mathlib.Core.Logic.{⊎-elim}
 use Prim.Native.Nat.{_-_, _≤_}

@@ -1,4 +1,5 @@
--- `note` meets its contract. The invariant: the rows so far are noted, but for those that add no mode. The measure: the rows left. Assumes nothing.
+-- `note` meets its contract. The invariant: the rows so far are noted, but for those that add no mode. The measure: the rows left.
+-- Assumes nothing.
 use mathlib.Core.Path.{_≡_, sym, _∙_}
 use mathlib.Core.Logic.{⊎-elim}
 use Prim.Native.Nat.{_+_, _*_, _-_, _≤_, _<_}
@@ -16,7 +17,8 @@ abbrev μ-loop : tie.MeasureT-loop
 μ-loop parent table rows p mask deep d₀ done₀ i₀ d done i = rows - i
 
 -- the table has the row
-room : (k : tie.In-loop Inv-loop μ-loop) → 3 * k .before .loop .i + 2 < length (k .before .before .before .before .before .before .args .table .now)
+room : (k : tie.In-loop Inv-loop μ-loop) → 3 * k .before .loop .i + 2 < length
+    (k .before .before .before .before .before .before .args .table .now)
 room k = omega (arith, k .before .before .before .before .before .before .pre .0 .room, k .loop-test .taken)
 
 loop-holds : tie.Need-loop-holds Inv-loop μ-loop

@@ -1,4 +1,5 @@
--- `same_start` meets its contract. The invariant: the flag says whether the first i bytes are equal. The measure: what is left. Assumes nothing.
+-- `same_start` meets its contract. The invariant: the flag says whether the first i bytes are equal. The measure: what is left. Assumes
+-- nothing.
 use mathlib.Core.Path.{_≡_, refl, sym, _∙_}
 use Prim.Native.Nat.{_-_, _≤_}
 use native.Mathlib.Omega.{arith}

@@ -88,7 +88,8 @@ returns-4 : tie.Need-returns-4 Inv-loop μ-loop
 returns-4 c =
     let a = c .before .before .before .before .before .args in
     let e : c .before .loop .k ≡ a .w = omega arith in (
-      c .before .loop .inv .1 ∙ ap (numberAt (a .s .now) (a .at)) e ∙ sym (number-in (a .s .now) (a .at) (a .w) (omega arith) (omega arith)),
+      c .before .loop .inv .1 ∙ ap (numberAt (a .s .now) (a .at)) e
+          ∙ sym (number-in (a .s .now) (a .at) (a .w) (omega arith) (omega arith)),
       subst (λ (k : ℕ). c .before .loop .n < 256 ^ k) e (c .before .loop .inv .2),
     )
 

@@ -1,4 +1,5 @@
--- `is_listed` meets its contract. The invariant: whether the id is among the first i tells whether it is in the list. The measure: i. Assumes nothing.
+-- `is_listed` meets its contract. The invariant: whether the id is among the first i tells whether it is in the list. The measure: i.
+-- Assumes nothing.
 use mathlib.Core.Path.{_≡_, sym, _∙_}
 use Prim.Native.Nat.{_/_, _≤_}
 use native.Mathlib.Omega.{arith}

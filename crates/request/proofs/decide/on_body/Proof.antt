@@ -19,7 +19,8 @@ use Rattle.request.proofs.decide.on_body.Tie as tie
 abbrev questions : tie.Start → Asked
 questions s =
     let a = s .args in
-    asked (a .id .now) (a .fay .now) (a .terminal .now) (a .resource .now) (a .mode) (a .clock) (a .session) (a .revoked .now) (a .verdict) (a .window)
+    asked (a .id .now) (a .fay .now) (a .terminal .now) (a .resource .now) (a .mode) (a .clock) (a .session) (a .revoked .now)
+    (a .verdict) (a .window)
 
 -- the first grant that serves
 abbrev first : tie.Start → Matched

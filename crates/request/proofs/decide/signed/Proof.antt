@@ -18,7 +18,8 @@ returns-2 c = signed-shut _ _ _ _ _ _ _ (c .before .before .if1 .left) (sym (c .
 returns-3 : tie.Need-returns-3
 returns-3 c =
     let e = c .before in
-    signed-bad _ _ _ _ _ _ _ (e .before .before .if1 .left) (sym (e .before .key-open .ensures) ∙ not-false _ (e .if2 .left)) (c .if3 .taken)
+    signed-bad _ _ _ _ _ _ _ (e .before .before .if1 .left) (sym (e .before .key-open .ensures) ∙ not-false _ (e .if2 .left))
+    (c .if3 .taken)
 
 session-end-requires : tie.Need-session-end-requires
 session-end-requires c κs = search needs
@@ -26,7 +27,8 @@ session-end-requires c κs = search needs
 returns-4 : tie.Need-returns-4
 returns-4 c =
     let e = c .before .before in
-    signed-good _ _ _ _ _ _ _ (e .before .before .if1 .left) (sym (e .before .key-open .ensures) ∙ not-false _ (e .if2 .left)) (c .before .if3 .left)
+    signed-good _ _ _ _ _ _ _ (e .before .before .if1 .left) (sym (e .before .key-open .ensures) ∙ not-false _ (e .if2 .left))
+    (c .before .if3 .left)
     (c .session-end .ensures)
 
 pub signed-spec : {M : Type 1} → statement M

@@ -9,7 +9,8 @@ use Rattle.request.proofs.decide.well_formed.Statement.{statement}
 use Rattle.request.proofs.decide.well_formed.Tie as tie
 
 -- what the tests on the way say
-well-fay : (e : tie.Else4) → isFay (e .before .before .before .before .before .before .before .before .before .before .args .fay .now) ≡ true
+well-fay : (e : tie.Else4) → isFay (e .before .before .before .before .before .before .before .before .before .before .args .fay .now)
+    ≡ true
 well-fay e = sym (e .before .is-fay .ensures) ∙ not-false _ (e .if4 .left)
 
 well-terminal : (e : tie.Else5)
@@ -32,7 +33,8 @@ returns-4 : tie.Need-returns-4
 returns-4 c =
     let n = c .before .before in
     let m = n .before in
-    no-fay _ _ _ _ _ _ _ (m .before .if1 .left) (m .if2 .left) (n .if3 .left) (sym (c .before .is-fay .ensures) ∙ not-true _ (c .if4 .taken))
+    no-fay _ _ _ _ _ _ _ (m .before .if1 .left) (m .if2 .left) (n .if3 .left)
+    (sym (c .before .is-fay .ensures) ∙ not-true _ (c .if4 .taken))
 
 is-terminal-requires : tie.Need-is-terminal-requires
 is-terminal-requires c κs = search needs
@@ -42,7 +44,8 @@ returns-5 c =
     let e = c .before .before in
     let n = e .before .before in
     let m = n .before in
-    no-terminal _ _ _ _ _ _ _ (m .before .if1 .left) (m .if2 .left) (n .if3 .left) (well-fay e) (sym (c .before .is-terminal .ensures) ∙ not-true _ (c .if5 .taken))
+    no-terminal _ _ _ _ _ _ _ (m .before .if1 .left) (m .if2 .left) (n .if3 .left) (well-fay e)
+    (sym (c .before .is-terminal .ensures) ∙ not-true _ (c .if5 .taken))
 
 is-resource-requires : tie.Need-is-resource-requires
 is-resource-requires c κs = search needs

@@ -1,5 +1,6 @@
--- `first_grant` meets its contract. The outer invariant: the search from here on answers what the whole search does; its measure: the grants left. The
--- inner one: the levels left match as all do, and are no longer than the bytes and the resource; its measure: the bytes left of the pattern. Assumes nothing.
+-- `first_grant` meets its contract. The outer invariant: the search from here on answers what the whole search does; its measure: the
+-- grants left. The inner one: the levels left match as all do, and are no longer than the bytes and the resource; its measure: the
+-- bytes left of the pattern. Assumes nothing.
 use mathlib.Core.Path.{_≡_, refl, sym, ap, subst, _∙_}
 use mathlib.Core.Bool.{true}
 use mathlib.Core.Logic.{⊎-elim}
@@ -22,7 +23,8 @@ use Rattle.request.proofs.search.first_grant.Statement.{statement}
 use Rattle.request.proofs.search.first_grant.Tie as tie
 
 abbrev Inv-levels : tie.InvT-levels
-Inv-levels s first count mode r i at fields next start end p₀ q₀ p q = (length p ≤ length s) × (length q ≤ length r) × (levelsMatch p₀ q₀ ≡ levelsMatch p q)
+Inv-levels s first count mode r i at fields next start end p₀ q₀ p q = (length p ≤ length s) × (length q ≤ length r)
+    × (levelsMatch p₀ q₀ ≡ levelsMatch p q)
 
 abbrev μ-levels : tie.MeasureT-levels
 μ-levels s first count mode r i at fields next start end p₀ q₀ p q = length p
@@ -44,7 +46,8 @@ turn k = k .before .before .before .before
 
 -- the grant that was read
 seen : (k : tie.After-fields Inv-levels μ-levels Inv-grants μ-grants)
-    → grantRead (IsGrant (k .fields .given .0 .0) (k .fields .given .0 .1 .0)) ≡ grantAt (turn k .before .before .before .args .s .now) (turn k .grants .at)
+    → grantRead (IsGrant (k .fields .given .0 .0) (k .fields .given .0 .1 .0))
+    ≡ grantAt (turn k .before .before .before .args .s .now) (turn k .grants .at)
 seen k = sym (ap grantRead (k .fields .given .1)) ∙ k .before .before .read-grant .ensures
 
 -- its pattern lies within the bytes

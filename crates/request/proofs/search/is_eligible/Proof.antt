@@ -18,13 +18,16 @@ returns : tie.Need-returns
 returns c = eligible-pairs _ _ _ (c .if1 .taken)
 
 returns-2 : tie.Need-returns-2
-returns-2 c = let a = c .before .before .args in eligible-mode (a .mask) (a .pairs) (a .mode) (a .mask) (c .before .if1 .left) (rw (c .match .keys1) (omega arith))
+returns-2 c = let a = c .before .before .args in eligible-mode (a .mask) (a .pairs) (a .mode) (a .mask) (c .before .if1 .left)
+    (rw (c .match .keys1) (omega arith))
 
 returns-3 : tie.Need-returns-3
-returns-3 c = let a = c .before .before .args in eligible-mode (a .mask) (a .pairs) (a .mode) (a .mask / 2) (c .before .if1 .left) (rw (c .match .keys2) (omega arith))
+returns-3 c = let a = c .before .before .args in eligible-mode (a .mask) (a .pairs) (a .mode) (a .mask / 2) (c .before .if1 .left)
+    (rw (c .match .keys2) (omega arith))
 
 returns-4 : tie.Need-returns-4
-returns-4 c = let a = c .before .before .args in eligible-mode (a .mask) (a .pairs) (a .mode) (a .mask / 4) (c .before .if1 .left) (rw (c .match .keys3) (omega arith))
+returns-4 c = let a = c .before .before .args in eligible-mode (a .mask) (a .pairs) (a .mode) (a .mask / 4) (c .before .if1 .left)
+    (rw (c .match .keys3) (omega arith))
 
 returns-5 : tie.Need-returns-5
 returns-5 c =

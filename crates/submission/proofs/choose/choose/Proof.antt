@@ -41,7 +41,8 @@ check-requires c κs = search needs
 choose-read-requires : tie.Need-choose-read-requires
 choose-read-requires c κs =
     let o = c .before .before .before .before .before in
-    subst (SurveyFits (o .before .before .before .before .args .image .now)) (sym (c .check .ensures)) (survey-inside _ _ (bytes (o .before .before .before)))
+    subst (SurveyFits (o .before .before .before .before .args .image .now)) (sym (c .check .ensures))
+    (survey-inside _ _ (bytes (o .before .before .before)))
 
 enum-told : tie.Need-enum-told
 enum-told c = search needs
@@ -60,21 +61,24 @@ returns-2 c =
     let k = c .before in
     let x = k .before .before .before in
     let o = x .before .before in (
-      choice-read _ _ _ _ _ (omega arith) _ (o .read-descriptor .ensures) _ _ _ (x .fields .given .1) (k .check .ensures) (c .choose-read .ensures),
+      choice-read _ _ _ _ _ (omega arith) _ (o .read-descriptor .ensures) _ _ _ (x .fields .given .1) (k .check .ensures)
+          (c .choose-read .ensures),
       bytes (o .before .before .before),
     )
 
 returns-3 : tie.Need-returns-3
 returns-3 c =
     let o = c .before .before .before in (
-      choice-structure _ _ _ _ _ (omega arith) _ (o .read-descriptor .ensures) _ (c .before .enum-told .given .1) (c .choose-unread .ensures),
+      choice-structure _ _ _ _ _ (omega arith) _ (o .read-descriptor .ensures) _ (c .before .enum-told .given .1)
+          (c .choose-unread .ensures),
       bytes (o .before .before .before),
     )
 
 returns-4 : tie.Need-returns-4
 returns-4 c =
     let o = c .before .before .before in (
-      choice-validity _ _ _ _ _ (omega arith) _ (o .read-descriptor .ensures) _ (c .before .enum-told2 .given .1) (c .choose-unread2 .ensures),
+      choice-validity _ _ _ _ _ (omega arith) _ (o .read-descriptor .ensures) _ (c .before .enum-told2 .given .1)
+          (c .choose-unread2 .ensures),
       bytes (o .before .before .before),
     )
 

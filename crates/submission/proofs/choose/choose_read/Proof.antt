@@ -35,7 +35,8 @@ returns c =
 returns-2 : tie.Need-returns-2
 returns-2 c =
     let a = c .before .before .before in
-    read-placed _ _ _ _ _ _ _ _ _ _ (a .before .before .found .given .1) _ (a .admit .ensures) _ (c .before .enum-told .given .1) (c .place .ensures)
+    read-placed _ _ _ _ _ _ _ _ _ _ (a .before .before .found .given .1) _ (a .admit .ensures) _ (c .before .enum-told .given .1)
+    (c .place .ensures)
 
 returns-3 : tie.Need-returns-3
 returns-3 c = read-unsound _ _ _ _ _ _ _ (c .enum-told2 .given .1)

@@ -24,7 +24,8 @@ same-bytes-requires : tie.Need-same-bytes-requires
 same-bytes-requires c κs = search needs
 
 returns : tie.Need-returns
-returns c = place-same _ _ _ _ _ _ _ _ _ (c .before .before .before .before .held .given .1) _ (c .before .same-bytes .ensures) (c .if1 .taken)
+returns c = place-same _ _ _ _ _ _ _ _ _ (c .before .before .before .before .held .given .1) _ (c .before .same-bytes .ensures)
+    (c .if1 .taken)
 
 enum-told : tie.Need-enum-told
 enum-told c = search needs
@@ -42,7 +43,8 @@ returns-4 : tie.Need-returns-4
 returns-4 c = place-long _ _ _ _ _ _ (c .before .before .before .enum-told .given .1) (omega arith) (omega arith)
 
 returns-5 : tie.Need-returns-5
-returns-5 c = place-other _ _ _ _ _ _ _ _ _ (c .before .before .before .before .held .given .1) _ (c .before .same-bytes .ensures) (c .if1 .left)
+returns-5 c = place-other _ _ _ _ _ _ _ _ _ (c .before .before .before .before .held .given .1) _ (c .before .same-bytes .ensures)
+    (c .if1 .left)
 
 returns-6 : tie.Need-returns-6
 returns-6 c = place-store _ _ _ _ _ _ (c .before .before .before .enum-told .given .1) (omega arith) (omega arith)

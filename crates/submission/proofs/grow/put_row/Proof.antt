@@ -53,7 +53,8 @@ returns c =
     let p3 = p4 .before .before .before .before in
     let p2 = p3 .before .before .before .before in
     let p1 = p2 .before .before .before .before in
-    row-done _ _ _ _ _ _ _ _ _ _ _ (p1 .put .ensures) (p2 .put-number .ensures) (p3 .put-number2 .ensures) (p4 .put-number3 .ensures) (p5 .put-number4 .ensures)
+    row-done _ _ _ _ _ _ _ _ _ _ _ (p1 .put .ensures) (p2 .put-number .ensures) (p3 .put-number2 .ensures) (p4 .put-number3 .ensures)
+    (p5 .put-number4 .ensures)
 
 pub put-row-spec : {M : Type 1} → statement M
 put-row-spec =

@@ -10,15 +10,9 @@ use Rattle.cap.proofs.cap_descriptor_read.Lts as lts
 use Rattle.cap.proofs.numbers.of_reading.Reads as of-reading-reads
 use Rattle.descriptor.proofs.read_descriptor.Reads as read-descriptor-reads
 
-read-descriptor-requires : tie.Need-read-descriptor-requires
-read-descriptor-requires c κs = search needs
-
-of-reading-requires : tie.Need-of-reading-requires
-of-reading-requires c κs = search needs
-
 returns : tie.Need-returns
 returns c = (c .of-reading .ensures ∙ ap numbersOf (c .before .read-descriptor .ensures), are-bytes (c .before .before .before .args .bytes .now) (c .before .before .shared-slice-known .given))
 
 pub cap-descriptor-read-spec : {M : Type 1} → statement M
 cap-descriptor-read-spec =
-    tie.close (tie.spec read-descriptor-requires of-reading-requires returns)
+    tie.close (tie.spec (λ c κs. search needs) (λ c κs. search needs) returns)

@@ -10,14 +10,8 @@ use Rattle.cap.proofs.cap_grant_at.Lts as lts
 use Rattle.cap.proofs.numbers.of_grant.Reads as of-grant-reads
 use Rattle.grant_reader.proofs.nth.Reads as nth-reads
 
-nth-requires : tie.Need-nth-requires
-nth-requires c κs = search needs
-
-of-grant-requires : tie.Need-of-grant-requires
-of-grant-requires c κs = search needs
-
 returns : tie.Need-returns
 returns c = (c .of-grant .ensures ∙ ap grantNumbers (c .before .nth .ensures), are-bytes (c .before .before .before .args .bytes .now) (c .before .before .shared-slice-known .given))
 
 pub cap-grant-at-spec : {M : Type 1} → statement M
-cap-grant-at-spec = tie.close (tie.spec nth-requires of-grant-requires returns)
+cap-grant-at-spec = tie.close (tie.spec (λ c κs. search needs) (λ c κs. search needs) returns)

@@ -10,16 +10,10 @@ use Rattle.cap.proofs.cap_image_find.Lts as lts
 use Rattle.cap.proofs.numbers.of_finding.Reads as of-finding-reads
 use Rattle.image.proofs.find.Reads as find-reads
 
-find-requires : tie.Need-find-requires
-find-requires c κs = search needs
-
-of-finding-requires : tie.Need-of-finding-requires
-of-finding-requires c κs = search needs
-
 returns : tie.Need-returns
 returns c =
     let k = c .before .before in
     let a = k .before .before .args in (c .of-finding .ensures ∙ ap numbersOf (c .before .find .ensures), (are-bytes (a .image .now) (k .before .shared-slice-known .given), are-bytes (a .id .now) (k .shared-slice-known2 .given)))
 
 pub cap-image-find-spec : {M : Type 1} → statement M
-cap-image-find-spec = tie.close (tie.spec find-requires of-finding-requires returns)
+cap-image-find-spec = tie.close (tie.spec (λ c κs. search needs) (λ c κs. search needs) returns)

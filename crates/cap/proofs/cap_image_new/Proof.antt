@@ -10,19 +10,10 @@ use Rattle.cap.proofs.cap_image_new.Lts as lts
 use Rattle.cap.proofs.numbers.of_made.Reads as of-made-reads
 use Rattle.image.proofs.new_image.Reads as new-image-reads
 
-new-image-requires : tie.Need-new-image-requires
-new-image-requires c κs = search needs
-
-of-made-requires : tie.Need-of-made-requires
-of-made-requires c κs = search needs
-
-same-length : tie.Need-same-length
-same-length c = search needs
-
 returns : tie.Need-returns
 returns c =
     let e = c .before .before .before .new-image .ensures in
     ((c .of-made .ensures ∙ ap numberOf (e .0), e .1), are-bytes (c .before .before .before .before .before .before .args .image .now) (c .before .before .before .before .before .slice-known .given))
 
 pub cap-image-new-spec : {M : Type 1} → statement M
-cap-image-new-spec = tie.close (tie.spec new-image-requires of-made-requires same-length returns)
+cap-image-new-spec = tie.close (tie.spec (λ c κs. search needs) (λ c κs. search needs) (λ c. search needs) returns)

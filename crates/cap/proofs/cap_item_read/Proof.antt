@@ -10,14 +10,8 @@ use Rattle.cap.proofs.cap_item_read.Lts as lts
 use Rattle.cap.proofs.numbers.of_item.Reads as of-item-reads
 use Rattle.cbor_item.proofs.read_item.Reads as read-item-reads
 
-read-item-requires : tie.Need-read-item-requires
-read-item-requires c κs = search needs
-
-of-item-requires : tie.Need-of-item-requires
-of-item-requires c κs = search needs
-
 returns : tie.Need-returns
 returns c = (c .of-item .ensures ∙ ap numbersOf (c .before .read-item .ensures), are-bytes (c .before .before .before .args .bytes .now) (c .before .before .shared-slice-known .given))
 
 pub cap-item-read-spec : {M : Type 1} → statement M
-cap-item-read-spec = tie.close (tie.spec read-item-requires of-item-requires returns)
+cap-item-read-spec = tie.close (tie.spec (λ c κs. search needs) (λ c κs. search needs) returns)

@@ -10,16 +10,10 @@ use Rattle.cap.proofs.cap_match.Lts as lts
 use Rattle.cap.proofs.numbers.of_matching.Reads as of-matching-reads
 use Rattle.resource.proofs.match_texts.Reads as match-texts-reads
 
-match-texts-requires : tie.Need-match-texts-requires
-match-texts-requires c κs = search needs
-
-of-matching-requires : tie.Need-of-matching-requires
-of-matching-requires c κs = search needs
-
 returns : tie.Need-returns
 returns c =
     let k = c .before .before in
     let a = k .before .before .args in (c .of-matching .ensures ∙ ap numbersOf (c .before .match-texts .ensures), (are-bytes (a .pattern .now) (k .before .shared-slice-known .given), are-bytes (a .resource .now) (k .shared-slice-known2 .given)))
 
 pub cap-match-spec : {M : Type 1} → statement M
-cap-match-spec = tie.close (tie.spec match-texts-requires of-matching-requires returns)
+cap-match-spec = tie.close (tie.spec (λ c κs. search needs) (λ c κs. search needs) returns)

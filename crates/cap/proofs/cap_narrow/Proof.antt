@@ -10,16 +10,10 @@ use Rattle.cap.proofs.cap_narrow.Lts as lts
 use Rattle.cap.proofs.numbers.of_narrowing.Reads as of-narrowing-reads
 use Rattle.narrowing.proofs.narrow.Reads as narrow-reads
 
-narrow-requires : tie.Need-narrow-requires
-narrow-requires c κs = search needs
-
-of-narrowing-requires : tie.Need-of-narrowing-requires
-of-narrowing-requires c κs = search needs
-
 returns : tie.Need-returns
 returns c =
     let k = c .before .before in
     let a = k .before .before .args in (c .of-narrowing .ensures ∙ ap numbersOf (c .before .narrow .ensures), (are-bytes (a .parent .now) (k .before .shared-slice-known .given), are-bytes (a .child .now) (k .shared-slice-known2 .given)))
 
 pub cap-narrow-spec : {M : Type 1} → statement M
-cap-narrow-spec = tie.close (tie.spec narrow-requires of-narrowing-requires returns)
+cap-narrow-spec = tie.close (tie.spec (λ c κs. search needs) (λ c κs. search needs) returns)

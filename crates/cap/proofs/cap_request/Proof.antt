@@ -25,15 +25,6 @@ shown-asked s id fay terminal resource mode clock session revoked verdict w w′
     ap numbersOf k
     ∙ ap (λ (x : Window). numbersOf (decisionOf s (asked id fay terminal resource mode clock session revoked verdict x))) e
 
-window-requires : tie.Need-window-requires
-window-requires c κs = search needs
-
-request-requires : tie.Need-request-requires
-request-requires c κs = search needs
-
-of-decision-requires : tie.Need-of-decision-requires
-of-decision-requires c κs = search needs
-
 returns : tie.Need-returns
 returns c =
     let k = c .before .before .before in
@@ -51,4 +42,4 @@ returns c =
 
 pub cap-request-spec : {M : Type 1} → statement M
 cap-request-spec =
-    tie.close (tie.spec window-requires request-requires of-decision-requires returns)
+    tie.close (tie.spec (λ c κs. search needs) (λ c κs. search needs) (λ c κs. search needs) returns)

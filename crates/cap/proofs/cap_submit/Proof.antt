@@ -22,18 +22,6 @@ shown-submitted : (d b d′ : List ℕ) (clock verdict : ℕ) (w w′ : Window) 
 shown-submitted d b d′ clock verdict w w′ r e k =
     (ap numberOf (k .0) ∙ ap (λ (x : Window). numberOf (submitted d b clock verdict x)) e, k .1 ∙ ap (afterOf d b clock verdict) e)
 
-window-requires : tie.Need-window-requires
-window-requires c κs = search needs
-
-submit-requires : tie.Need-submit-requires
-submit-requires c κs = search needs
-
-of-submission-requires : tie.Need-of-submission-requires
-of-submission-requires c κs = search needs
-
-same-length : tie.Need-same-length
-same-length c = search needs
-
 returns : tie.Need-returns
 returns c =
     let w = c .before .before .before in
@@ -44,4 +32,5 @@ returns c =
 
 pub cap-submit-spec : {M : Type 1} → statement M
 cap-submit-spec =
-    tie.close (tie.spec window-requires submit-requires of-submission-requires same-length returns)
+    tie.close
+    (tie.spec (λ c κs. search needs) (λ c κs. search needs) (λ c κs. search needs) (λ c. search needs) returns)

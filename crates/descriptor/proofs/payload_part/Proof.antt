@@ -6,24 +6,6 @@ use borrow.Author.Needs.{needs}
 use Rattle.descriptor.proofs.payload_part.Statement.{statement}
 use Rattle.descriptor.proofs.payload_part.Tie as tie
 
-enum-known-reading : tie.Need-enum-known-reading
-enum-known-reading c = search needs
-
-part-at-requires : tie.Need-part-at-requires
-part-at-requires c κs = search needs
-
-enum-told : tie.Need-enum-told
-enum-told c = search needs
-
-slice-aggregate-result : tie.Need-slice-aggregate-result
-slice-aggregate-result c = search needs
-
-enum-told-2 : tie.Need-enum-told-2
-enum-told-2 c = search needs
-
-slice-aggregate-result-2 : tie.Need-slice-aggregate-result-2
-slice-aggregate-result-2 c = search needs
-
 returns : tie.Need-returns
 returns c = rw (c .before .before .before .reading .given .1) (c .part-at .ensures)
 
@@ -38,13 +20,5 @@ returns-3 c = rw (c .before .enum-told2 .given .1) (record { inside = omega arit
 pub payload-part-spec : {M : Type 1} → statement M
 payload-part-spec =
     tie.close
-    (tie.spec
-    enum-known-reading
-    part-at-requires
-    enum-told
-    slice-aggregate-result
-    enum-told-2
-    slice-aggregate-result-2
-    returns
-    returns-2
-    returns-3)
+    (tie.spec (λ c. search needs) (λ c κs. search needs) (λ c. search needs) (λ c. search needs) (λ c. search needs)
+    (λ c. search needs) returns returns-2 returns-3)

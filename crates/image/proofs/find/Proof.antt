@@ -9,18 +9,6 @@ use Rattle.image.proofs.find.Tie as tie
 returns : tie.Need-returns
 returns c = find-bad _ _ (c .if1 .taken)
 
-check-requires : tie.Need-check-requires
-check-requires c κs = search needs
-
-enum-known-held : tie.Need-enum-known-held
-enum-known-held c = search needs
-
-found-requires : tie.Need-found-requires
-found-requires c κs = search needs
-
-enum-told : tie.Need-enum-told
-enum-told c = search needs
-
 returns-2 : tie.Need-returns-2
 returns-2 c =
     let h = c .before .before in
@@ -35,4 +23,5 @@ returns-3 c =
 pub find-spec : {M : Type 1} → statement M
 find-spec =
     tie.close
-    (tie.spec returns check-requires enum-known-held found-requires enum-told returns-2 returns-3)
+    (tie.spec returns (λ c κs. search needs) (λ c. search needs) (λ c κs. search needs) (λ c. search needs) returns-2
+    returns-3)

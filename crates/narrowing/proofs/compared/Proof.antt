@@ -24,42 +24,12 @@ returns-4 c =
     let b = d .before .before .before in
     ends-late _ _ _ _ (b .before .before .if1 .left) (b .if2 .left) (d .if3 .left) (c .if4 .taken)
 
-sub-same-start : tie.Need-sub-same-start
-sub-same-start c = search needs
-
-part-same-start-start : tie.Need-part-same-start-start
-part-same-start-start c = search needs
-
-part-same-start-end : tie.Need-part-same-start-end
-part-same-start-end c = search needs
-
-sub-same-start-2 : tie.Need-sub-same-start-2
-sub-same-start-2 c = search needs
-
-part-same-start-start-2 : tie.Need-part-same-start-start-2
-part-same-start-start-2 c = search needs
-
-part-same-start-end-2 : tie.Need-part-same-start-end-2
-part-same-start-end-2 c = search needs
-
-same-start-requires : tie.Need-same-start-requires
-same-start-requires c κs = search needs
-
-slice-aggregate-fill : tie.Need-slice-aggregate-fill
-slice-aggregate-fill c = search needs
-
 fill-requires : tie.Need-fill-requires
 fill-requires c κs =
     let e = c .before .before .before .before in
     let d = e .before .before .before in
     let b = d .before .before .before in
     omega (arith, b .before .before .before .before .before .before .pre .2)
-
-slice-aggregate-first : tie.Need-slice-aggregate-first
-slice-aggregate-first c = search needs
-
-first-requires : tie.Need-first-requires
-first-requires c κs = search needs
 
 returns-5 : tie.Need-returns-5
 returns-5 c =
@@ -76,20 +46,6 @@ returns-5 c =
 pub compared-spec : {M : Type 1} → statement M
 compared-spec =
     tie.close
-    (tie.spec
-    returns
-    returns-2
-    returns-3
-    returns-4
-    sub-same-start
-    part-same-start-start
-    part-same-start-end
-    sub-same-start-2
-    part-same-start-start-2
-    part-same-start-end-2
-    same-start-requires
-    slice-aggregate-fill
-    fill-requires
-    slice-aggregate-first
-    first-requires
-    returns-5)
+    (tie.spec returns returns-2 returns-3 returns-4 (λ c. search needs) (λ c. search needs) (λ c. search needs)
+    (λ c. search needs) (λ c. search needs) (λ c. search needs) (λ c κs. search needs) (λ c. search needs) fill-requires
+    (λ c. search needs) (λ c κs. search needs) returns-5)

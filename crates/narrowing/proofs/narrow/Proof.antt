@@ -7,18 +7,6 @@ use borrow.Author.Needs.{needs}
 use Rattle.narrowing.proofs.narrow.Statement.{statement}
 use Rattle.narrowing.proofs.narrow.Tie as tie
 
-read-descriptor-requires : tie.Need-read-descriptor-requires
-read-descriptor-requires c κs = search needs
-
-enum-known-v : tie.Need-enum-known-v
-enum-known-v c = search needs
-
-read-descriptor-requires-2 : tie.Need-read-descriptor-requires-2
-read-descriptor-requires-2 c κs = search needs
-
-enum-known-w : tie.Need-enum-known-w
-enum-known-w c = search needs
-
 compared-requires : tie.Need-compared-requires
 compared-requires c κs =
     let y = c .before in
@@ -32,18 +20,6 @@ compared-requires c κs =
       grants-few _ _ (are-bytes (a .parent .now) (b .before .shared-slice-known .given))
           (sym (x .v .given .1) ∙ x .before .before .read-descriptor .ensures),
     )
-
-enum-told : tie.Need-enum-told
-enum-told c = search needs
-
-enum-told-2 : tie.Need-enum-told-2
-enum-told-2 c = search needs
-
-enum-told-3 : tie.Need-enum-told-3
-enum-told-3 c = search needs
-
-enum-told-4 : tie.Need-enum-told-4
-enum-told-4 c = search needs
 
 returns : tie.Need-returns
 returns c =
@@ -78,18 +54,6 @@ returns-5 c = narrow-no-parent _ _ _ (omega arith) (sym (c .enum-told4 .given .1
 pub narrow-spec : {M : Type 1} → statement M
 narrow-spec =
     tie.close
-    (tie.spec
-    read-descriptor-requires
-    enum-known-v
-    read-descriptor-requires-2
-    enum-known-w
-    compared-requires
-    enum-told
-    enum-told-2
-    enum-told-3
-    enum-told-4
-    returns
-    returns-2
-    returns-3
-    returns-4
-    returns-5)
+    (tie.spec (λ c κs. search needs) (λ c. search needs) (λ c κs. search needs) (λ c. search needs) compared-requires
+    (λ c. search needs) (λ c. search needs) (λ c. search needs) (λ c. search needs) returns returns-2 returns-3
+    returns-4 returns-5)

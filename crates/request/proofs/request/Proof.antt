@@ -65,31 +65,13 @@ inside : (c : tie.After-held2)
     → c .held2 .given .0 .0 + c .held2 .given .0 .1 .0 ≤ length (at1 (before-match c .before .before .before) .args .image .now)
 inside c = held-inside _ _ _ _ _ _ _ (bytes (at2 (before-match c .before .before .before))) (surveyed c)
 
-well-formed-requires : tie.Need-well-formed-requires
-well-formed-requires c κs = search needs
-
 returns : tie.Need-returns
 returns c = decide-malformed _ _ (sym (c .before .well-formed .ensures) ∙ not-true _ (c .if1 .taken))
-
-check-requires : tie.Need-check-requires
-check-requires c κs = search needs
-
-enum-known-held : tie.Need-enum-known-held
-enum-known-held c = search needs
-
-enum-known-held-2 : tie.Need-enum-known-held-2
-enum-known-held-2 c = search needs
 
 add-on-body : tie.Need-add-on-body
 add-on-body c =
     let e = before-match (c .before) .before .before .before in
     omega (arith, inside (c .before), small (at2 e))
-
-sub-on-body : tie.Need-sub-on-body
-sub-on-body c = search needs
-
-part-on-body-start : tie.Need-part-on-body-start
-part-on-body-start c = search needs
 
 part-on-body-end : tie.Need-part-on-body-end
 part-on-body-end c = omega (arith, inside (c .before))
@@ -100,12 +82,6 @@ on-body-requires c κs =
     let e = before-match h .before .before .before in
     let w = formed e in
     (formed-resource _ _ _ _ _ _ _ w, formed-mode _ _ _ _ _ _ _ w, held-fits _ _ _ _ _ _ _ (bytes (at2 e)) (surveyed h))
-
-enum-told : tie.Need-enum-told
-enum-told c = search needs
-
-enum-told-2 : tie.Need-enum-told-2
-enum-told-2 c = search needs
 
 returns-2 : tie.Need-returns-2
 returns-2 c =
@@ -126,19 +102,6 @@ returns-4 c = let k = c .before .before in decide-unsound _ _ (formed (k .before
 pub request-spec : {M : Type 1} → statement M
 request-spec =
     tie.close
-    (tie.spec
-    well-formed-requires
-    returns
-    check-requires
-    enum-known-held
-    enum-known-held-2
-    add-on-body
-    sub-on-body
-    part-on-body-start
-    part-on-body-end
-    on-body-requires
-    enum-told
-    enum-told-2
-    returns-2
-    returns-3
-    returns-4)
+    (tie.spec (λ c κs. search needs) returns (λ c κs. search needs) (λ c. search needs) (λ c. search needs) add-on-body
+    (λ c. search needs) (λ c. search needs) part-on-body-end on-body-requires (λ c. search needs) (λ c. search needs)
+    returns-2 returns-3 returns-4)

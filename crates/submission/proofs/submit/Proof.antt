@@ -13,28 +13,13 @@ stores x =
     let h = x .before .before in
     choice-store _ _ _ _ _ _ _ _ _ (h .choose .ensures .1) (sym (h .choose .ensures .0) ∙ x .rows .given .1)
 
-choose-requires : tie.Need-choose-requires
-choose-requires c κs = search needs
-
-enum-known-answer : tie.Need-enum-known-answer
-enum-known-answer c = search needs
-
-enum-known-rows : tie.Need-enum-known-rows
-enum-known-rows c = search needs
-
 grow-requires : tie.Need-grow-requires
 grow-requires c κs =
     let k = stores (c .before .before) in
     (k .few, k .start, k .room, k .id)
 
-same-length : tie.Need-same-length
-same-length c = search needs
-
 returns : tie.Need-returns
 returns c = choice-answer _ _ _ _ _ _ (sym (c .before .before .before .choose .ensures .0) ∙ c .before .answer .given .1)
-
-same-length-2 : tie.Need-same-length-2
-same-length-2 c = search needs
 
 returns-2 : tie.Need-returns-2
 returns-2 c =
@@ -45,12 +30,5 @@ returns-2 c =
 pub submit-spec : {M : Type 1} → statement M
 submit-spec =
     tie.close
-    (tie.spec
-    choose-requires
-    enum-known-answer
-    enum-known-rows
-    grow-requires
-    same-length
-    returns
-    same-length-2
-    returns-2)
+    (tie.spec (λ c κs. search needs) (λ c. search needs) (λ c. search needs) grow-requires (λ c. search needs) returns
+    (λ c. search needs) returns-2)

@@ -8,75 +8,6 @@ use Rattle.cap.proofs.numbers.of_decision.Reads as reads
 use Rattle.cap.proofs.numbers.of_decision.Lts as lts
 use Rattle.cap.proofs.numbers.refused.Reads as refused-reads
 
-enum-known-decision : tie.Need-enum-known-decision
-enum-known-decision c = search needs
-
-enum-told : tie.Need-enum-told
-enum-told c = search needs
-
-refused-requires : tie.Need-refused-requires
-refused-requires c κs = search needs
-
-enum-told-2 : tie.Need-enum-told-2
-enum-told-2 c = search needs
-
-refused-requires-2 : tie.Need-refused-requires-2
-refused-requires-2 c κs = search needs
-
-enum-told-3 : tie.Need-enum-told-3
-enum-told-3 c = search needs
-
-refused-requires-3 : tie.Need-refused-requires-3
-refused-requires-3 c κs = search needs
-
-enum-told-4 : tie.Need-enum-told-4
-enum-told-4 c = search needs
-
-refused-requires-4 : tie.Need-refused-requires-4
-refused-requires-4 c κs = search needs
-
-enum-told-5 : tie.Need-enum-told-5
-enum-told-5 c = search needs
-
-refused-requires-5 : tie.Need-refused-requires-5
-refused-requires-5 c κs = search needs
-
-enum-told-6 : tie.Need-enum-told-6
-enum-told-6 c = search needs
-
-refused-requires-6 : tie.Need-refused-requires-6
-refused-requires-6 c κs = search needs
-
-enum-told-7 : tie.Need-enum-told-7
-enum-told-7 c = search needs
-
-refused-requires-7 : tie.Need-refused-requires-7
-refused-requires-7 c κs = search needs
-
-enum-told-8 : tie.Need-enum-told-8
-enum-told-8 c = search needs
-
-refused-requires-8 : tie.Need-refused-requires-8
-refused-requires-8 c κs = search needs
-
-enum-told-9 : tie.Need-enum-told-9
-enum-told-9 c = search needs
-
-refused-requires-9 : tie.Need-refused-requires-9
-refused-requires-9 c κs = search needs
-
-enum-told-10 : tie.Need-enum-told-10
-enum-told-10 c = search needs
-
-refused-requires-10 : tie.Need-refused-requires-10
-refused-requires-10 c κs = search needs
-
-enum-told-11 : tie.Need-enum-told-11
-enum-told-11 c = search needs
-
-refused-requires-11 : tie.Need-refused-requires-11
-refused-requires-11 c κs = search needs
-
 returns : tie.Need-returns
 returns c = sym (ap numbersOf (c .before .decision .given .1))
 
@@ -116,39 +47,9 @@ returns-12 c = c .refused11 .ensures ∙ sym (ap numbersOf (c .before .enum-told
 pub of-decision-spec : {M : Type 1} → statement M
 of-decision-spec =
     tie.close
-    (tie.spec
-    enum-known-decision
-    enum-told
-    refused-requires
-    enum-told-2
-    refused-requires-2
-    enum-told-3
-    refused-requires-3
-    enum-told-4
-    refused-requires-4
-    enum-told-5
-    refused-requires-5
-    enum-told-6
-    refused-requires-6
-    enum-told-7
-    refused-requires-7
-    enum-told-8
-    refused-requires-8
-    enum-told-9
-    refused-requires-9
-    enum-told-10
-    refused-requires-10
-    enum-told-11
-    refused-requires-11
-    returns
-    returns-2
-    returns-3
-    returns-4
-    returns-5
-    returns-6
-    returns-7
-    returns-8
-    returns-9
-    returns-10
-    returns-11
-    returns-12)
+    (tie.spec (λ c. search needs) (λ c. search needs) (λ c κs. search needs) (λ c. search needs) (λ c κs. search needs)
+    (λ c. search needs) (λ c κs. search needs) (λ c. search needs) (λ c κs. search needs) (λ c. search needs)
+    (λ c κs. search needs) (λ c. search needs) (λ c κs. search needs) (λ c. search needs) (λ c κs. search needs)
+    (λ c. search needs) (λ c κs. search needs) (λ c. search needs) (λ c κs. search needs) (λ c. search needs)
+    (λ c κs. search needs) (λ c. search needs) (λ c κs. search needs) returns returns-2 returns-3 returns-4 returns-5
+    returns-6 returns-7 returns-8 returns-9 returns-10 returns-11 returns-12)

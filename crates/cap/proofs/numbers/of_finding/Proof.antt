@@ -8,30 +8,6 @@ use Rattle.cap.proofs.numbers.of_finding.Reads as reads
 use Rattle.cap.proofs.numbers.of_finding.Lts as lts
 use Rattle.cap.proofs.numbers.stored.Reads as stored-reads
 
-enum-known-finding : tie.Need-enum-known-finding
-enum-known-finding c = search needs
-
-stored-requires : tie.Need-stored-requires
-stored-requires c κs = search needs
-
-enum-told : tie.Need-enum-told
-enum-told c = search needs
-
-stored-requires-2 : tie.Need-stored-requires-2
-stored-requires-2 c κs = search needs
-
-enum-told-2 : tie.Need-enum-told-2
-enum-told-2 c = search needs
-
-stored-requires-3 : tie.Need-stored-requires-3
-stored-requires-3 c κs = search needs
-
-enum-told-3 : tie.Need-enum-told-3
-enum-told-3 c = search needs
-
-stored-requires-4 : tie.Need-stored-requires-4
-stored-requires-4 c κs = search needs
-
 returns : tie.Need-returns
 returns c = c .stored .ensures ∙ sym (ap numbersOf (c .before .before .finding .given .1))
 
@@ -47,16 +23,5 @@ returns-4 c = c .stored4 .ensures ∙ sym (ap numbersOf (c .before .enum-told3 .
 pub of-finding-spec : {M : Type 1} → statement M
 of-finding-spec =
     tie.close
-    (tie.spec
-    enum-known-finding
-    stored-requires
-    enum-told
-    stored-requires-2
-    enum-told-2
-    stored-requires-3
-    enum-told-3
-    stored-requires-4
-    returns
-    returns-2
-    returns-3
-    returns-4)
+    (tie.spec (λ c. search needs) (λ c κs. search needs) (λ c. search needs) (λ c κs. search needs) (λ c. search needs)
+    (λ c κs. search needs) (λ c. search needs) (λ c κs. search needs) returns returns-2 returns-3 returns-4)

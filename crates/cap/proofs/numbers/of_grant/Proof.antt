@@ -14,12 +14,6 @@ use Rattle.cap.proofs.numbers.of_grant.Lts as lts
 abbrev shown : GrantRead → GrantNumbers
 shown v = grantNumbers (grantRead v)
 
-enum-known-grant : tie.Need-enum-known-grant
-enum-known-grant c = search needs
-
-enum-told : tie.Need-enum-told
-enum-told c = search needs
-
 returns : tie.Need-returns
 returns c = sym (ap shown (c .before .grant .given .1))
 
@@ -27,4 +21,4 @@ returns-2 : tie.Need-returns-2
 returns-2 c = sym (ap shown (c .enum-told .given .1))
 
 pub of-grant-spec : {M : Type 1} → statement M
-of-grant-spec = tie.close (tie.spec enum-known-grant enum-told returns returns-2)
+of-grant-spec = tie.close (tie.spec (λ c. search needs) (λ c. search needs) returns returns-2)

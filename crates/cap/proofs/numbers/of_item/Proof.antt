@@ -8,39 +8,6 @@ use Rattle.cap.proofs.numbers.of_item.Reads as reads
 use Rattle.cap.proofs.numbers.of_item.Lts as lts
 use Rattle.cap.proofs.numbers.numbered.Reads as numbered-reads
 
-enum-known-item : tie.Need-enum-known-item
-enum-known-item c = search needs
-
-numbered-requires : tie.Need-numbered-requires
-numbered-requires c κs = search needs
-
-enum-known-item-2 : tie.Need-enum-known-item-2
-enum-known-item-2 c = search needs
-
-numbered-requires-2 : tie.Need-numbered-requires-2
-numbered-requires-2 c κs = search needs
-
-enum-known-item-3 : tie.Need-enum-known-item-3
-enum-known-item-3 c = search needs
-
-numbered-requires-3 : tie.Need-numbered-requires-3
-numbered-requires-3 c κs = search needs
-
-enum-known-item-4 : tie.Need-enum-known-item-4
-enum-known-item-4 c = search needs
-
-numbered-requires-4 : tie.Need-numbered-requires-4
-numbered-requires-4 c κs = search needs
-
-enum-known-item-5 : tie.Need-enum-known-item-5
-enum-known-item-5 c = search needs
-
-numbered-requires-5 : tie.Need-numbered-requires-5
-numbered-requires-5 c κs = search needs
-
-enum-told : tie.Need-enum-told
-enum-told c = search needs
-
 returns : tie.Need-returns
 returns c = c .numbered .ensures ∙ sym (ap numbersOf (c .before .before .item .given .1))
 
@@ -62,21 +29,6 @@ returns-6 c = sym (ap numbersOf (c .enum-told .given .1))
 pub of-item-spec : {M : Type 1} → statement M
 of-item-spec =
     tie.close
-    (tie.spec
-    enum-known-item
-    numbered-requires
-    enum-known-item-2
-    numbered-requires-2
-    enum-known-item-3
-    numbered-requires-3
-    enum-known-item-4
-    numbered-requires-4
-    enum-known-item-5
-    numbered-requires-5
-    enum-told
-    returns
-    returns-2
-    returns-3
-    returns-4
-    returns-5
-    returns-6)
+    (tie.spec (λ c. search needs) (λ c κs. search needs) (λ c. search needs) (λ c κs. search needs) (λ c. search needs)
+    (λ c κs. search needs) (λ c. search needs) (λ c κs. search needs) (λ c. search needs) (λ c κs. search needs)
+    (λ c. search needs) returns returns-2 returns-3 returns-4 returns-5 returns-6)

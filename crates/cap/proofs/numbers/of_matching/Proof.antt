@@ -7,15 +7,6 @@ use Rattle.cap.proofs.numbers.of_matching.Tie as tie
 use Rattle.cap.proofs.numbers.of_matching.Reads as reads
 use Rattle.cap.proofs.numbers.of_matching.Lts as lts
 
-enum-told : tie.Need-enum-told
-enum-told c = search needs
-
-enum-told-2 : tie.Need-enum-told-2
-enum-told-2 c = search needs
-
-enum-told-3 : tie.Need-enum-told-3
-enum-told-3 c = search needs
-
 returns : tie.Need-returns
 returns c = sym (ap numbersOf (c .enum-told .given .1))
 
@@ -27,4 +18,4 @@ returns-3 c = sym (ap numbersOf (c .enum-told3 .given .1))
 
 pub of-matching-spec : {M : Type 1} → statement M
 of-matching-spec =
-    tie.close (tie.spec enum-told enum-told-2 enum-told-3 returns returns-2 returns-3)
+    tie.close (tie.spec (λ c. search needs) (λ c. search needs) (λ c. search needs) returns returns-2 returns-3)

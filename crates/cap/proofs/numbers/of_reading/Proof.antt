@@ -9,24 +9,6 @@ use Rattle.cap.proofs.numbers.of_reading.Lts as lts
 use Rattle.cap.proofs.numbers.no_descriptor.Reads as no-descriptor-reads
 use Rattle.cap.proofs.numbers.of_fields.Reads as of-fields-reads
 
-enum-known-reading : tie.Need-enum-known-reading
-enum-known-reading c = search needs
-
-of-fields-requires : tie.Need-of-fields-requires
-of-fields-requires c κs = search needs
-
-enum-told : tie.Need-enum-told
-enum-told c = search needs
-
-no-descriptor-requires : tie.Need-no-descriptor-requires
-no-descriptor-requires c κs = search needs
-
-enum-told-2 : tie.Need-enum-told-2
-enum-told-2 c = search needs
-
-no-descriptor-requires-2 : tie.Need-no-descriptor-requires-2
-no-descriptor-requires-2 c κs = search needs
-
 returns : tie.Need-returns
 returns c = c .of-fields .ensures ∙ sym (ap numbersOf (c .before .before .reading .given .1))
 
@@ -39,13 +21,5 @@ returns-3 c = c .no-descriptor2 .ensures ∙ sym (ap numbersOf (c .before .enum-
 pub of-reading-spec : {M : Type 1} → statement M
 of-reading-spec =
     tie.close
-    (tie.spec
-    enum-known-reading
-    of-fields-requires
-    enum-told
-    no-descriptor-requires
-    enum-told-2
-    no-descriptor-requires-2
-    returns
-    returns-2
-    returns-3)
+    (tie.spec (λ c. search needs) (λ c κs. search needs) (λ c. search needs) (λ c κs. search needs) (λ c. search needs)
+    (λ c κs. search needs) returns returns-2 returns-3)

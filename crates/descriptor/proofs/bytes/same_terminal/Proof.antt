@@ -8,13 +8,10 @@ use Rattle.descriptor.proofs.bytes.same_terminal.Tie as tie
 use Rattle.descriptor.proofs.bytes.same_terminal.Reads as reads
 use Rattle.descriptor.proofs.bytes.same_terminal.Lts as lts
 
-same-start-requires : tie.Need-same-start-requires
-same-start-requires c κs = search needs
-
 returns : tie.Need-returns
 returns c =
     let s = c .before .before .before in
     start-answer (s .args .a .now) (s .args .b .now) terminalSize (s .pre .0) (s .pre .1) (c .same-start .ensures)
 
 pub same-terminal-spec : {M : Type 1} → statement M
-same-terminal-spec = tie.close (tie.spec same-start-requires returns)
+same-terminal-spec = tie.close (tie.spec (λ c κs. search needs) returns)

@@ -12,24 +12,9 @@ use borrow.Author.Needs.{needs}
 use Rattle.descriptor.proofs.grants.grant_at.Statement.{statement}
 use Rattle.descriptor.proofs.grants.grant_at.Tie as tie
 
-count-at-requires : tie.Need-count-at-requires
-count-at-requires c κs = search needs
-
-enum-known-count : tie.Need-enum-known-count
-enum-known-count c = search needs
-
-enum-told : tie.Need-enum-told
-enum-told c = search needs
-
 returns : tie.Need-returns
 unfolding grantAt kModes
 returns c = stopped _ (sym (ap countRead (c .enum-told .given .1)) ∙ c .before .before .count-at .ensures)
-
-slice-aggregate-has-at : tie.Need-slice-aggregate-has-at
-slice-aggregate-has-at c = search needs
-
-has-at-requires : tie.Need-has-at-requires
-has-at-requires c κs = search needs
 
 returns-2 : tie.Need-returns-2
 unfolding grantAt kModes
@@ -41,15 +26,6 @@ returns-2 c =
 add-modes-at : tie.Need-add-modes-at
 add-modes-at c = omega (arith, key-room _ _ _ _ (lit< tt) (c .before .has-at .ensures) (c .if1 .left))
 
-modes-at-requires : tie.Need-modes-at-requires
-modes-at-requires c κs = search needs
-
-enum-known-mask : tie.Need-enum-known-mask
-enum-known-mask c = search needs
-
-enum-told-2 : tie.Need-enum-told-2
-enum-told-2 c = search needs
-
 returns-3 : tie.Need-returns-3
 unfolding grantAt kModes
 returns-3 c =
@@ -59,25 +35,10 @@ returns-3 c =
     (stopped _ (passed _ (T-of-not _ (e .before .has-at .ensures) (e .if1 .left))
     (sym (ap countRead (c .enum-told2 .given .1)) ∙ c .before .before .modes-at .ensures)))
 
-slice-aggregate-opt-pairs : tie.Need-slice-aggregate-opt-pairs
-slice-aggregate-opt-pairs c = search needs
-
-opt-pairs-requires : tie.Need-opt-pairs-requires
-opt-pairs-requires c κs = search needs
-
-enum-told-3 : tie.Need-enum-told-3
-enum-told-3 c = search needs
-
 add-grant-end : tie.Need-add-grant-end
 add-grant-end c =
     let e = c .before .before .before .before .before .before .before .before in
     omega (arith, key-room _ _ _ _ (lit< tt) (e .before .has-at .ensures) (e .if1 .left))
-
-grant-end-requires : tie.Need-grant-end-requires
-grant-end-requires c κs = search needs
-
-enum-known-pairs : tie.Need-enum-known-pairs
-enum-known-pairs c = search needs
 
 add-grant-end-2 : tie.Need-add-grant-end-2
 add-grant-end-2 c =
@@ -89,12 +50,6 @@ add-grant-end-3 c =
     let k = c .before in
     let h = k .before .before .before .before .before .before .before .before .before .before .before .before .before .before .before .before in
     omega (arith, h .good .0, opt-room (h .args .s .now) _ _ _ (lit< tt) (sym (ap (optRead _) (k .pairs .given .1)) ∙ k .before .before .opt-pairs .ensures))
-
-grant-end-requires-2 : tie.Need-grant-end-requires-2
-grant-end-requires-2 c κs = search needs
-
-enum-told-4 : tie.Need-enum-told-4
-enum-told-4 c = search needs
 
 returns-4 : tie.Need-returns-4
 unfolding grantAt grantEnd kModes kConstraints kResourcePattern
@@ -131,29 +86,8 @@ returns-6 c =
 pub grant-at-spec : {M : Type 1} → statement M
 grant-at-spec =
     tie.close
-    (tie.spec
-    count-at-requires
-    enum-known-count
-    enum-told
-    returns
-    slice-aggregate-has-at
-    has-at-requires
-    returns-2
-    add-modes-at
-    modes-at-requires
-    enum-known-mask
-    enum-told-2
-    returns-3
-    slice-aggregate-opt-pairs
-    opt-pairs-requires
-    enum-told-3
-    add-grant-end
-    grant-end-requires
-    enum-known-pairs
-    add-grant-end-2
-    add-grant-end-3
-    grant-end-requires-2
-    enum-told-4
-    returns-4
-    returns-5
+    (tie.spec (λ c κs. search needs) (λ c. search needs) (λ c. search needs) returns (λ c. search needs)
+    (λ c κs. search needs) returns-2 add-modes-at (λ c κs. search needs) (λ c. search needs) (λ c. search needs)
+    returns-3 (λ c. search needs) (λ c κs. search needs) (λ c. search needs) add-grant-end (λ c κs. search needs)
+    (λ c. search needs) add-grant-end-2 add-grant-end-3 (λ c κs. search needs) (λ c. search needs) returns-4 returns-5
     returns-6)

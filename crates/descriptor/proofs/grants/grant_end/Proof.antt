@@ -12,18 +12,6 @@ use borrow.Author.Needs.{needs}
 use Rattle.descriptor.proofs.grants.grant_end.Statement.{statement}
 use Rattle.descriptor.proofs.grants.grant_end.Tie as tie
 
-slice-aggregate-keyed-word : tie.Need-slice-aggregate-keyed-word
-slice-aggregate-keyed-word c = search needs
-
-keyed-word-requires : tie.Need-keyed-word-requires
-keyed-word-requires c κs = search needs
-
-enum-known-start : tie.Need-enum-known-start
-enum-known-start c = search needs
-
-enum-told : tie.Need-enum-told
-enum-told c = search needs
-
 returns : tie.Need-returns
 unfolding grantEnd kResourcePattern
 returns c = stopped _ (sym (ap spanRead (c .enum-told .given .1)) ∙ c .before .before .keyed-word .ensures)
@@ -48,12 +36,5 @@ returns-3 c =
 pub grant-end-spec : {M : Type 1} → statement M
 grant-end-spec =
     tie.close
-    (tie.spec
-    slice-aggregate-keyed-word
-    keyed-word-requires
-    enum-known-start
-    enum-told
-    returns
-    add-t16
-    returns-2
-    returns-3)
+    (tie.spec (λ c. search needs) (λ c κs. search needs) (λ c. search needs) (λ c. search needs) returns add-t16
+    returns-2 returns-3)

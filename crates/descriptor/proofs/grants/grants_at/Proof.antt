@@ -34,27 +34,9 @@ limits k = count-room _ _ 4 1 256 (counted k)
 seen : (k : tie.After-fields Inv-loop μ-loop) → (k .fields .given .0 .0 .pattern + 46 ≤ length (k .before .before .before .before .before .before .before .before .args .s .now)) × (k .fields .given .0 .0 .pairs ≤ 8)
 seen k = grant-room _ _ (sym (ap grantRead (k .fields .given .1)) ∙ k .before .before .grant-at .ensures)
 
-count-at-requires : tie.Need-count-at-requires Inv-loop μ-loop
-count-at-requires c κs = search needs
-
-enum-known-count : tie.Need-enum-known-count Inv-loop μ-loop
-enum-known-count c = search needs
-
-enum-told : tie.Need-enum-told Inv-loop μ-loop
-enum-told c = search needs
-
 returns : tie.Need-returns Inv-loop μ-loop
 unfolding grantsAt
 returns c = stopped _ (sym (ap countRead (c .enum-told .given .1)) ∙ c .before .before .count-at .ensures)
-
-grant-at-requires : tie.Need-grant-at-requires Inv-loop μ-loop
-grant-at-requires c κs = search needs
-
-enum-known-fields : tie.Need-enum-known-fields Inv-loop μ-loop
-enum-known-fields c = search needs
-
-enum-told-2 : tie.Need-enum-told-2 Inv-loop μ-loop
-enum-told-2 c = search needs
 
 returns-2 : tie.Need-returns-2 Inv-loop μ-loop
 unfolding grantsAt
@@ -73,23 +55,11 @@ loop-holds c =
 more-at-requires : tie.Need-more-at-requires Inv-loop μ-loop
 more-at-requires c κs = (c .before .loop .inv .0, omega (arith, c .before .loop .inv .1))
 
-enum-known-more : tie.Need-enum-known-more Inv-loop μ-loop
-enum-known-more c = search needs
-
-enum-told-3 : tie.Need-enum-told-3 Inv-loop μ-loop
-enum-told-3 c = search needs
-
 returns-3 : tie.Need-returns-3 Inv-loop μ-loop
 returns-3 c =
     let l = c .before .before .before .before in
     grants-stop _ _ _ _ _ _ _ (c .before .before .before .loop-test .taken)
     (sym (ap sumRead (c .enum-told3 .given .1)) ∙ c .before .before .more-at .ensures) ∙ l .loop .inv .2
-
-sub-left-2 : tie.Need-sub-left-2 Inv-loop μ-loop
-sub-left-2 c = search needs
-
-loop-less : tie.Need-loop-less Inv-loop μ-loop
-loop-less c = search needs
 
 loop-again : tie.Need-loop-again Inv-loop μ-loop
 loop-again c =
@@ -104,24 +74,6 @@ returns-4 c = grants-done _ _ _ _ _ _ _ (omega arith) ∙ c .before .loop .inv .
 pub grants-at-spec : {M : Type 1} → statement M
 grants-at-spec =
     tie.close
-    (tie.spec
-    Inv-loop
-    μ-loop
-    count-at-requires
-    enum-known-count
-    enum-told
-    returns
-    grant-at-requires
-    enum-known-fields
-    enum-told-2
-    returns-2
-    sub-left
-    loop-holds
-    more-at-requires
-    enum-known-more
-    enum-told-3
-    returns-3
-    sub-left-2
-    loop-less
-    loop-again
-    returns-4)
+    (tie.spec Inv-loop μ-loop (λ c κs. search needs) (λ c. search needs) (λ c. search needs) returns
+    (λ c κs. search needs) (λ c. search needs) (λ c. search needs) returns-2 sub-left loop-holds more-at-requires
+    (λ c. search needs) (λ c. search needs) returns-3 (λ c. search needs) (λ c. search needs) loop-again returns-4)

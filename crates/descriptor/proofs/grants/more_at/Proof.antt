@@ -18,15 +18,6 @@ seen : (k : tie.After-fields) → (k .fields .given .0 .0 .pattern + 46 ≤ leng
     × (k .fields .given .0 .0 .pairs ≤ 8)
 seen k = grant-room _ _ (sym (ap grantRead (k .fields .given .1)) ∙ k .before .before .grant-at .ensures)
 
-grant-at-requires : tie.Need-grant-at-requires
-grant-at-requires c κs = search needs
-
-enum-known-fields : tie.Need-enum-known-fields
-enum-known-fields c = search needs
-
-enum-told : tie.Need-enum-told
-enum-told c = search needs
-
 returns : tie.Need-returns
 unfolding moreAt
 returns c = stopped _ (sym (ap grantRead (c .enum-told .given .1)) ∙ c .before .before .grant-at .ensures)
@@ -36,18 +27,6 @@ sub-same-terminal c = omega (arith, seen (c .before) .0)
 
 part-same-terminal-start : tie.Need-part-same-terminal-start
 part-same-terminal-start c = omega (arith, seen (c .before) .0)
-
-part-same-terminal-end : tie.Need-part-same-terminal-end
-part-same-terminal-end c = search needs
-
-sub-same-terminal-2 : tie.Need-sub-same-terminal-2
-sub-same-terminal-2 c = search needs
-
-part-same-terminal-start-2 : tie.Need-part-same-terminal-start-2
-part-same-terminal-start-2 c = search needs
-
-part-same-terminal-end-2 : tie.Need-part-same-terminal-end-2
-part-same-terminal-end-2 c = search needs
 
 same-terminal-requires : tie.Need-same-terminal-requires
 same-terminal-requires c κs =
@@ -80,18 +59,6 @@ returns-3 c =
 pub more-at-spec : {M : Type 1} → statement M
 more-at-spec =
     tie.close
-    (tie.spec
-    grant-at-requires
-    enum-known-fields
-    enum-told
-    returns
-    sub-same-terminal
-    part-same-terminal-start
-    part-same-terminal-end
-    sub-same-terminal-2
-    part-same-terminal-start-2
-    part-same-terminal-end-2
-    same-terminal-requires
-    add-pairs
-    returns-2
-    returns-3)
+    (tie.spec (λ c κs. search needs) (λ c. search needs) (λ c. search needs) returns sub-same-terminal
+    part-same-terminal-start (λ c. search needs) (λ c. search needs) (λ c. search needs) (λ c. search needs)
+    same-terminal-requires add-pairs returns-2 returns-3)

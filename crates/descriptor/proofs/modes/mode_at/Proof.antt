@@ -10,21 +10,12 @@ use borrow.Author.Needs.{needs}
 use Rattle.descriptor.proofs.modes.mode_at.Statement.{statement}
 use Rattle.descriptor.proofs.modes.mode_at.Tie as tie
 
-slice-aggregate-has-at : tie.Need-slice-aggregate-has-at
-slice-aggregate-has-at c = search needs
-
-has-at-requires : tie.Need-has-at-requires
-has-at-requires c κs = search needs
-
 add-with-mode : tie.Need-add-with-mode
 unfolding mRead
 add-with-mode c =
     let a = c .before .before .before .before .args in
     let e : a .at + 5 < 2 ^ 64 = key-end (a .s .now) (a .at) mRead (2 ^ 64) (T-of (c .before .has-at .ensures) (c .if1 .taken)) (omega arith) (omega arith) in
     omega (arith, e)
-
-with-mode-requires : tie.Need-with-mode-requires
-with-mode-requires c κs = search needs
 
 returns : tie.Need-returns
 unfolding mRead
@@ -33,21 +24,12 @@ returns c =
     let a = t .before .before .before .before .args in
     mode-read (a .s .now) (a .mask) (a .at) (sym (t .before .has-at .ensures) ∙ t .if1 .taken) (c .with-mode .ensures)
 
-slice-aggregate-has-at-2 : tie.Need-slice-aggregate-has-at-2
-slice-aggregate-has-at-2 c = search needs
-
-has-at-requires-2 : tie.Need-has-at-requires-2
-has-at-requires-2 c κs = search needs
-
 add-with-mode-2 : tie.Need-add-with-mode-2
 unfolding mWrite
 add-with-mode-2 c =
     let a = c .before .before .before .before .before .before .before .args in
     let e : a .at + 6 < 2 ^ 64 = key-end (a .s .now) (a .at) mWrite (2 ^ 64) (T-of (c .before .has-at2 .ensures) (c .if2 .taken)) (omega arith) (omega arith) in
     omega (arith, e)
-
-with-mode-requires-2 : tie.Need-with-mode-requires-2
-with-mode-requires-2 c κs = search needs
 
 returns-2 : tie.Need-returns-2
 unfolding mRead mWrite
@@ -58,21 +40,12 @@ returns-2 c =
     mode-write (a .s .now) (a .mask) (a .at) (sym (e1 .before .has-at .ensures) ∙ e1 .if1 .left)
     (sym (t .before .has-at2 .ensures) ∙ t .if2 .taken) (c .with-mode2 .ensures)
 
-slice-aggregate-has-at-3 : tie.Need-slice-aggregate-has-at-3
-slice-aggregate-has-at-3 c = search needs
-
-has-at-requires-3 : tie.Need-has-at-requires-3
-has-at-requires-3 c κs = search needs
-
 add-with-mode-3 : tie.Need-add-with-mode-3
 unfolding mExecute
 add-with-mode-3 c =
     let a = c .before .before .before .before .before .before .before .before .before .before .args in
     let e : a .at + 8 < 2 ^ 64 = key-end (a .s .now) (a .at) mExecute (2 ^ 64) (T-of (c .before .has-at3 .ensures) (c .if3 .taken)) (omega arith) (omega arith) in
     omega (arith, e)
-
-with-mode-requires-3 : tie.Need-with-mode-requires-3
-with-mode-requires-3 c κs = search needs
 
 returns-3 : tie.Need-returns-3
 unfolding mRead mWrite mExecute
@@ -85,21 +58,12 @@ returns-3 c =
     (sym (e2 .before .has-at2 .ensures) ∙ e2 .if2 .left)
     (sym (t .before .has-at3 .ensures) ∙ t .if3 .taken) (c .with-mode3 .ensures)
 
-slice-aggregate-has-at-4 : tie.Need-slice-aggregate-has-at-4
-slice-aggregate-has-at-4 c = search needs
-
-has-at-requires-4 : tie.Need-has-at-requires-4
-has-at-requires-4 c κs = search needs
-
 add-with-mode-4 : tie.Need-add-with-mode-4
 unfolding mConfigure
 add-with-mode-4 c =
     let a = c .before .before .before .before .before .before .before .before .before .before .before .before .before .args in
     let e : a .at + 10 < 2 ^ 64 = key-end (a .s .now) (a .at) mConfigure (2 ^ 64) (T-of (c .before .has-at4 .ensures) (c .if4 .taken)) (omega arith) (omega arith) in
     omega (arith, e)
-
-with-mode-requires-4 : tie.Need-with-mode-requires-4
-with-mode-requires-4 c κs = search needs
 
 returns-4 : tie.Need-returns-4
 unfolding mRead mWrite mExecute mConfigure
@@ -127,25 +91,7 @@ returns-5 c =
 pub mode-at-spec : {M : Type 1} → statement M
 mode-at-spec =
     tie.close
-    (tie.spec
-    slice-aggregate-has-at
-    has-at-requires
-    add-with-mode
-    with-mode-requires
-    returns
-    slice-aggregate-has-at-2
-    has-at-requires-2
-    add-with-mode-2
-    with-mode-requires-2
-    returns-2
-    slice-aggregate-has-at-3
-    has-at-requires-3
-    add-with-mode-3
-    with-mode-requires-3
-    returns-3
-    slice-aggregate-has-at-4
-    has-at-requires-4
-    add-with-mode-4
-    with-mode-requires-4
-    returns-4
-    returns-5)
+    (tie.spec (λ c. search needs) (λ c κs. search needs) add-with-mode (λ c κs. search needs) returns
+    (λ c. search needs) (λ c κs. search needs) add-with-mode-2 (λ c κs. search needs) returns-2 (λ c. search needs)
+    (λ c κs. search needs) add-with-mode-3 (λ c κs. search needs) returns-3 (λ c. search needs) (λ c κs. search needs)
+    add-with-mode-4 (λ c κs. search needs) returns-4 returns-5)

@@ -30,30 +30,12 @@ one : (w : tie.After-with Inv-loop μ-loop) → got (w .with .given .0 .0) (w .w
     ≡ modeAt (w .before .before .before .before .before .before .before .before .before .before .args .s .now) (w .before .before .before .before .loop .mask) (w .before .before .before .before .loop .here)
 one w = sym (ap countRead (w .with .given .1)) ∙ w .before .before .mode-at .ensures
 
-count-at-requires : tie.Need-count-at-requires Inv-loop μ-loop
-count-at-requires c κs = search needs
-
-enum-known-value : tie.Need-enum-known-value Inv-loop μ-loop
-enum-known-value c = search needs
-
-enum-told : tie.Need-enum-told Inv-loop μ-loop
-enum-told c = search needs
-
 returns : tie.Need-returns Inv-loop μ-loop
 unfolding modesAt
 returns c = stopped _ (sym (ap countRead (c .enum-told .given .1)) ∙ c .before .before .count-at .ensures)
 
 loop-holds : tie.Need-loop-holds Inv-loop μ-loop
 loop-holds c = (omega arith, refl)
-
-mode-at-requires : tie.Need-mode-at-requires Inv-loop μ-loop
-mode-at-requires c κs = search needs
-
-enum-known-with : tie.Need-enum-known-with Inv-loop μ-loop
-enum-known-with c = search needs
-
-enum-told-2 : tie.Need-enum-told-2 Inv-loop μ-loop
-enum-told-2 c = search needs
 
 returns-2 : tie.Need-returns-2 Inv-loop μ-loop
 returns-2 c =
@@ -63,12 +45,6 @@ returns-2 c =
     modes-no (a .s .now) (a .at) (k .value .given .0 .0) (k .value .given .0 .1 .0) (l .loop .left) (l .loop .mask) (l .loop .here)
     (counted k) (l .loop .inv .1) (omega arith)
     (sym (ap countRead (c .enum-told2 .given .1)) ∙ c .before .before .mode-at .ensures)
-
-sub-left : tie.Need-sub-left Inv-loop μ-loop
-sub-left c = search needs
-
-loop-less : tie.Need-loop-less Inv-loop μ-loop
-loop-less c = search needs
 
 loop-again : tie.Need-loop-again Inv-loop μ-loop
 loop-again c =
@@ -90,19 +66,6 @@ returns-3 c =
 pub modes-at-spec : {M : Type 1} → statement M
 modes-at-spec =
     tie.close
-    (tie.spec
-    Inv-loop
-    μ-loop
-    count-at-requires
-    enum-known-value
-    enum-told
-    returns
-    loop-holds
-    mode-at-requires
-    enum-known-with
-    enum-told-2
-    returns-2
-    sub-left
-    loop-less
-    loop-again
-    returns-3)
+    (tie.spec Inv-loop μ-loop (λ c κs. search needs) (λ c. search needs) (λ c. search needs) returns loop-holds
+    (λ c κs. search needs) (λ c. search needs) (λ c. search needs) returns-2 (λ c. search needs) (λ c. search needs)
+    loop-again returns-3)

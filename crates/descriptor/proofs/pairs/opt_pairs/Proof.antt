@@ -10,9 +10,6 @@ use borrow.Author.Needs.{needs}
 use Rattle.descriptor.proofs.pairs.opt_pairs.Statement.{statement}
 use Rattle.descriptor.proofs.pairs.opt_pairs.Tie as tie
 
-has-at-requires : tie.Need-has-at-requires
-has-at-requires c κs = search needs
-
 returns : tie.Need-returns
 returns c = opt-absent _ _ _ (not-T-of _ (c .before .has-at .ensures) (c .if1 .taken))
 
@@ -20,15 +17,6 @@ add-pairs-at : tie.Need-add-pairs-at
 add-pairs-at c =
     let a = c .before .before .before .before .args in
     omega (arith, key-end (a .s .now) (a .at) (a .key .now) (2 ^ 64) (T-of-not _ (c .before .has-at .ensures) (c .if1 .left)) (omega arith) (omega arith))
-
-pairs-at-requires : tie.Need-pairs-at-requires
-pairs-at-requires c κs = search needs
-
-enum-known-value : tie.Need-enum-known-value
-enum-known-value c = search needs
-
-enum-told : tie.Need-enum-told
-enum-told c = search needs
 
 returns-2 : tie.Need-returns-2
 returns-2 c =
@@ -46,12 +34,5 @@ returns-3 c =
 pub opt-pairs-spec : {M : Type 1} → statement M
 opt-pairs-spec =
     tie.close
-    (tie.spec
-    has-at-requires
-    returns
-    add-pairs-at
-    pairs-at-requires
-    enum-known-value
-    enum-told
-    returns-2
-    returns-3)
+    (tie.spec (λ c κs. search needs) returns add-pairs-at (λ c κs. search needs) (λ c. search needs) (λ c. search needs)
+    returns-2 returns-3)

@@ -27,15 +27,6 @@ key-in k = text-bound (k .before .before .before .before .args .s .now) (k .befo
 value : (f : tie.After-from) → got (spanOf (f .from .given .0 .0) (f .from .given .0 .1 .0)) (f .from .given .0 .0 + f .from .given .0 .1 .0) ≡ textAt (f .before .before .before .before .before .before .before .before .before .before .before .before .args .s .now) (f .before .before .before .before .before .before .before .before .start .given .0 .0 + f .before .before .before .before .before .before .before .before .start .given .0 .1 .0) 0 256
 value f = sym (ap spanRead (f .from .given .1)) ∙ f .before .before .text-at2 .ensures
 
-text-at-requires : tie.Need-text-at-requires
-text-at-requires c κs = search needs
-
-enum-known-start : tie.Need-enum-known-start
-enum-known-start c = search needs
-
-enum-told : tie.Need-enum-told
-enum-told c = search needs
-
 returns : tie.Need-returns
 returns c =
     let a = c .before .before .before .before .args in
@@ -43,18 +34,6 @@ returns c =
 
 add-end : tie.Need-add-end
 add-end c = omega (arith, key-in (c .before) .1)
-
-add-before : tie.Need-add-before
-add-before c = search needs
-
-sub-before : tie.Need-sub-before
-sub-before c = search needs
-
-part-before-start : tie.Need-part-before-start
-part-before-start c = search needs
-
-part-before-end : tie.Need-part-before-end
-part-before-end c = search needs
 
 sub-before-2 : tie.Need-sub-before-2
 sub-before-2 c = omega (arith, key-in (c .before .before) .0)
@@ -65,24 +44,12 @@ part-before-start-2 c = omega (arith, key-in (c .before .before) .0)
 part-before-end-2 : tie.Need-part-before-end-2
 part-before-end-2 c = omega (arith, key-in (c .before .before) .1)
 
-before-requires : tie.Need-before-requires
-before-requires c κs = search needs
-
 returns-2 : tie.Need-returns-2
 returns-2 c =
     let k = c .before .before .before .before .before in
     let a = k .before .before .before .before .args in
     pair-early (a .s .now) (a .last) (a .len) (a .at) (k .start .given .0 .0) (k .start .given .0 .1 .0) _ (key k)
     (c .before .before2 .ensures) (c .if1 .taken)
-
-text-at-requires-2 : tie.Need-text-at-requires-2
-text-at-requires-2 c κs = search needs
-
-enum-known-from : tie.Need-enum-known-from
-enum-known-from c = search needs
-
-enum-told-2 : tie.Need-enum-told-2
-enum-told-2 c = search needs
 
 returns-3 : tie.Need-returns-3
 returns-3 c =
@@ -116,25 +83,7 @@ returns-4 c =
 pub pair-at-spec : {M : Type 1} → statement M
 pair-at-spec =
     tie.close
-    (tie.spec
-    text-at-requires
-    enum-known-start
-    enum-told
-    returns
-    add-end
-    add-before
-    sub-before
-    part-before-start
-    part-before-end
-    sub-before-2
-    part-before-start-2
-    part-before-end-2
-    before-requires
-    returns-2
-    text-at-requires-2
-    enum-known-from
-    enum-told-2
-    returns-3
-    sub-t12
-    add-t14
-    returns-4)
+    (tie.spec (λ c κs. search needs) (λ c. search needs) (λ c. search needs) returns add-end (λ c. search needs)
+    (λ c. search needs) (λ c. search needs) (λ c. search needs) sub-before-2 part-before-start-2 part-before-end-2
+    (λ c κs. search needs) returns-2 (λ c κs. search needs) (λ c. search needs) (λ c. search needs) returns-3 sub-t12
+    add-t14 returns-4)

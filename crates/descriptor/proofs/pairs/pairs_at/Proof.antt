@@ -32,30 +32,12 @@ counted k = sym (ap countRead (k .value .given .1)) ∙ k .before .before .count
 one : (w : tie.After-n Inv-loop μ-loop) → got (spanOf (w .before .before .before .before .loop .here) (w .n .given .0 .0)) (w .n .given .0 .1 .0) ≡ pairAt (w .before .before .before .before .before .before .before .before .before .before .args .s .now) (spanOf (w .before .before .before .before .loop .last) (w .before .before .before .before .loop .len)) (w .before .before .before .before .loop .here)
 one w = sym (ap (pairRead (w .before .before .before .before .loop .here)) (w .n .given .1)) ∙ w .before .before .pair-at .ensures
 
-count-at-requires : tie.Need-count-at-requires Inv-loop μ-loop
-count-at-requires c κs = search needs
-
-enum-known-value : tie.Need-enum-known-value Inv-loop μ-loop
-enum-known-value c = search needs
-
-enum-told : tie.Need-enum-told Inv-loop μ-loop
-enum-told c = search needs
-
 returns : tie.Need-returns Inv-loop μ-loop
 unfolding pairsAt
 returns c = stopped _ (sym (ap countRead (c .enum-told .given .1)) ∙ c .before .before .count-at .ensures)
 
 loop-holds : tie.Need-loop-holds Inv-loop μ-loop
 loop-holds c = (omega arith, refl)
-
-pair-at-requires : tie.Need-pair-at-requires Inv-loop μ-loop
-pair-at-requires c κs = search needs
-
-enum-known-n : tie.Need-enum-known-n Inv-loop μ-loop
-enum-known-n c = search needs
-
-enum-told-2 : tie.Need-enum-told-2 Inv-loop μ-loop
-enum-told-2 c = search needs
 
 returns-2 : tie.Need-returns-2 Inv-loop μ-loop
 returns-2 c =
@@ -65,12 +47,6 @@ returns-2 c =
     pairs-no (a .s .now) (a .most) (a .at) (k .value .given .0 .0) (k .value .given .0 .1 .0) (l .loop .left) (l .loop .last)
     (l .loop .len) (l .loop .here) (counted k) (l .loop .inv .1) (omega arith)
     (sym (ap (pairRead (l .loop .here)) (c .enum-told2 .given .1)) ∙ c .before .before .pair-at .ensures)
-
-sub-left : tie.Need-sub-left Inv-loop μ-loop
-sub-left c = search needs
-
-loop-less : tie.Need-loop-less Inv-loop μ-loop
-loop-less c = search needs
 
 loop-again : tie.Need-loop-again Inv-loop μ-loop
 loop-again c =
@@ -92,19 +68,6 @@ returns-3 c =
 pub pairs-at-spec : {M : Type 1} → statement M
 pairs-at-spec =
     tie.close
-    (tie.spec
-    Inv-loop
-    μ-loop
-    count-at-requires
-    enum-known-value
-    enum-told
-    returns
-    loop-holds
-    pair-at-requires
-    enum-known-n
-    enum-told-2
-    returns-2
-    sub-left
-    loop-less
-    loop-again
-    returns-3)
+    (tie.spec Inv-loop μ-loop (λ c κs. search needs) (λ c. search needs) (λ c. search needs) returns loop-holds
+    (λ c κs. search needs) (λ c. search needs) (λ c. search needs) returns-2 (λ c. search needs) (λ c. search needs)
+    loop-again returns-3)

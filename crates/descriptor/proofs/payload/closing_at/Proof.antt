@@ -10,18 +10,6 @@ use borrow.Author.Needs.{needs}
 use Rattle.descriptor.proofs.payload.closing_at.Statement.{statement}
 use Rattle.descriptor.proofs.payload.closing_at.Tie as tie
 
-slice-aggregate-keyed-word : tie.Need-slice-aggregate-keyed-word
-slice-aggregate-keyed-word c = search needs
-
-keyed-word-requires : tie.Need-keyed-word-requires
-keyed-word-requires c κs = search needs
-
-enum-known-terminal : tie.Need-enum-known-terminal
-enum-known-terminal c = search needs
-
-enum-told : tie.Need-enum-told
-enum-told c = search needs
-
 returns : tie.Need-returns
 unfolding closingAt kTerminalId
 returns c = stopped _ (sym (ap spanRead (c .enum-told .given .1)) ∙ c .before .before .keyed-word .ensures)
@@ -30,18 +18,6 @@ add-keyed-bytes : tie.Need-add-keyed-bytes
 add-keyed-bytes c =
     let k = c .before in
     omega (arith, word-ends _ _ _ _ (sym (ap spanRead (k .terminal .given .1)) ∙ k .before .before .keyed-word .ensures))
-
-slice-aggregate-keyed-bytes : tie.Need-slice-aggregate-keyed-bytes
-slice-aggregate-keyed-bytes c = search needs
-
-keyed-bytes-requires : tie.Need-keyed-bytes-requires
-keyed-bytes-requires c κs = search needs
-
-enum-known-id : tie.Need-enum-known-id
-enum-known-id c = search needs
-
-enum-told-2 : tie.Need-enum-told-2
-enum-told-2 c = search needs
 
 returns-2 : tie.Need-returns-2
 unfolding closingAt kTerminalId kDescriptorId
@@ -55,18 +31,6 @@ add-keyed-word c =
     let k = c .before in
     let h = k .before .before .before .before .before .before .before .before .before .before in
     omega (arith, h .good .0, bytes-ends _ (h .args .s .now) _ _ _ (sym (ap spanRead (k .id .given .1)) ∙ k .before .before .keyed-bytes .ensures))
-
-slice-aggregate-keyed-word-2 : tie.Need-slice-aggregate-keyed-word-2
-slice-aggregate-keyed-word-2 c = search needs
-
-keyed-word-requires-2 : tie.Need-keyed-word-requires-2
-keyed-word-requires-2 c κs = search needs
-
-enum-known-fay : tie.Need-enum-known-fay
-enum-known-fay c = search needs
-
-enum-told-3 : tie.Need-enum-told-3
-enum-told-3 c = search needs
 
 returns-3 : tie.Need-returns-3
 unfolding closingAt kTerminalId kDescriptorId kSubjectFayId
@@ -96,23 +60,6 @@ returns-4 c =
 pub closing-at-spec : {M : Type 1} → statement M
 closing-at-spec =
     tie.close
-    (tie.spec
-    slice-aggregate-keyed-word
-    keyed-word-requires
-    enum-known-terminal
-    enum-told
-    returns
-    add-keyed-bytes
-    slice-aggregate-keyed-bytes
-    keyed-bytes-requires
-    enum-known-id
-    enum-told-2
-    returns-2
-    add-keyed-word
-    slice-aggregate-keyed-word-2
-    keyed-word-requires-2
-    enum-known-fay
-    enum-told-3
-    returns-3
-    add-t16
-    returns-4)
+    (tie.spec (λ c. search needs) (λ c κs. search needs) (λ c. search needs) (λ c. search needs) returns add-keyed-bytes
+    (λ c. search needs) (λ c κs. search needs) (λ c. search needs) (λ c. search needs) returns-2 add-keyed-word
+    (λ c. search needs) (λ c κs. search needs) (λ c. search needs) (λ c. search needs) returns-3 add-t16 returns-4)

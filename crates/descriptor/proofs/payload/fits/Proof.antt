@@ -5,31 +5,10 @@ use borrow.Author.Needs.{needs}
 use Rattle.descriptor.proofs.payload.fits.Statement.{statement}
 use Rattle.descriptor.proofs.payload.fits.Tie as tie
 
-keys-of-requires : tie.Need-keys-of-requires
-keys-of-requires c κs = search needs
-
 returns : tie.Need-returns
 returns c =
     let a = c .before .before .before .before .before .before .before .before in
     unfit-keys (a .args .s .now) (a .args .p) _ (c .before .before .keys-of .ensures) (c .if1 .taken)
-
-sub-same-terminal : tie.Need-sub-same-terminal
-sub-same-terminal c = search needs
-
-part-same-terminal-start : tie.Need-part-same-terminal-start
-part-same-terminal-start c = search needs
-
-part-same-terminal-end : tie.Need-part-same-terminal-end
-part-same-terminal-end c = search needs
-
-sub-same-terminal-2 : tie.Need-sub-same-terminal-2
-sub-same-terminal-2 c = search needs
-
-part-same-terminal-start-2 : tie.Need-part-same-terminal-start-2
-part-same-terminal-start-2 c = search needs
-
-part-same-terminal-end-2 : tie.Need-part-same-terminal-end-2
-part-same-terminal-end-2 c = search needs
 
 same-terminal-requires : tie.Need-same-terminal-requires
 same-terminal-requires c κs =
@@ -62,16 +41,5 @@ returns-4 c =
 pub fits-spec : {M : Type 1} → statement M
 fits-spec =
     tie.close
-    (tie.spec
-    keys-of-requires
-    returns
-    sub-same-terminal
-    part-same-terminal-start
-    part-same-terminal-end
-    sub-same-terminal-2
-    part-same-terminal-start-2
-    part-same-terminal-end-2
-    same-terminal-requires
-    returns-2
-    returns-3
-    returns-4)
+    (tie.spec (λ c κs. search needs) returns (λ c. search needs) (λ c. search needs) (λ c. search needs)
+    (λ c. search needs) (λ c. search needs) (λ c. search needs) same-terminal-requires returns-2 returns-3 returns-4)

@@ -11,18 +11,6 @@ use borrow.Author.Needs.{needs}
 use Rattle.descriptor.proofs.payload.middle_at.Statement.{statement}
 use Rattle.descriptor.proofs.payload.middle_at.Tie as tie
 
-slice-aggregate-keyed-text : tie.Need-slice-aggregate-keyed-text
-slice-aggregate-keyed-text c = search needs
-
-keyed-text-requires : tie.Need-keyed-text-requires
-keyed-text-requires c κs = search needs
-
-enum-known-start : tie.Need-enum-known-start
-enum-known-start c = search needs
-
-enum-told : tie.Need-enum-told
-enum-told c = search needs
-
 returns : tie.Need-returns
 unfolding middleAt kIssuerId
 returns c = stopped _ (sym (ap spanRead (c .enum-told .given .1)) ∙ c .before .before .keyed-text .ensures)
@@ -32,18 +20,6 @@ add-keyed-time c =
     let k = c .before in
     omega (arith, text-ends _ _ _ _ _ (sym (ap spanRead (k .start .given .1)) ∙ k .before .before .keyed-text .ensures))
 
-slice-aggregate-keyed-time : tie.Need-slice-aggregate-keyed-time
-slice-aggregate-keyed-time c = search needs
-
-keyed-time-requires : tie.Need-keyed-time-requires
-keyed-time-requires c κs = search needs
-
-enum-known-after : tie.Need-enum-known-after
-enum-known-after c = search needs
-
-enum-told-2 : tie.Need-enum-told-2
-enum-told-2 c = search needs
-
 returns-2 : tie.Need-returns-2
 unfolding middleAt kIssuerId kNotAfter
 returns-2 c =
@@ -51,32 +27,11 @@ returns-2 c =
     took _ (sym (ap spanRead (k .start .given .1)) ∙ k .before .before .keyed-text .ensures)
     (stopped _ (sym (ap countRead (c .enum-told2 .given .1)) ∙ c .before .before .keyed-time .ensures))
 
-slice-aggregate-opt-text : tie.Need-slice-aggregate-opt-text
-slice-aggregate-opt-text c = search needs
-
-opt-text-requires : tie.Need-opt-text-requires
-opt-text-requires c κs = search needs
-
-enum-told-3 : tie.Need-enum-told-3
-enum-told-3 c = search needs
-
-middle-end-requires : tie.Need-middle-end-requires
-middle-end-requires c κs = search needs
-
-enum-known-grantor : tie.Need-enum-known-grantor
-enum-known-grantor c = search needs
-
 add-middle-end : tie.Need-add-middle-end
 add-middle-end c =
     let k = c .before in
     let h = k .before .before .before .before .before .before .before .before .before .before .before .before .before .before .before in
     omega (arith, h .good .0, opt-text-ends _ (h .args .s .now) _ _ _ _ (sym (ap (optTextRead _) (k .grantor .given .1)) ∙ k .before .before .opt-text .ensures))
-
-middle-end-requires-2 : tie.Need-middle-end-requires-2
-middle-end-requires-2 c κs = search needs
-
-enum-told-4 : tie.Need-enum-told-4
-enum-told-4 c = search needs
 
 returns-3 : tie.Need-returns-3
 unfolding middleAt middleEnd kIssuerId kNotAfter kGrantorId kNotBefore
@@ -110,26 +65,7 @@ returns-5 c =
 pub middle-at-spec : {M : Type 1} → statement M
 middle-at-spec =
     tie.close
-    (tie.spec
-    slice-aggregate-keyed-text
-    keyed-text-requires
-    enum-known-start
-    enum-told
-    returns
-    add-keyed-time
-    slice-aggregate-keyed-time
-    keyed-time-requires
-    enum-known-after
-    enum-told-2
-    returns-2
-    slice-aggregate-opt-text
-    opt-text-requires
-    enum-told-3
-    middle-end-requires
-    enum-known-grantor
-    add-middle-end
-    middle-end-requires-2
-    enum-told-4
-    returns-3
-    returns-4
-    returns-5)
+    (tie.spec (λ c. search needs) (λ c κs. search needs) (λ c. search needs) (λ c. search needs) returns add-keyed-time
+    (λ c. search needs) (λ c κs. search needs) (λ c. search needs) (λ c. search needs) returns-2 (λ c. search needs)
+    (λ c κs. search needs) (λ c. search needs) (λ c κs. search needs) (λ c. search needs) add-middle-end
+    (λ c κs. search needs) (λ c. search needs) returns-3 returns-4 returns-5)

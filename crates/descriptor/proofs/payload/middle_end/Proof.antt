@@ -7,18 +7,6 @@ use borrow.Author.Needs.{needs}
 use Rattle.descriptor.proofs.payload.middle_end.Statement.{statement}
 use Rattle.descriptor.proofs.payload.middle_end.Tie as tie
 
-slice-aggregate-keyed-time : tie.Need-slice-aggregate-keyed-time
-slice-aggregate-keyed-time c = search needs
-
-keyed-time-requires : tie.Need-keyed-time-requires
-keyed-time-requires c κs = search needs
-
-enum-known-before : tie.Need-enum-known-before
-enum-known-before c = search needs
-
-enum-told : tie.Need-enum-told
-enum-told c = search needs
-
 returns : tie.Need-returns
 unfolding middleEnd kNotBefore
 returns c =
@@ -32,10 +20,4 @@ returns-2 c = stopped _ (sym (ap countRead (c .enum-told .given .1)) ∙ c .befo
 pub middle-end-spec : {M : Type 1} → statement M
 middle-end-spec =
     tie.close
-    (tie.spec
-    slice-aggregate-keyed-time
-    keyed-time-requires
-    enum-known-before
-    enum-told
-    returns
-    returns-2)
+    (tie.spec (λ c. search needs) (λ c κs. search needs) (λ c. search needs) (λ c. search needs) returns returns-2)

@@ -12,24 +12,9 @@ use borrow.Author.Needs.{needs}
 use Rattle.descriptor.proofs.payload.opening_at.Statement.{statement}
 use Rattle.descriptor.proofs.payload.opening_at.Tie as tie
 
-count-at-requires : tie.Need-count-at-requires
-count-at-requires c κs = search needs
-
-enum-known-count : tie.Need-enum-known-count
-enum-known-count c = search needs
-
-enum-told : tie.Need-enum-told
-enum-told c = search needs
-
 returns : tie.Need-returns
 unfolding openingAt kGrants
 returns c = stopped _ (sym (ap countRead (c .enum-told .given .1)) ∙ c .before .before .count-at .ensures)
-
-slice-aggregate-has-at : tie.Need-slice-aggregate-has-at
-slice-aggregate-has-at c = search needs
-
-has-at-requires : tie.Need-has-at-requires
-has-at-requires c κs = search needs
 
 returns-2 : tie.Need-returns-2
 unfolding openingAt kGrants
@@ -41,15 +26,6 @@ returns-2 c =
 add-grants-at : tie.Need-add-grants-at
 add-grants-at c = omega (arith, key-room _ _ _ _ (lit< tt) (c .before .has-at .ensures) (c .if1 .left))
 
-grants-at-requires : tie.Need-grants-at-requires
-grants-at-requires c κs = search needs
-
-enum-known-grants : tie.Need-enum-known-grants
-enum-known-grants c = search needs
-
-enum-told-2 : tie.Need-enum-told-2
-enum-told-2 c = search needs
-
 returns-3 : tie.Need-returns-3
 unfolding openingAt kGrants
 returns-3 c =
@@ -59,32 +35,11 @@ returns-3 c =
     (stopped _ (passed _ (T-of-not _ (e .before .has-at .ensures) (e .if1 .left))
     (sym (ap grantsRead (c .enum-told2 .given .1)) ∙ c .before .before .grants-at .ensures)))
 
-slice-aggregate-opt-pairs : tie.Need-slice-aggregate-opt-pairs
-slice-aggregate-opt-pairs c = search needs
-
-opt-pairs-requires : tie.Need-opt-pairs-requires
-opt-pairs-requires c κs = search needs
-
-enum-told-3 : tie.Need-enum-told-3
-enum-told-3 c = search needs
-
-opening-end-requires : tie.Need-opening-end-requires
-opening-end-requires c κs = search needs
-
-enum-known-pairs : tie.Need-enum-known-pairs
-enum-known-pairs c = search needs
-
 add-opening-end : tie.Need-add-opening-end
 add-opening-end c =
     let k = c .before in
     let h = k .before .before .before .before .before .before .before .before .before .before .before .before .before .before .before .before in
     omega (arith, h .good .0, opt-room (h .args .s .now) _ _ _ (lit< tt) (sym (ap (optRead _) (k .pairs .given .1)) ∙ k .before .before .opt-pairs .ensures))
-
-opening-end-requires-2 : tie.Need-opening-end-requires-2
-opening-end-requires-2 c κs = search needs
-
-enum-told-4 : tie.Need-enum-told-4
-enum-told-4 c = search needs
 
 returns-4 : tie.Need-returns-4
 unfolding openingAt openingEnd kGrants kMetadata kIssuedAt
@@ -121,27 +76,7 @@ returns-6 c =
 pub opening-at-spec : {M : Type 1} → statement M
 opening-at-spec =
     tie.close
-    (tie.spec
-    count-at-requires
-    enum-known-count
-    enum-told
-    returns
-    slice-aggregate-has-at
-    has-at-requires
-    returns-2
-    add-grants-at
-    grants-at-requires
-    enum-known-grants
-    enum-told-2
-    returns-3
-    slice-aggregate-opt-pairs
-    opt-pairs-requires
-    enum-told-3
-    opening-end-requires
-    enum-known-pairs
-    add-opening-end
-    opening-end-requires-2
-    enum-told-4
-    returns-4
-    returns-5
-    returns-6)
+    (tie.spec (λ c κs. search needs) (λ c. search needs) (λ c. search needs) returns (λ c. search needs)
+    (λ c κs. search needs) returns-2 add-grants-at (λ c κs. search needs) (λ c. search needs) (λ c. search needs)
+    returns-3 (λ c. search needs) (λ c κs. search needs) (λ c. search needs) (λ c κs. search needs) (λ c. search needs)
+    add-opening-end (λ c κs. search needs) (λ c. search needs) returns-4 returns-5 returns-6)

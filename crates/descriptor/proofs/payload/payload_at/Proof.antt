@@ -10,27 +10,9 @@ use borrow.Author.Needs.{needs}
 use Rattle.descriptor.proofs.payload.payload_at.Statement.{statement}
 use Rattle.descriptor.proofs.payload.payload_at.Tie as tie
 
-opening-at-requires : tie.Need-opening-at-requires
-opening-at-requires c κs = search needs
-
-enum-known-opening : tie.Need-enum-known-opening
-enum-known-opening c = search needs
-
-enum-told : tie.Need-enum-told
-enum-told c = search needs
-
 returns : tie.Need-returns
 unfolding payloadAt
 returns c = stopped _ (sym (ap openingRead (c .enum-told .given .1)) ∙ c .before .before .opening-at .ensures)
-
-middle-at-requires : tie.Need-middle-at-requires
-middle-at-requires c κs = search needs
-
-enum-known-middle : tie.Need-enum-known-middle
-enum-known-middle c = search needs
-
-enum-told-2 : tie.Need-enum-told-2
-enum-told-2 c = search needs
 
 returns-2 : tie.Need-returns-2
 unfolding payloadAt
@@ -38,15 +20,6 @@ returns-2 c =
     let o = c .before .before .before .before in
     took _ (sym (ap openingRead (o .opening .given .1)) ∙ o .before .before .opening-at .ensures)
     (stopped _ (sym (ap middleRead (c .enum-told2 .given .1)) ∙ c .before .before .middle-at .ensures))
-
-closing-at-requires : tie.Need-closing-at-requires
-closing-at-requires c κs = search needs
-
-enum-known-closing : tie.Need-enum-known-closing
-enum-known-closing c = search needs
-
-enum-told-3 : tie.Need-enum-told-3
-enum-told-3 c = search needs
 
 returns-3 : tie.Need-returns-3
 unfolding payloadAt
@@ -91,19 +64,6 @@ returns-5 c =
 pub payload-at-spec : {M : Type 1} → statement M
 payload-at-spec =
     tie.close
-    (tie.spec
-    opening-at-requires
-    enum-known-opening
-    enum-told
-    returns
-    middle-at-requires
-    enum-known-middle
-    enum-told-2
-    returns-2
-    closing-at-requires
-    enum-known-closing
-    enum-told-3
-    returns-3
-    fits-requires
-    returns-4
-    returns-5)
+    (tie.spec (λ c κs. search needs) (λ c. search needs) (λ c. search needs) returns (λ c κs. search needs)
+    (λ c. search needs) (λ c. search needs) returns-2 (λ c κs. search needs) (λ c. search needs) (λ c. search needs)
+    returns-3 fits-requires returns-4 returns-5)

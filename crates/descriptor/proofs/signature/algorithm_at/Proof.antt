@@ -11,24 +11,12 @@ use borrow.Author.Needs.{needs}
 use Rattle.descriptor.proofs.signature.algorithm_at.Statement.{statement}
 use Rattle.descriptor.proofs.signature.algorithm_at.Tie as tie
 
-slice-aggregate-has-at : tie.Need-slice-aggregate-has-at
-slice-aggregate-has-at c = search needs
-
-has-at-requires : tie.Need-has-at-requires
-has-at-requires c κs = search needs
-
 returns : tie.Need-returns
 unfolding kAlgorithm
 returns c = failed _ _ (not-T-of _ (c .before .has-at .ensures) (c .if1 .taken))
 
 add-here : tie.Need-add-here
 add-here c = omega (arith, key-room _ _ _ _ (lit< tt) (c .before .has-at .ensures) (c .if1 .left))
-
-slice-aggregate-has-at-2 : tie.Need-slice-aggregate-has-at-2
-slice-aggregate-has-at-2 c = search needs
-
-has-at-requires-2 : tie.Need-has-at-requires-2
-has-at-requires-2 c κs = search needs
 
 add-t14 : tie.Need-add-t14
 add-t14 c = omega (arith, key-fits _ _ _ (lit< tt) (T-of (c .before .has-at2 .ensures) (c .if2 .taken)))
@@ -38,12 +26,6 @@ unfolding kAlgorithm algorithms ed25519
 returns-2 c =
     let e = c .before .before .before in
     passed _ (T-of-not _ (e .before .has-at .ensures) (e .if1 .left)) (one-first _ _ 0 _ _ _ (c .before .has-at2 .ensures) (c .if2 .taken))
-
-slice-aggregate-has-at-3 : tie.Need-slice-aggregate-has-at-3
-slice-aggregate-has-at-3 c = search needs
-
-has-at-requires-3 : tie.Need-has-at-requires-3
-has-at-requires-3 c κs = search needs
 
 add-t18 : tie.Need-add-t18
 add-t18 c = omega (arith, key-fits _ _ _ (lit< tt) (T-of (c .before .has-at3 .ensures) (c .if3 .taken)))
@@ -67,17 +49,5 @@ returns-4 c =
 pub algorithm-at-spec : {M : Type 1} → statement M
 algorithm-at-spec =
     tie.close
-    (tie.spec
-    slice-aggregate-has-at
-    has-at-requires
-    returns
-    add-here
-    slice-aggregate-has-at-2
-    has-at-requires-2
-    add-t14
-    returns-2
-    slice-aggregate-has-at-3
-    has-at-requires-3
-    add-t18
-    returns-3
-    returns-4)
+    (tie.spec (λ c. search needs) (λ c κs. search needs) returns add-here (λ c. search needs) (λ c κs. search needs)
+    add-t14 returns-2 (λ c. search needs) (λ c κs. search needs) add-t18 returns-3 returns-4)

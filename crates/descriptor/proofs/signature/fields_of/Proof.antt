@@ -4,14 +4,8 @@ use borrow.Author.Needs.{needs}
 use Rattle.descriptor.proofs.signature.fields_of.Statement.{statement}
 use Rattle.descriptor.proofs.signature.fields_of.Tie as tie
 
-part-if-requires : tie.Need-part-if-requires
-part-if-requires c κs = search needs
-
-count-if-requires : tie.Need-count-if-requires
-count-if-requires c κs = search needs
-
 returns : tie.Need-returns
 returns c = rw (c .before .part-if .ensures, c .count-if .ensures) refl
 
 pub fields-of-spec : {M : Type 1} → statement M
-fields-of-spec = tie.close (tie.spec part-if-requires count-if-requires returns)
+fields-of-spec = tie.close (tie.spec (λ c κs. search needs) (λ c κs. search needs) returns)

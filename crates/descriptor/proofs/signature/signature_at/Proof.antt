@@ -15,15 +15,6 @@ use borrow.Author.Needs.{needs}
 use Rattle.descriptor.proofs.signature.signature_at.Statement.{statement}
 use Rattle.descriptor.proofs.signature.signature_at.Tie as tie
 
-text-at-requires : tie.Need-text-at-requires
-text-at-requires c κs = search needs
-
-enum-known-key : tie.Need-enum-known-key
-enum-known-key c = search needs
-
-enum-told : tie.Need-enum-told
-enum-told c = search needs
-
 returns : tie.Need-returns
 unfolding signatureAt
 returns c = stopped _ (sym (ap spanRead (c .enum-told .given .1)) ∙ c .before .before .text-at .ensures)
@@ -34,33 +25,12 @@ add-algorithm-at c =
     let a = k .before .before .before .before in
     omega (arith, held (SpanTo (a .args .s .now) (a .args .at)) (text-bounds (a .args .s .now) (a .args .at) 1 64) (sym (ap spanRead (k .key .given .1)) ∙ k .before .before .text-at .ensures) .fits)
 
-algorithm-at-requires : tie.Need-algorithm-at-requires
-algorithm-at-requires c κs = search needs
-
-enum-known-algorithm : tie.Need-enum-known-algorithm
-enum-known-algorithm c = search needs
-
-enum-told-2 : tie.Need-enum-told-2
-enum-told-2 c = search needs
-
 returns-2 : tie.Need-returns-2
 unfolding signatureAt
 returns-2 c =
     let k = c .before .before .before .before in
     took _ (sym (ap spanRead (k .key .given .1)) ∙ k .before .before .text-at .ensures)
     (stopped _ (sym (ap countRead (c .enum-told2 .given .1)) ∙ c .before .before .algorithm-at .ensures))
-
-slice-aggregate-keyed-bytes : tie.Need-slice-aggregate-keyed-bytes
-slice-aggregate-keyed-bytes c = search needs
-
-keyed-bytes-requires : tie.Need-keyed-bytes-requires
-keyed-bytes-requires c κs = search needs
-
-enum-known-value : tie.Need-enum-known-value
-enum-known-value c = search needs
-
-enum-told-3 : tie.Need-enum-told-3
-enum-told-3 c = search needs
 
 returns-3 : tie.Need-returns-3
 unfolding signatureAt kSignatureValue
@@ -70,9 +40,6 @@ returns-3 c =
     took _ (sym (ap spanRead (k .key .given .1)) ∙ k .before .before .text-at .ensures)
     (took _ (sym (ap countRead (m .algorithm .given .1)) ∙ m .before .before .algorithm-at .ensures)
     (stopped _ (sym (ap spanRead (c .enum-told3 .given .1)) ∙ c .before .before .keyed-bytes .ensures)))
-
-value-fits-requires : tie.Need-value-fits-requires
-value-fits-requires c κs = search needs
 
 add-t18 : tie.Need-add-t18
 add-t18 c =
@@ -105,22 +72,6 @@ returns-5 c =
 pub signature-at-spec : {M : Type 1} → statement M
 signature-at-spec =
     tie.close
-    (tie.spec
-    text-at-requires
-    enum-known-key
-    enum-told
-    returns
-    add-algorithm-at
-    algorithm-at-requires
-    enum-known-algorithm
-    enum-told-2
-    returns-2
-    slice-aggregate-keyed-bytes
-    keyed-bytes-requires
-    enum-known-value
-    enum-told-3
-    returns-3
-    value-fits-requires
-    add-t18
-    returns-4
-    returns-5)
+    (tie.spec (λ c κs. search needs) (λ c. search needs) (λ c. search needs) returns add-algorithm-at
+    (λ c κs. search needs) (λ c. search needs) (λ c. search needs) returns-2 (λ c. search needs) (λ c κs. search needs)
+    (λ c. search needs) (λ c. search needs) returns-3 (λ c κs. search needs) add-t18 returns-4 returns-5)

@@ -51,25 +51,10 @@ signed g =
 returns : tie.Need-returns
 returns c = read-long _ (c .if1 .taken)
 
-slice-aggregate-has-at : tie.Need-slice-aggregate-has-at
-slice-aggregate-has-at c = search needs
-
-has-at-requires : tie.Need-has-at-requires
-has-at-requires c κs = search needs
-
 returns-2 : tie.Need-returns-2
 unfolding descriptorAt beforePayload kPayload
 returns-2 c = read-refused _ (c .before .before .before .if1 .left)
     (stopped _ (failed _ _ (not-T-of _ (c .before .has-at .ensures) (c .if2 .taken))))
-
-payload-at-requires : tie.Need-payload-at-requires
-payload-at-requires c κs = search needs
-
-enum-known-payload : tie.Need-enum-known-payload
-enum-known-payload c = search needs
-
-enum-told : tie.Need-enum-told
-enum-told c = search needs
 
 returns-3 : tie.Need-returns-3
 unfolding descriptorAt beforePayload kPayload
@@ -77,12 +62,6 @@ returns-3 c =
     let h = c .before .before .before in
     read-refused _ (h .before .before .before .if1 .left)
     (stopped _ (passed _ (T-of-not _ (h .before .has-at .ensures) (h .if2 .left)) (sym (ap payloadRead (c .enum-told .given .1)) ∙ c .before .before .payload-at .ensures)))
-
-slice-aggregate-has-at-2 : tie.Need-slice-aggregate-has-at-2
-slice-aggregate-has-at-2 c = search needs
-
-has-at-requires-2 : tie.Need-has-at-requires-2
-has-at-requires-2 c κs = search needs
 
 returns-4 : tie.Need-returns-4
 unfolding descriptorAt beforePayload beforeKeyId kPayload kVersion kSignature kKeyId
@@ -94,15 +73,6 @@ add-signature-at : tie.Need-add-signature-at
 add-signature-at c =
     let k = c .before .before .before .before in
     omega (arith, short k, key-room (k .before .before .before .before .before .before .before .before .args .s .now) _ _ _ (lit< tt) (c .before .has-at2 .ensures) (c .if3 .left))
-
-signature-at-requires : tie.Need-signature-at-requires
-signature-at-requires c κs = search needs
-
-enum-known-signature : tie.Need-enum-known-signature
-enum-known-signature c = search needs
-
-enum-told-2 : tie.Need-enum-told-2
-enum-told-2 c = search needs
 
 returns-5 : tie.Need-returns-5
 unfolding descriptorAt beforePayload beforeKeyId kPayload kVersion kSignature kKeyId
@@ -130,9 +100,6 @@ returns-7 c =
 sub-fields-of : tie.Need-sub-fields-of
 sub-fields-of c = omega (arith, fits (c .before .before .before .before .before .before .before .before .before .before .before .before) .0)
 
-fields-of-requires : tie.Need-fields-of-requires
-fields-of-requires c κs = search needs
-
 returns-8 : tie.Need-returns-8
 returns-8 c =
     let e = c .before .before .before .before in
@@ -143,26 +110,7 @@ returns-8 c =
 pub whole-spec : {M : Type 1} → statement M
 whole-spec =
     tie.close
-    (tie.spec
-    returns
-    slice-aggregate-has-at
-    has-at-requires
-    returns-2
-    payload-at-requires
-    enum-known-payload
-    enum-told
-    returns-3
-    slice-aggregate-has-at-2
-    has-at-requires-2
-    returns-4
-    add-signature-at
-    signature-at-requires
-    enum-known-signature
-    enum-told-2
-    returns-5
-    returns-6
-    sub-if5
-    returns-7
-    sub-fields-of
-    fields-of-requires
-    returns-8)
+    (tie.spec returns (λ c. search needs) (λ c κs. search needs) returns-2 (λ c κs. search needs) (λ c. search needs)
+    (λ c. search needs) returns-3 (λ c. search needs) (λ c κs. search needs) returns-4 add-signature-at
+    (λ c κs. search needs) (λ c. search needs) (λ c. search needs) returns-5 returns-6 sub-if5 returns-7 sub-fields-of
+    (λ c κs. search needs) returns-8)

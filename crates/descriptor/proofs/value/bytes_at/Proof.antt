@@ -16,12 +16,6 @@ use Rattle.descriptor.proofs.value.bytes_at.Tie as tie
 here : (k : tie.After-start) → got (spanOf (k .start .given .0 .0) (k .start .given .0 .1 .0)) (k .start .given .0 .0 + k .start .given .0 .1 .0) ≡ spanAt (k .before .before .before .before .args .s .now) (k .before .before .before .before .args .at) 2
 here k = sym (ap spanRead (k .start .given .1)) ∙ k .before .before .read-span .ensures
 
-read-span-requires : tie.Need-read-span-requires
-read-span-requires c κs = search needs
-
-enum-known-start : tie.Need-enum-known-start
-enum-known-start c = search needs
-
 returns : tie.Need-returns
 returns c =
     let k = c .before .before in
@@ -35,9 +29,6 @@ returns-2 c =
     let a = k .before .before .before .before .args in
     bytes-no (a .s .now) (a .at) (a .lo) (a .hi) (k .start .given .0 .0) (k .start .given .0 .1 .0) (here k)
     (λ l h. omega (arith, c .if2 .taken))
-
-enum-told : tie.Need-enum-told
-enum-told c = search needs
 
 returns-3 : tie.Need-returns-3
 returns-3 c =
@@ -53,4 +44,4 @@ returns-4 c = stopped _ (sym (ap spanRead (c .enum-told .given .1)) ∙ c .befor
 pub bytes-at-spec : {M : Type 1} → statement M
 bytes-at-spec =
     tie.close
-    (tie.spec read-span-requires enum-known-start returns returns-2 enum-told returns-3 returns-4)
+    (tie.spec (λ c κs. search needs) (λ c. search needs) returns returns-2 (λ c. search needs) returns-3 returns-4)

@@ -15,12 +15,6 @@ here : (k : tie.After-kind) → got (headOf (k .kind .given .0 .0) (k .kind .giv
     ≡ headAt (k .before .before .before .before .args .s .now) (k .before .before .before .before .args .at)
 here k = sym (ap headRead (k .kind .given .1)) ∙ k .before .before .read-head .ensures
 
-read-head-requires : tie.Need-read-head-requires
-read-head-requires c κs = search needs
-
-enum-known-kind : tie.Need-enum-known-kind
-enum-known-kind c = search needs
-
 returns : tie.Need-returns
 returns c =
     let k = c .before .before in
@@ -42,9 +36,6 @@ returns-3 c =
     let h = k .kind .given .0 in
     count-no (a .s .now) (a .at) (a .major) (a .lo) (a .hi) (h .0) (h .1 .0) (h .1 .1 .0) (here k) (λ m l u. omega (arith, c .if3 .taken))
 
-enum-told : tie.Need-enum-told
-enum-told c = search needs
-
 returns-4 : tie.Need-returns-4
 returns-4 c =
     let k = c .before .before .before .before in
@@ -60,12 +51,5 @@ returns-5 c = stopped _ (sym (ap headRead (c .enum-told .given .1)) ∙ c .befor
 pub count-at-spec : {M : Type 1} → statement M
 count-at-spec =
     tie.close
-    (tie.spec
-    read-head-requires
-    enum-known-kind
-    returns
-    returns-2
-    returns-3
-    enum-told
-    returns-4
+    (tie.spec (λ c κs. search needs) (λ c. search needs) returns returns-2 returns-3 (λ c. search needs) returns-4
     returns-5)

@@ -5,15 +5,6 @@ use borrow.Author.Needs.{needs}
 use Rattle.descriptor.proofs.value.is_word.Statement.{statement}
 use Rattle.descriptor.proofs.value.is_word.Tie as tie
 
-is-terminal-requires : tie.Need-is-terminal-requires
-is-terminal-requires c κs = search needs
-
-is-fay-requires : tie.Need-is-fay-requires
-is-fay-requires c κs = search needs
-
-is-pattern-requires : tie.Need-is-pattern-requires
-is-pattern-requires c κs = search needs
-
 returns : tie.Need-returns
 returns c = rw (c .before .match .keys1) (c .is-terminal .ensures)
 
@@ -27,4 +18,4 @@ returns-3 c = c .is-pattern .ensures ∙ word-other (c .before .before .before .
 pub is-word-spec : {M : Type 1} → statement M
 is-word-spec =
     tie.close
-    (tie.spec is-terminal-requires is-fay-requires is-pattern-requires returns returns-2 returns-3)
+    (tie.spec (λ c κs. search needs) (λ c κs. search needs) (λ c κs. search needs) returns returns-2 returns-3)

@@ -7,16 +7,10 @@ use borrow.Author.Needs.{needs}
 use Rattle.descriptor.proofs.value.keyed_text.Statement.{statement}
 use Rattle.descriptor.proofs.value.keyed_text.Tie as tie
 
-has-at-requires : tie.Need-has-at-requires
-has-at-requires c κs = search needs
-
 add-text-at : tie.Need-add-text-at
 add-text-at c =
     let a = c .before .before .before .before .args in
     omega (arith, key-end (a .s .now) (a .at) (a .key .now) (2 ^ 64) (T-of (c .before .has-at .ensures) (c .if1 .taken)) (omega arith) (omega arith))
-
-text-at-requires : tie.Need-text-at-requires
-text-at-requires c κs = search needs
 
 returns : tie.Need-returns
 returns c = flag-yes _ _ (c .before .before .has-at .ensures) (c .before .if1 .taken) (c .text-at .ensures)
@@ -26,4 +20,4 @@ returns-2 c = flag-no _ _ _ (c .before .has-at .ensures) (c .if1 .left)
 
 pub keyed-text-spec : {M : Type 1} → statement M
 keyed-text-spec =
-    tie.close (tie.spec has-at-requires add-text-at text-at-requires returns returns-2)
+    tie.close (tie.spec (λ c κs. search needs) add-text-at (λ c κs. search needs) returns returns-2)

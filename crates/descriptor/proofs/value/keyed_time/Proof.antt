@@ -7,16 +7,10 @@ use borrow.Author.Needs.{needs}
 use Rattle.descriptor.proofs.value.keyed_time.Statement.{statement}
 use Rattle.descriptor.proofs.value.keyed_time.Tie as tie
 
-has-at-requires : tie.Need-has-at-requires
-has-at-requires c κs = search needs
-
 add-count-at : tie.Need-add-count-at
 add-count-at c =
     let a = c .before .before .before .before .args in
     omega (arith, key-end (a .s .now) (a .at) (a .key .now) (2 ^ 64) (T-of (c .before .has-at .ensures) (c .if1 .taken)) (omega arith) (omega arith))
-
-count-at-requires : tie.Need-count-at-requires
-count-at-requires c κs = search needs
 
 returns : tie.Need-returns
 returns c = flag-yes _ _ (c .before .before .has-at .ensures) (c .before .if1 .taken) (c .count-at .ensures)
@@ -26,4 +20,4 @@ returns-2 c = flag-no _ _ _ (c .before .has-at .ensures) (c .if1 .left)
 
 pub keyed-time-spec : {M : Type 1} → statement M
 keyed-time-spec =
-    tie.close (tie.spec has-at-requires add-count-at count-at-requires returns returns-2)
+    tie.close (tie.spec (λ c κs. search needs) add-count-at (λ c κs. search needs) returns returns-2)

@@ -7,16 +7,10 @@ use borrow.Author.Needs.{needs}
 use Rattle.descriptor.proofs.value.keyed_word.Statement.{statement}
 use Rattle.descriptor.proofs.value.keyed_word.Tie as tie
 
-has-at-requires : tie.Need-has-at-requires
-has-at-requires c κs = search needs
-
 add-word-at : tie.Need-add-word-at
 add-word-at c =
     let a = c .before .before .before .before .args in
     omega (arith, key-end (a .s .now) (a .at) (a .key .now) (2 ^ 64) (T-of (c .before .has-at .ensures) (c .if1 .taken)) (omega arith) (omega arith))
-
-word-at-requires : tie.Need-word-at-requires
-word-at-requires c κs = search needs
 
 returns : tie.Need-returns
 returns c = flag-yes _ _ (c .before .before .has-at .ensures) (c .before .if1 .taken) (c .word-at .ensures)
@@ -26,4 +20,4 @@ returns-2 c = flag-no _ _ _ (c .before .has-at .ensures) (c .if1 .left)
 
 pub keyed-word-spec : {M : Type 1} → statement M
 keyed-word-spec =
-    tie.close (tie.spec has-at-requires add-word-at word-at-requires returns returns-2)
+    tie.close (tie.spec (λ c κs. search needs) add-word-at (λ c κs. search needs) returns returns-2)

@@ -10,9 +10,6 @@ use borrow.Author.Needs.{needs}
 use Rattle.descriptor.proofs.value.opt_text.Statement.{statement}
 use Rattle.descriptor.proofs.value.opt_text.Tie as tie
 
-has-at-requires : tie.Need-has-at-requires
-has-at-requires c κs = search needs
-
 returns : tie.Need-returns
 returns c = opt-absent _ _ _ (not-T-of _ (c .before .has-at .ensures) (c .if1 .taken))
 
@@ -20,15 +17,6 @@ add-text-at : tie.Need-add-text-at
 add-text-at c =
     let a = c .before .before .before .before .args in
     omega (arith, key-end (a .s .now) (a .at) (a .key .now) (2 ^ 64) (T-of-not _ (c .before .has-at .ensures) (c .if1 .left)) (omega arith) (omega arith))
-
-text-at-requires : tie.Need-text-at-requires
-text-at-requires c κs = search needs
-
-enum-known-start : tie.Need-enum-known-start
-enum-known-start c = search needs
-
-enum-told : tie.Need-enum-told
-enum-told c = search needs
 
 returns-2 : tie.Need-returns-2
 returns-2 c =
@@ -46,12 +34,5 @@ returns-3 c =
 pub opt-text-spec : {M : Type 1} → statement M
 opt-text-spec =
     tie.close
-    (tie.spec
-    has-at-requires
-    returns
-    add-text-at
-    text-at-requires
-    enum-known-start
-    enum-told
-    returns-2
-    returns-3)
+    (tie.spec (λ c κs. search needs) returns add-text-at (λ c κs. search needs) (λ c. search needs) (λ c. search needs)
+    returns-2 returns-3)

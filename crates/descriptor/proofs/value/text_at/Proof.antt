@@ -22,12 +22,6 @@ fits : (k : tie.After-start) → k .start .given .0 .0 + k .start .given .0 .1 .
 fits k = span-bound (k .before .before .before .before .args .s .now) (k .before .before .before .before .args .at) 3
     (k .start .given .0 .0) (k .start .given .0 .1 .0) (here k)
 
-read-span-requires : tie.Need-read-span-requires
-read-span-requires c κs = search needs
-
-enum-known-start : tie.Need-enum-known-start
-enum-known-start c = search needs
-
 returns : tie.Need-returns
 returns c =
     let k = c .before .before in
@@ -45,20 +39,8 @@ returns-2 c =
 add-end : tie.Need-add-end
 add-end c = omega (arith, fits (c .before .before .before))
 
-sub-is-utf8 : tie.Need-sub-is-utf8
-sub-is-utf8 c = search needs
-
-part-is-utf8-start : tie.Need-part-is-utf8-start
-part-is-utf8-start c = search needs
-
 part-is-utf8-end : tie.Need-part-is-utf8-end
 part-is-utf8-end c = omega (arith, fits (c .before .before .before))
-
-is-utf8-requires : tie.Need-is-utf8-requires
-is-utf8-requires c κs = search needs
-
-enum-told : tie.Need-enum-told
-enum-told c = search needs
 
 returns-3 : tie.Need-returns-3
 returns-3 c =
@@ -82,17 +64,5 @@ returns-5 c = stopped _ (sym (ap spanRead (c .enum-told .given .1)) ∙ c .befor
 pub text-at-spec : {M : Type 1} → statement M
 text-at-spec =
     tie.close
-    (tie.spec
-    read-span-requires
-    enum-known-start
-    returns
-    returns-2
-    add-end
-    sub-is-utf8
-    part-is-utf8-start
-    part-is-utf8-end
-    is-utf8-requires
-    enum-told
-    returns-3
-    returns-4
-    returns-5)
+    (tie.spec (λ c κs. search needs) (λ c. search needs) returns returns-2 add-end (λ c. search needs)
+    (λ c. search needs) part-is-utf8-end (λ c κs. search needs) (λ c. search needs) returns-3 returns-4 returns-5)

@@ -23,29 +23,11 @@ fits : (k : tie.After-start) → k .start .given .0 .0 + k .start .given .0 .1 .
 fits k = span-bound (k .before .before .before .before .args .s .now) (k .before .before .before .before .args .at) 3
     (k .start .given .0 .0) (k .start .given .0 .1 .0) (here k)
 
-read-span-requires : tie.Need-read-span-requires
-read-span-requires c κs = search needs
-
-enum-known-start : tie.Need-enum-known-start
-enum-known-start c = search needs
-
 add-end : tie.Need-add-end
 add-end c = omega (arith, fits (c .before))
 
-sub-is-word : tie.Need-sub-is-word
-sub-is-word c = search needs
-
-part-is-word-start : tie.Need-part-is-word-start
-part-is-word-start c = search needs
-
 part-is-word-end : tie.Need-part-is-word-end
 part-is-word-end c = omega (arith, fits (c .before))
-
-is-word-requires : tie.Need-is-word-requires
-is-word-requires c κs = search needs
-
-enum-told : tie.Need-enum-told
-enum-told c = search needs
 
 returns : tie.Need-returns
 returns c =
@@ -68,15 +50,5 @@ returns-3 c = stopped _ (sym (ap spanRead (c .enum-told .given .1)) ∙ c .befor
 pub word-at-spec : {M : Type 1} → statement M
 word-at-spec =
     tie.close
-    (tie.spec
-    read-span-requires
-    enum-known-start
-    add-end
-    sub-is-word
-    part-is-word-start
-    part-is-word-end
-    is-word-requires
-    enum-told
-    returns
-    returns-2
-    returns-3)
+    (tie.spec (λ c κs. search needs) (λ c. search needs) add-end (λ c. search needs) (λ c. search needs)
+    part-is-word-end (λ c κs. search needs) (λ c. search needs) returns returns-2 returns-3)

@@ -14,40 +14,19 @@ Inv-loop s index at₀ left₀ at left = nthOf s index ≡ grantAt s (placeFrom 
 abbrev μ-loop : tie.MeasureT-loop
 μ-loop s index at₀ left₀ at left = left
 
-start-of-requires : tie.Need-start-of-requires Inv-loop μ-loop
-start-of-requires c κs = search needs
-
 loop-holds : tie.Need-loop-holds Inv-loop μ-loop
 loop-holds c = nth-from _ _ (c .start-of .ensures)
-
-read-grant-requires : tie.Need-read-grant-requires Inv-loop μ-loop
-read-grant-requires c κs = search needs
-
-enum-known-next : tie.Need-enum-known-next Inv-loop μ-loop
-enum-known-next c = search needs
-
-enum-told : tie.Need-enum-told Inv-loop μ-loop
-enum-told c = search needs
 
 returns : tie.Need-returns Inv-loop μ-loop
 returns c =
     let l = c .before .before .before .before in
     sym (l .loop .inv ∙ refused-stays _ _ (sym (sym (ap grantRead (c .enum-told .given .1)) ∙ c .before .before .read-grant .ensures)) _)
 
-sub-left : tie.Need-sub-left Inv-loop μ-loop
-sub-left c = search needs
-
-loop-less : tie.Need-loop-less Inv-loop μ-loop
-loop-less c = search needs
-
 loop-again : tie.Need-loop-again Inv-loop μ-loop
 loop-again c =
     let l = c .before .before .before .before in
     l .before .loop .inv
     ∙ ap (grantAt _) (from-step _ _ _ _ _ (l .loop-test .taken) (sym (ap grantRead (c .before .next .given .1)) ∙ c .before .before .before .read-grant .ensures))
-
-read-grant-requires-2 : tie.Need-read-grant-requires-2 Inv-loop μ-loop
-read-grant-requires-2 c κs = search needs
 
 returns-2 : tie.Need-returns-2 Inv-loop μ-loop
 returns-2 c =
@@ -57,17 +36,5 @@ returns-2 c =
 pub nth-spec : {M : Type 1} → statement M
 nth-spec =
     tie.close
-    (tie.spec
-    Inv-loop
-    μ-loop
-    start-of-requires
-    loop-holds
-    read-grant-requires
-    enum-known-next
-    enum-told
-    returns
-    sub-left
-    loop-less
-    loop-again
-    read-grant-requires-2
-    returns-2)
+    (tie.spec Inv-loop μ-loop (λ c κs. search needs) loop-holds (λ c κs. search needs) (λ c. search needs)
+    (λ c. search needs) returns (λ c. search needs) (λ c. search needs) loop-again (λ c κs. search needs) returns-2)

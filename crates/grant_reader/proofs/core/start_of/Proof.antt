@@ -4,18 +4,6 @@ use Rattle.grant_reader.proofs.core.start_of.Statement.{statement}
 use Rattle.grant_reader.proofs.core.start_of.Tie as tie
 use Rattle.grant_reader.proofs.WalkLaws.{starts}
 
-read-descriptor-requires : tie.Need-read-descriptor-requires
-read-descriptor-requires c κs = search needs
-
-enum-known-fields : tie.Need-enum-known-fields
-enum-known-fields c = search needs
-
-enum-told : tie.Need-enum-told
-enum-told c = search needs
-
-enum-told-2 : tie.Need-enum-told-2
-enum-told-2 c = search needs
-
 returns : tie.Need-returns
 returns c = starts _ (c .before .before .before .read-descriptor .ensures) (c .before .fields .given .1)
 
@@ -28,11 +16,5 @@ returns-3 c = starts _ (c .before .before .read-descriptor .ensures) (c .enum-to
 pub start-of-spec : {M : Type 1} → statement M
 start-of-spec =
     tie.close
-    (tie.spec
-    read-descriptor-requires
-    enum-known-fields
-    enum-told
-    enum-told-2
-    returns
-    returns-2
+    (tie.spec (λ c κs. search needs) (λ c. search needs) (λ c. search needs) (λ c. search needs) returns returns-2
     returns-3)

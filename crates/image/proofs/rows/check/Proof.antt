@@ -8,20 +8,8 @@ use Rattle.image.proofs.rows.check.Tie as tie
 returns : tie.Need-returns
 returns c = survey-short _ _ (omega arith)
 
-header-fits-requires : tie.Need-header-fits-requires
-header-fits-requires c κs = search needs
-
 returns-2 : tie.Need-returns-2
 returns-2 c = survey-header _ _ (omega arith) _ (c .before .header-fits .ensures) (c .if2 .taken)
-
-number-at-requires : tie.Need-number-at-requires
-number-at-requires c κs = search needs
-
-mul-if3 : tie.Need-mul-if3
-mul-if3 c = search needs
-
-add-if3 : tie.Need-add-if3
-add-if3 c = search needs
 
 returns-3 : tie.Need-returns-3
 returns-3 c =
@@ -42,13 +30,5 @@ returns-4 c =
 pub check-spec : {M : Type 1} → statement M
 check-spec =
     tie.close
-    (tie.spec
-    returns
-    header-fits-requires
-    returns-2
-    number-at-requires
-    mul-if3
-    add-if3
-    returns-3
-    all-rows-requires
-    returns-4)
+    (tie.spec returns (λ c κs. search needs) returns-2 (λ c κs. search needs) (λ c. search needs) (λ c. search needs)
+    returns-3 all-rows-requires returns-4)

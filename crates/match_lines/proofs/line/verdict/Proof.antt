@@ -7,12 +7,6 @@ use borrow.Author.Needs.{needs}
 use Rattle.match_lines.proofs.line.verdict.Statement.{statement}
 use Rattle.match_lines.proofs.line.verdict.Tie as tie
 
-until-requires : tie.Need-until-requires
-until-requires c κs = search needs
-
-parted-requires : tie.Need-parted-requires
-parted-requires c κs = search needs
-
 returns : tie.Need-returns
 returns c = c .parted .ensures ∙ ap (verdictAt _) (c .before .until .ensures .0 ∙ zero-add _)
     ∙ sym (verdict-short _ (c .before .before .if1 .taken))
@@ -21,4 +15,4 @@ returns-2 : tie.Need-returns-2
 returns-2 c = sym (verdict-long _ (c .if1 .left))
 
 pub verdict-spec : {M : Type 1} → statement M
-verdict-spec = tie.close (tie.spec until-requires parted-requires returns returns-2)
+verdict-spec = tie.close (tie.spec (λ c κs. search needs) (λ c κs. search needs) returns returns-2)

@@ -3,14 +3,8 @@ use borrow.Author.Needs.{needs}
 use Rattle.match_lines.proofs.line.verdict_if.Statement.{statement}
 use Rattle.match_lines.proofs.line.verdict_if.Tie as tie
 
-returns : tie.Need-returns
-returns c = search needs
-
-verdict-requires : tie.Need-verdict-requires
-verdict-requires c κs = search needs
-
 returns-2 : tie.Need-returns-2
 returns-2 c = rw (c .before .if1 .left) (c .verdict .ensures)
 
 pub verdict-if-spec : {M : Type 1} → statement M
-verdict-if-spec = tie.close (tie.spec returns verdict-requires returns-2)
+verdict-if-spec = tie.close (tie.spec (λ c. search needs) (λ c κs. search needs) returns-2)

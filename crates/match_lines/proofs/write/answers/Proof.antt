@@ -23,9 +23,6 @@ returns c = block-refused _ _ _ (c .if1 .taken)
 loop-holds : tie.Need-loop-holds Inv-loop μ-loop
 loop-holds c = (omega arith, omega arith, refl, left-all _ _ _)
 
-until-requires : tie.Need-until-requires Inv-loop μ-loop
-until-requires c κs = search needs
-
 -- the place of the newline is within the block
 within : (u : tie.After-until Inv-loop μ-loop) → u .until .result ≤ length (u .before .before .before .before .before .args .s .now)
 within u = u .until .ensures .1 (u .before .loop .inv .0)
@@ -47,14 +44,8 @@ returns-2 c =
 sub-verdict-if : tie.Need-sub-verdict-if Inv-loop μ-loop
 sub-verdict-if c = omega arith
 
-part-verdict-if-start : tie.Need-part-verdict-if-start Inv-loop μ-loop
-part-verdict-if-start c = search needs
-
 part-verdict-if-end : tie.Need-part-verdict-if-end Inv-loop μ-loop
 part-verdict-if-end c = within (c .before)
-
-verdict-if-requires : tie.Need-verdict-if-requires Inv-loop μ-loop
-verdict-if-requires c κs = search needs
 
 put-requires : tie.Need-put-requires Inv-loop μ-loop
 put-requires c κs = omega (arith, within (c .before .before .before .before))
@@ -83,20 +74,6 @@ loop-again c =
 pub answers-spec : {M : Type 1} → statement M
 answers-spec =
     tie.close
-    (tie.spec
-    Inv-loop
-    μ-loop
-    returns
-    loop-holds
-    until-requires
-    end-requires
-    same-length
-    returns-2
-    sub-verdict-if
-    part-verdict-if-start
-    part-verdict-if-end
-    verdict-if-requires
-    put-requires
-    add-from
-    loop-less
+    (tie.spec Inv-loop μ-loop returns loop-holds (λ c κs. search needs) end-requires same-length returns-2
+    sub-verdict-if (λ c. search needs) part-verdict-if-end (λ c κs. search needs) put-requires add-from loop-less
     loop-again)

@@ -11,15 +11,6 @@ use Rattle.match_lines.proofs.write.last.Tie as tie
 returns : tie.Need-returns
 returns c = last-refused _ _ _ (c .if1 .taken)
 
-least-requires : tie.Need-least-requires
-least-requires c κs = search needs
-
-put-requires : tie.Need-put-requires
-put-requires c κs = search needs
-
-same-length : tie.Need-same-length
-same-length c = search needs
-
 returns-2 : tie.Need-returns-2
 returns-2 c =
     let p = c .before .before in
@@ -36,15 +27,6 @@ returns-3 c =
 slice-aggregate-verdict-if : tie.Need-slice-aggregate-verdict-if
 slice-aggregate-verdict-if c = sym (length-take-le _ _ (c .before .before .before .least .ensures .0))
 
-verdict-if-requires : tie.Need-verdict-if-requires
-verdict-if-requires c κs = search needs
-
-put-requires-2 : tie.Need-put-requires-2
-put-requires-2 c κs = search needs
-
-same-length-2 : tie.Need-same-length-2
-same-length-2 c = search needs
-
 returns-4 : tie.Need-returns-4
 returns-4 c =
     let p = c .before .before in
@@ -58,15 +40,5 @@ returns-4 c =
 pub last-spec : {M : Type 1} → statement M
 last-spec =
     tie.close
-    (tie.spec
-    returns
-    least-requires
-    put-requires
-    same-length
-    returns-2
-    returns-3
-    slice-aggregate-verdict-if
-    verdict-if-requires
-    put-requires-2
-    same-length-2
-    returns-4)
+    (tie.spec returns (λ c κs. search needs) (λ c κs. search needs) (λ c. search needs) returns-2 returns-3
+    slice-aggregate-verdict-if (λ c κs. search needs) (λ c κs. search needs) (λ c. search needs) returns-4)

@@ -17,20 +17,8 @@ fits p =
     step-fits (a .long) (a .buffer .now) (a .n) (l .least .result) (a .out .now) (l .least .ensures .0) (l .least .ensures .1) _ _
     (w .answers .ensures .0) (w .answers .ensures .1) _ _ _ (p .progress .given .1)
 
-least-requires : tie.Need-least-requires
-least-requires c κs = search needs
-
-slice-reshare-prefix-answers : tie.Need-slice-reshare-prefix-answers
-slice-reshare-prefix-answers c = search needs
-
 slice-aggregate-answers : tie.Need-slice-aggregate-answers
 slice-aggregate-answers c = sym (length-take-le _ _ (c .before .least .ensures .0))
-
-answers-requires : tie.Need-answers-requires
-answers-requires c κs = search needs
-
-enum-known-progress : tie.Need-enum-known-progress
-enum-known-progress c = search needs
 
 sub-move-down : tie.Need-sub-move-down
 sub-move-down c = fits (c .before .before)
@@ -41,15 +29,6 @@ move-down-requires c κs =
     let s = p .before .before .before .before .before .before .before .least .ensures .0 in
     omega (arith, fits p)
 
-enum-told : tie.Need-enum-told
-enum-told c = search needs
-
-same-length : tie.Need-same-length
-same-length c = search needs
-
-same-length-2 : tie.Need-same-length-2
-same-length-2 c = search needs
-
 returns : tie.Need-returns
 returns c =
     let m = c .before .before in
@@ -59,12 +38,6 @@ returns c =
     let a = l .before .before .before .before .args in
     step-done (a .long) (a .buffer .now) (a .n) (l .least .result) (a .out .now) (l .least .ensures .0) (l .least .ensures .1) _ _
     (w .answers .ensures .0) (w .answers .ensures .1) _ _ _ _ (p .progress .given .1) (m .move-down .ensures)
-
-same-length-3 : tie.Need-same-length-3
-same-length-3 c = search needs
-
-same-length-4 : tie.Need-same-length-4
-same-length-4 c = search needs
 
 returns-2 : tie.Need-returns-2
 returns-2 c =
@@ -77,18 +50,6 @@ returns-2 c =
 pub step-spec : {M : Type 1} → statement M
 step-spec =
     tie.close
-    (tie.spec
-    least-requires
-    slice-reshare-prefix-answers
-    slice-aggregate-answers
-    answers-requires
-    enum-known-progress
-    sub-move-down
-    move-down-requires
-    enum-told
-    same-length
-    same-length-2
-    returns
-    same-length-3
-    same-length-4
-    returns-2)
+    (tie.spec (λ c κs. search needs) (λ c. search needs) slice-aggregate-answers (λ c κs. search needs)
+    (λ c. search needs) sub-move-down move-down-requires (λ c. search needs) (λ c. search needs) (λ c. search needs)
+    returns (λ c. search needs) (λ c. search needs) returns-2)

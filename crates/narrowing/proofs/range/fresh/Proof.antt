@@ -21,9 +21,6 @@ abbrev μ-loop : tie.MeasureT-loop
 loop-holds : tie.Need-loop-holds Inv-loop μ-loop
 loop-holds c = (omega arith, refl)
 
-is-deep-requires : tie.Need-is-deep-requires Inv-loop μ-loop
-is-deep-requires c κs = search needs
-
 -- the rest is not "**"
 not-deep : (c : tie.Else1 Inv-loop μ-loop) → isDeep (c .before .before .loop .rest .now) ≡ false
 not-deep c = sym (c .before .is-deep .ensures) ∙ c .if1 .left
@@ -40,9 +37,6 @@ returns-2 : tie.Need-returns-2 Inv-loop μ-loop
 returns-2 c =
     let l = c .before .before .before .loop in
     sym (l .inv .1 ∙ fresh-none _ _ (not-deep (c .before)) (c .if2 .taken))
-
-shared-slice-read-if3 : tie.Need-shared-slice-read-if3 Inv-loop μ-loop
-shared-slice-read-if3 c = search needs
 
 returns-3 : tie.Need-returns-3 Inv-loop μ-loop
 returns-3 c =
@@ -75,9 +69,6 @@ sub-rest c = omega (arith, c .before .before .if4 .left, c .before .before .befo
 part-rest-start : tie.Need-part-rest-start Inv-loop μ-loop
 part-rest-start c = omega (arith, c .before .before .if4 .left, c .before .before .before .before .before .if2 .left)
 
-part-rest-end : tie.Need-part-rest-end Inv-loop μ-loop
-part-rest-end c = search needs
-
 add-e : tie.Need-add-e Inv-loop μ-loop
 add-e c = omega (arith, c .before .before .before .before .before .before .before .before .before .loop .inv .0)
 
@@ -98,24 +89,6 @@ loop-again c =
 pub fresh-spec : {M : Type 1} → statement M
 fresh-spec =
     tie.close
-    (tie.spec
-    Inv-loop
-    μ-loop
-    loop-holds
-    is-deep-requires
-    add-t5
-    returns
-    returns-2
-    shared-slice-read-if3
-    returns-3
-    add-t10
-    add-t11
-    returns-4
-    shared-slice-read-if5
-    returns-5
-    sub-rest
-    part-rest-start
-    part-rest-end
-    add-e
-    loop-less
-    loop-again)
+    (tie.spec Inv-loop μ-loop loop-holds (λ c κs. search needs) add-t5 returns returns-2 (λ c. search needs) returns-3
+    add-t10 add-t11 returns-4 shared-slice-read-if5 returns-5 sub-rest part-rest-start (λ c. search needs) add-e
+    loop-less loop-again)

@@ -8,9 +8,6 @@ use Rattle.narrowing.proofs.search.alone.Tie as tie
 returns : tie.Need-returns
 returns c = λ l. absurd (omega arith)
 
-turned-requires : tie.Need-turned-requires
-turned-requires c κs = search needs
-
 covers-all-requires : tie.Need-covers-all-requires
 covers-all-requires c κs =
     let q = c .before .before .before .before .before .pre in
@@ -19,12 +16,6 @@ covers-all-requires c κs =
 
 returns-2 : tie.Need-returns-2
 returns-2 c = λ l. sym (c .before .covers-all .ensures) ∙ c .if2 .taken
-
-add-turned : tie.Need-add-turned
-add-turned c = search needs
-
-turned-requires-2 : tie.Need-turned-requires-2
-turned-requires-2 c κs = search needs
 
 covers-all-requires-2 : tie.Need-covers-all-requires-2
 covers-all-requires-2 c κs =
@@ -41,13 +32,5 @@ returns-4 c = λ l. absurd (omega arith)
 pub alone-spec : {M : Type 1} → statement M
 alone-spec =
     tie.close
-    (tie.spec
-    returns
-    turned-requires
-    covers-all-requires
-    returns-2
-    add-turned
-    turned-requires-2
-    covers-all-requires-2
-    returns-3
-    returns-4)
+    (tie.spec returns (λ c κs. search needs) covers-all-requires returns-2 (λ c. search needs) (λ c κs. search needs)
+    covers-all-requires-2 returns-3 returns-4)

@@ -7,21 +7,6 @@ use Rattle.narrowing.proofs.search.ends_deep.Tie as tie
 returns : tie.Need-returns
 returns c = short-ends _ (c .if1 .taken)
 
-sub-n : tie.Need-sub-n
-sub-n c = search needs
-
-sub-is-deep : tie.Need-sub-is-deep
-sub-is-deep c = search needs
-
-part-is-deep-start : tie.Need-part-is-deep-start
-part-is-deep-start c = search needs
-
-part-is-deep-end : tie.Need-part-is-deep-end
-part-is-deep-end c = search needs
-
-is-deep-requires : tie.Need-is-deep-requires
-is-deep-requires c κs = search needs
-
 returns-2 : tie.Need-returns-2
 returns-2 c =
     let d = c .before in
@@ -33,12 +18,6 @@ returns-3 c =
     let d = e .before in
     deep-alone _ _ (d .before .before .if1 .left) (d .is-deep .ensures) (e .if2 .left) (c .if3 .taken)
 
-sub-result : tie.Need-sub-result
-sub-result c = search needs
-
-shared-slice-read-result : tie.Need-shared-slice-read-result
-shared-slice-read-result c = search needs
-
 returns-4 : tie.Need-returns-4
 returns-4 c =
     let f = c .before in
@@ -49,15 +28,5 @@ returns-4 c =
 pub ends-deep-spec : {M : Type 1} → statement M
 ends-deep-spec =
     tie.close
-    (tie.spec
-    returns
-    sub-n
-    sub-is-deep
-    part-is-deep-start
-    part-is-deep-end
-    is-deep-requires
-    returns-2
-    returns-3
-    sub-result
-    shared-slice-read-result
-    returns-4)
+    (tie.spec returns (λ c. search needs) (λ c. search needs) (λ c. search needs) (λ c. search needs)
+    (λ c κs. search needs) returns-2 returns-3 (λ c. search needs) (λ c. search needs) returns-4)

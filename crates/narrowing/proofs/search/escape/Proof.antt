@@ -25,15 +25,6 @@ full : (j : tie.Joined1) → 128 ≡ length (j .if1 .d)
 full j = ⊎-elim (λ w. sym (ap length (w .5) ∙ w .2 .kept .1 .1 .1 .1 .1 .1 .0 ∙ length-replicate {A = ℕ} 128 0))
     (λ w. sym (ap length (w .1) ∙ length-replicate {A = ℕ} 128 0)) (j .if1 .came)
 
-ends-deep-requires : tie.Need-ends-deep-requires
-ends-deep-requires c κs = search needs
-
-slice-aggregate-note : tie.Need-slice-aggregate-note
-slice-aggregate-note c = search needs
-
-note-requires : tie.Need-note-requires
-note-requires c κs = search needs
-
 returns : tie.Need-returns
 returns c =
     let n = c .before .before in
@@ -67,14 +58,5 @@ returns-3 c =
 pub escape-spec : {M : Type 1} → statement M
 escape-spec =
     tie.close
-    (tie.spec
-    ends-deep-requires
-    slice-aggregate-note
-    note-requires
-    returns
-    slice-aggregate-lowest
-    lowest-requires
-    returns-2
-    slice-aggregate-lowest-2
-    lowest-requires-2
-    returns-3)
+    (tie.spec (λ c κs. search needs) (λ c. search needs) (λ c κs. search needs) returns slice-aggregate-lowest
+    lowest-requires returns-2 slice-aggregate-lowest-2 lowest-requires-2 returns-3)

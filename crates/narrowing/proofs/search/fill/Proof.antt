@@ -32,12 +32,6 @@ free k = let i = k .before .before .before in omega (arith, i .before .loop .inv
 loop-holds : tie.Need-loop-holds Inv-loop μ-loop
 loop-holds c = (refl, begun-first _ _ _ _ (c .before .before .pre))
 
-read-grant-requires : tie.Need-read-grant-requires Inv-loop μ-loop
-read-grant-requires c κs = search needs
-
-enum-known-fields : tie.Need-enum-known-fields Inv-loop μ-loop
-enum-known-fields c = search needs
-
 mul-k : tie.Need-mul-k Inv-loop μ-loop
 mul-k c = omega (arith, free (c .before))
 
@@ -81,9 +75,6 @@ slice-write-table-3 c =
 add-i : tie.Need-add-i Inv-loop μ-loop
 add-i c = omega (arith, free (c .before .before))
 
-enum-told : tie.Need-enum-told Inv-loop μ-loop
-enum-told c = search needs
-
 same-length : tie.Need-same-length Inv-loop μ-loop
 same-length c = c .before .before .before .before .loop .inv .0
 
@@ -95,12 +86,6 @@ returns c =
           (sym (ap grantRead (c .enum-told .given .1)) ∙ r .read-grant .ensures),
       i .before .loop .inv .0,
     )
-
-sub-left : tie.Need-sub-left Inv-loop μ-loop
-sub-left c = search needs
-
-loop-less : tie.Need-loop-less Inv-loop μ-loop
-loop-less c = search needs
 
 loop-again : tie.Need-loop-again Inv-loop μ-loop
 loop-again c =
@@ -121,29 +106,7 @@ returns-2 c = (begun-done _ _ _ _ _ _ _ (c .before .loop .inv .1) (c .loop-test 
 pub fill-spec : {M : Type 1} → statement M
 fill-spec =
     tie.close
-    (tie.spec
-    Inv-loop
-    μ-loop
-    loop-holds
-    read-grant-requires
-    enum-known-fields
-    mul-k
-    add-table
-    mul-table
-    slice-write-table
-    add-table-2
-    add-table-3
-    mul-table-2
-    slice-write-table-2
-    add-table-4
-    mul-table-3
-    slice-write-table-3
-    add-i
-    enum-told
-    same-length
-    returns
-    sub-left
-    loop-less
-    loop-again
-    same-length-2
-    returns-2)
+    (tie.spec Inv-loop μ-loop loop-holds (λ c κs. search needs) (λ c. search needs) mul-k add-table mul-table
+    slice-write-table add-table-2 add-table-3 mul-table-2 slice-write-table-2 add-table-4 mul-table-3
+    slice-write-table-3 add-i (λ c. search needs) same-length returns (λ c. search needs) (λ c. search needs) loop-again
+    same-length-2 returns-2)

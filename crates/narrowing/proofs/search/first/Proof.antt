@@ -36,15 +36,6 @@ inside k = pattern-room _ _ (seen k)
 loop-holds : tie.Need-loop-holds Inv-loop μ-loop
 loop-holds c = (omega arith, λ count at f. first-begin _ _ _ _ _ _ _)
 
-read-grant-requires : tie.Need-read-grant-requires Inv-loop μ-loop
-read-grant-requires c κs = search needs
-
-enum-known-fields : tie.Need-enum-known-fields Inv-loop μ-loop
-enum-known-fields c = search needs
-
-enum-told : tie.Need-enum-told Inv-loop μ-loop
-enum-told c = search needs
-
 returns : tie.Need-returns Inv-loop μ-loop
 returns c =
     let r = c .before .before in
@@ -66,12 +57,6 @@ part-p-start c = omega (arith, inside (c .before .before .before) .0, inside (c 
 part-p-end : tie.Need-part-p-end Inv-loop μ-loop
 part-p-end c = omega (arith, inside (c .before .before .before) .0, inside (c .before .before .before) .1)
 
-escape-near-requires : tie.Need-escape-near-requires Inv-loop μ-loop
-escape-near-requires c κs = search needs
-
-enum-known-found : tie.Need-enum-known-found Inv-loop μ-loop
-enum-known-found c = search needs
-
 returns-2 : tie.Need-returns-2 Inv-loop μ-loop
 returns-2 c =
     let m = c .before in
@@ -79,15 +64,6 @@ returns-2 c =
     let k = e .before .before .before .before .before .before in
     let l = k .before .before .before in
     λ count at f. first-hit _ _ _ _ _ _ _ _ (l .loop-test .taken) (seen k) (sym (m .found .given .1) ∙ e .escape-near .ensures count at f) ∙ l .before .loop .inv .1 count at f
-
-enum-told-2 : tie.Need-enum-told-2 Inv-loop μ-loop
-enum-told-2 c = search needs
-
-add-i : tie.Need-add-i Inv-loop μ-loop
-add-i c = search needs
-
-loop-less : tie.Need-loop-less Inv-loop μ-loop
-loop-less c = search needs
 
 loop-again : tie.Need-loop-again Inv-loop μ-loop
 loop-again c =
@@ -104,24 +80,6 @@ returns-3 c = λ count at f. first-done _ _ _ _ _ _ _ _ (c .loop-test .left) ∙
 pub first-spec : {M : Type 1} → statement M
 first-spec =
     tie.close
-    (tie.spec
-    Inv-loop
-    μ-loop
-    loop-holds
-    read-grant-requires
-    enum-known-fields
-    enum-told
-    returns
-    add-end
-    add-p
-    sub-p
-    part-p-start
-    part-p-end
-    escape-near-requires
-    enum-known-found
-    returns-2
-    enum-told-2
-    add-i
-    loop-less
-    loop-again
-    returns-3)
+    (tie.spec Inv-loop μ-loop loop-holds (λ c κs. search needs) (λ c. search needs) (λ c. search needs) returns add-end
+    add-p sub-p part-p-start part-p-end (λ c κs. search needs) (λ c. search needs) returns-2 (λ c. search needs)
+    (λ c. search needs) (λ c. search needs) loop-again returns-3)

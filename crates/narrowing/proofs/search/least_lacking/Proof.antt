@@ -19,25 +19,10 @@ abbrev μ-loop : tie.MeasureT-loop
 loop-holds : tie.Need-loop-holds Inv-loop μ-loop
 loop-holds c = (c .before .pre .1, refl)
 
-mul-lacks : tie.Need-mul-lacks Inv-loop μ-loop
-mul-lacks c = search needs
-
-shared-slice-read-lacks : tie.Need-shared-slice-read-lacks Inv-loop μ-loop
-shared-slice-read-lacks c = search needs
-
-lacks-requires : tie.Need-lacks-requires Inv-loop μ-loop
-lacks-requires c κs = search needs
-
 returns : tie.Need-returns Inv-loop μ-loop
 returns c =
     let l = c .before .before .before .before in
     sym (l .loop .inv .1 ∙ least-hit _ _ _ (c .before .before .before .loop-test .taken) (sym (c .before .lacks .ensures) ∙ c .if1 .taken))
-
-add-k : tie.Need-add-k Inv-loop μ-loop
-add-k c = search needs
-
-loop-less : tie.Need-loop-less Inv-loop μ-loop
-loop-less c = search needs
 
 loop-again : tie.Need-loop-again Inv-loop μ-loop
 loop-again c =
@@ -50,15 +35,5 @@ returns-2 c = sym (c .before .loop .inv .1 ∙ least-end _ _ _ (c .loop-test .le
 pub least-lacking-spec : {M : Type 1} → statement M
 least-lacking-spec =
     tie.close
-    (tie.spec
-    Inv-loop
-    μ-loop
-    loop-holds
-    mul-lacks
-    shared-slice-read-lacks
-    lacks-requires
-    returns
-    add-k
-    loop-less
-    loop-again
-    returns-2)
+    (tie.spec Inv-loop μ-loop loop-holds (λ c. search needs) (λ c. search needs) (λ c κs. search needs) returns
+    (λ c. search needs) (λ c. search needs) loop-again returns-2)

@@ -19,23 +19,11 @@ abbrev μ-loop : tie.MeasureT-loop
 loop-holds : tie.Need-loop-holds Inv-loop μ-loop
 loop-holds c = (omega arith, refl)
 
-lacks-requires : tie.Need-lacks-requires Inv-loop μ-loop
-lacks-requires c κs = search needs
-
-least-lacking-requires : tie.Need-least-lacking-requires Inv-loop μ-loop
-least-lacking-requires c κs = search needs
-
 returns : tie.Need-returns Inv-loop μ-loop
 returns c =
     let i = c .before .before .before .before in
     let l = i .before in
     sym (l .loop .inv .1 ∙ lowest-hit _ _ _ _ _ _ (i .loop-test .taken) (has-of (c .before .before .before .lacks .ensures) (c .before .before .if1 .taken)) (c .before .least-lacking .ensures) (c .if2 .taken))
-
-add-mode : tie.Need-add-mode Inv-loop μ-loop
-add-mode c = search needs
-
-loop-less : tie.Need-loop-less Inv-loop μ-loop
-loop-less c = search needs
 
 loop-again : tie.Need-loop-again Inv-loop μ-loop
 loop-again c =
@@ -55,14 +43,5 @@ returns-2 c = sym (c .before .loop .inv .1 ∙ lowest-end _ _ _ _ _ (c .loop-tes
 pub lowest-spec : {M : Type 1} → statement M
 lowest-spec =
     tie.close
-    (tie.spec
-    Inv-loop
-    μ-loop
-    loop-holds
-    lacks-requires
-    least-lacking-requires
-    returns
-    add-mode
-    loop-less
-    loop-again
-    returns-2)
+    (tie.spec Inv-loop μ-loop loop-holds (λ c κs. search needs) (λ c κs. search needs) returns (λ c. search needs)
+    (λ c. search needs) loop-again returns-2)

@@ -56,12 +56,6 @@ returns c =
     let n = noting-next _ _ _ _ _ _ _ _ _ (i .before .loop .inv .1) _ _ (v .note-row .ensures .1) (v .note-row .ensures .0) in
     (λ l. noting-covered _ _ _ _ _ _ _ _ _ n _ (omega (arith, i .loop-test .taken)) (c .if2 .taken), λ h. absurd (omega (arith, i .loop-test .taken)))
 
-add-i : tie.Need-add-i Inv-loop μ-loop
-add-i c = search needs
-
-loop-less : tie.Need-loop-less Inv-loop μ-loop
-loop-less c = search needs
-
 loop-again : tie.Need-loop-again Inv-loop μ-loop
 loop-again c =
     let k = c .before in
@@ -85,19 +79,5 @@ returns-2 c =
 pub note-spec : {M : Type 1} → statement M
 note-spec =
     tie.close
-    (tie.spec
-    Inv-loop
-    μ-loop
-    loop-holds
-    mul-modes
-    add-modes
-    mul-modes-2
-    shared-slice-read-modes
-    note-row-requires
-    same-length
-    returns
-    add-i
-    loop-less
-    loop-again
-    same-length-2
-    returns-2)
+    (tie.spec Inv-loop μ-loop loop-holds mul-modes add-modes mul-modes-2 shared-slice-read-modes note-row-requires
+    same-length returns (λ c. search needs) (λ c. search needs) loop-again same-length-2 returns-2)

@@ -50,15 +50,5 @@ returns-3 c = let l = c .before .loop in sym (l .inv .2 ∙ same-end _ _ (l .i) 
 pub same-bytes-spec : {M : Type 1} → statement M
 same-bytes-spec =
     tie.close
-    (tie.spec
-    Inv-loop
-    μ-loop
-    returns
-    loop-holds
-    sub-i
-    shared-slice-read-if2
-    shared-slice-read-if2-2
-    returns-2
-    loop-less
-    loop-again
-    returns-3)
+    (tie.spec Inv-loop μ-loop returns loop-holds sub-i shared-slice-read-if2 shared-slice-read-if2-2 returns-2 loop-less
+    loop-again returns-3)

@@ -96,20 +96,5 @@ returns-4 c =
 pub number-at-spec : {M : Type 1} → statement M
 number-at-spec =
     tie.close
-    (tie.spec
-    Inv-loop
-    μ-loop
-    returns
-    returns-2
-    sub-if3
-    returns-3
-    loop-holds
-    mul-n
-    add-n
-    shared-slice-read-n
-    cast-n
-    add-n-2
-    add-k
-    loop-less
-    loop-again
-    returns-4)
+    (tie.spec Inv-loop μ-loop returns returns-2 sub-if3 returns-3 loop-holds mul-n add-n shared-slice-read-n cast-n
+    add-n-2 add-k loop-less loop-again returns-4)

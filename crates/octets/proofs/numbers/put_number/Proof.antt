@@ -68,18 +68,5 @@ returns-3 c =
 pub put-number-spec : {M : Type 1} → statement M
 put-number-spec =
     tie.close
-    (tie.spec
-    Inv-loop
-    μ-loop
-    returns
-    sub-if2
-    returns-2
-    loop-holds
-    sub-k
-    cast-d
-    add-d
-    slice-write-d
-    loop-less
-    loop-again
-    same-length
-    returns-3)
+    (tie.spec Inv-loop μ-loop returns sub-if2 returns-2 loop-holds sub-k cast-d add-d slice-write-d loop-less loop-again
+    same-length returns-3)

@@ -71,19 +71,5 @@ returns-4 c =
 pub move-up-spec : {M : Type 1} → statement M
 move-up-spec =
     tie.close
-    (tie.spec
-    Inv-loop
-    μ-loop
-    returns
-    returns-2
-    sub-if3
-    returns-3
-    loop-holds
-    sub-i
-    slice-read-d
-    add-d
-    slice-write-d
-    loop-less
-    loop-again
-    same-length
-    returns-4)
+    (tie.spec Inv-loop μ-loop returns returns-2 sub-if3 returns-3 loop-holds sub-i slice-read-d add-d slice-write-d
+    loop-less loop-again same-length returns-4)

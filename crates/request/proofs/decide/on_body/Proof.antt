@@ -81,9 +81,6 @@ past-5 c m e d = past-4 (c .before .before .before) m e (passes (lent-same _ _ (
 found : (c : tie.After-match-grant) (m : Matched) → c .match-grant .result ≡ m → m ≡ first (at5 (c .before))
 found c m e = sym e ∙ c .match-grant .ensures
 
-is-listed-requires : tie.Need-is-listed-requires
-is-listed-requires c κs = search needs
-
 returns : tie.Need-returns
 unfolding laterSteps
 returns c = on-steps _ _ _ _ refl (fails (ap not (sym (c .before .is-listed .ensures) ∙ c .if1 .taken)))
@@ -96,41 +93,11 @@ returns-3 : tie.Need-returns-3
 unfolding laterSteps
 returns-3 c = past-2 (c .before .before) _ refl (fails (le-ltb _ _ (c .if3 .taken)))
 
-add-same-bytes : tie.Need-add-same-bytes
-add-same-bytes c = search needs
-
-sub-same-bytes : tie.Need-sub-same-bytes
-sub-same-bytes c = search needs
-
-part-same-bytes-start : tie.Need-part-same-bytes-start
-part-same-bytes-start c = search needs
-
-part-same-bytes-end : tie.Need-part-same-bytes-end
-part-same-bytes-end c = search needs
-
-same-bytes-requires : tie.Need-same-bytes-requires
-same-bytes-requires c κs = search needs
-
 returns-4 : tie.Need-returns-4
 unfolding laterSteps
 returns-4 c =
     let l = c .before .before .before in
     past-3 l _ refl (fails (lent-same _ _ (at3 l .args .fields .fay) 40 (c .before .same-bytes .ensures) ∙ not-true _ (c .if4 .taken)))
-
-add-same-bytes-2 : tie.Need-add-same-bytes-2
-add-same-bytes-2 c = search needs
-
-sub-same-bytes-2 : tie.Need-sub-same-bytes-2
-sub-same-bytes-2 c = search needs
-
-part-same-bytes-start-2 : tie.Need-part-same-bytes-start-2
-part-same-bytes-start-2 c = search needs
-
-part-same-bytes-end-2 : tie.Need-part-same-bytes-end-2
-part-same-bytes-end-2 c = search needs
-
-same-bytes-requires-2 : tie.Need-same-bytes-requires-2
-same-bytes-requires-2 c κs = search needs
 
 returns-5 : tie.Need-returns-5
 unfolding laterSteps
@@ -140,15 +107,6 @@ returns-5 c =
 
 match-grant-requires : tie.Need-match-grant-requires
 match-grant-requires c κs = let p = at5 c .pre in (p .0, p .1, p .2 .terminal)
-
-enum-known-grant : tie.Need-enum-known-grant
-enum-known-grant c = search needs
-
-signed-requires : tie.Need-signed-requires
-signed-requires c κs = search needs
-
-enum-told : tie.Need-enum-told
-enum-told c = search needs
 
 returns-6 : tie.Need-returns-6
 unfolding laterSteps
@@ -166,26 +124,7 @@ returns-7 c = let k = c .before .before in past-5 (k .before) Nothing (found k N
 pub on-body-spec : {M : Type 1} → statement M
 on-body-spec =
     tie.close
-    (tie.spec
-    is-listed-requires
-    returns
-    returns-2
-    returns-3
-    add-same-bytes
-    sub-same-bytes
-    part-same-bytes-start
-    part-same-bytes-end
-    same-bytes-requires
-    returns-4
-    add-same-bytes-2
-    sub-same-bytes-2
-    part-same-bytes-start-2
-    part-same-bytes-end-2
-    same-bytes-requires-2
-    returns-5
-    match-grant-requires
-    enum-known-grant
-    signed-requires
-    enum-told
-    returns-6
-    returns-7)
+    (tie.spec (λ c κs. search needs) returns returns-2 returns-3 (λ c. search needs) (λ c. search needs)
+    (λ c. search needs) (λ c. search needs) (λ c κs. search needs) returns-4 (λ c. search needs) (λ c. search needs)
+    (λ c. search needs) (λ c. search needs) (λ c κs. search needs) returns-5 match-grant-requires (λ c. search needs)
+    (λ c κs. search needs) (λ c. search needs) returns-6 returns-7)

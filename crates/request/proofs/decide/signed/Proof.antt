@@ -9,9 +9,6 @@ use Rattle.request.proofs.decide.signed.Tie as tie
 returns : tie.Need-returns
 returns c = signed-none _ _ _ _ _ _ _ (c .if1 .taken)
 
-key-open-requires : tie.Need-key-open-requires
-key-open-requires c κs = search needs
-
 returns-2 : tie.Need-returns-2
 returns-2 c = signed-shut _ _ _ _ _ _ _ (c .before .before .if1 .left) (sym (c .before .key-open .ensures) ∙ not-true _ (c .if2 .taken))
 
@@ -20,9 +17,6 @@ returns-3 c =
     let e = c .before in
     signed-bad _ _ _ _ _ _ _ (e .before .before .if1 .left) (sym (e .before .key-open .ensures) ∙ not-false _ (e .if2 .left))
     (c .if3 .taken)
-
-session-end-requires : tie.Need-session-end-requires
-session-end-requires c κs = search needs
 
 returns-4 : tie.Need-returns-4
 returns-4 c =
@@ -33,5 +27,4 @@ returns-4 c =
 
 pub signed-spec : {M : Type 1} → statement M
 signed-spec =
-    tie.close
-    (tie.spec returns key-open-requires returns-2 returns-3 session-end-requires returns-4)
+    tie.close (tie.spec returns (λ c κs. search needs) returns-2 returns-3 (λ c κs. search needs) returns-4)

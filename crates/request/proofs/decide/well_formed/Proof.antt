@@ -26,18 +26,12 @@ returns-2 c = no-mode _ _ _ _ _ _ _ (c .before .if1 .left) (c .if2 .taken)
 returns-3 : tie.Need-returns-3
 returns-3 c = let n = c .before in no-id _ _ _ _ _ _ _ (n .before .if1 .left) (n .if2 .left) (c .if3 .taken)
 
-is-fay-requires : tie.Need-is-fay-requires
-is-fay-requires c κs = search needs
-
 returns-4 : tie.Need-returns-4
 returns-4 c =
     let n = c .before .before in
     let m = n .before in
     no-fay _ _ _ _ _ _ _ (m .before .if1 .left) (m .if2 .left) (n .if3 .left)
     (sym (c .before .is-fay .ensures) ∙ not-true _ (c .if4 .taken))
-
-is-terminal-requires : tie.Need-is-terminal-requires
-is-terminal-requires c κs = search needs
 
 returns-5 : tie.Need-returns-5
 returns-5 c =
@@ -46,9 +40,6 @@ returns-5 c =
     let m = n .before in
     no-terminal _ _ _ _ _ _ _ (m .before .if1 .left) (m .if2 .left) (n .if3 .left) (well-fay e)
     (sym (c .before .is-terminal .ensures) ∙ not-true _ (c .if5 .taken))
-
-is-resource-requires : tie.Need-is-resource-requires
-is-resource-requires c κs = search needs
 
 returns-6 : tie.Need-returns-6
 returns-6 c =
@@ -71,14 +62,5 @@ returns-7 c =
 pub well-formed-spec : {M : Type 1} → statement M
 well-formed-spec =
     tie.close
-    (tie.spec
-    returns
-    returns-2
-    returns-3
-    is-fay-requires
-    returns-4
-    is-terminal-requires
-    returns-5
-    is-resource-requires
-    returns-6
-    returns-7)
+    (tie.spec returns returns-2 returns-3 (λ c κs. search needs) returns-4 (λ c κs. search needs) returns-5
+    (λ c κs. search needs) returns-6 returns-7)

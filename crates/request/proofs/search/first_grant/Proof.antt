@@ -109,18 +109,6 @@ passed c =
 grants-holds : tie.Need-grants-holds Inv-levels μ-levels Inv-grants μ-grants
 grants-holds c = (omega arith, first-begin _ _ _ _ _)
 
-read-grant-requires : tie.Need-read-grant-requires Inv-levels μ-levels Inv-grants μ-grants
-read-grant-requires c κs = search needs
-
-enum-known-fields : tie.Need-enum-known-fields Inv-levels μ-levels Inv-grants μ-grants
-enum-known-fields c = search needs
-
-enum-told : tie.Need-enum-told Inv-levels μ-levels Inv-grants μ-grants
-enum-told c = search needs
-
-is-eligible-requires : tie.Need-is-eligible-requires Inv-levels μ-levels Inv-grants μ-grants
-is-eligible-requires c κs = search needs
-
 add-end : tie.Need-add-end Inv-levels μ-levels Inv-grants μ-grants
 add-end c = omega (arith, inside (c .before .before .before .before) .1)
 
@@ -139,21 +127,6 @@ part-p-end c = omega (arith, inside (c .before .before .before .before) .0, insi
 levels-holds : tie.Need-levels-holds Inv-levels μ-levels Inv-grants μ-grants
 levels-holds c = (omega (arith, inside (c .before .before .before .before .before) .1), omega arith, refl)
 
-is-deep-requires : tie.Need-is-deep-requires Inv-levels μ-levels Inv-grants μ-grants
-is-deep-requires c κs = search needs
-
-step-levels-requires : tie.Need-step-levels-requires Inv-levels μ-levels Inv-grants μ-grants
-step-levels-requires c κs = search needs
-
-enum-told-2 : tie.Need-enum-told-2 Inv-levels μ-levels Inv-grants μ-grants
-enum-told-2 c = search needs
-
-enum-told-3 : tie.Need-enum-told-3 Inv-levels μ-levels Inv-grants μ-grants
-enum-told-3 c = search needs
-
-enum-known-a : tie.Need-enum-known-a Inv-levels μ-levels Inv-grants μ-grants
-enum-known-a c = search needs
-
 add-p-2 : tie.Need-add-p-2 Inv-levels μ-levels Inv-grants μ-grants
 add-p-2 c =
     let x = c .before in
@@ -166,9 +139,6 @@ sub-p-2 c = omega (arith, goes (c .before) .in-p)
 part-p-start-2 : tie.Need-part-p-start-2 Inv-levels μ-levels Inv-grants μ-grants
 part-p-start-2 c = omega (arith, goes (c .before) .in-p)
 
-part-p-end-2 : tie.Need-part-p-end-2 Inv-levels μ-levels Inv-grants μ-grants
-part-p-end-2 c = search needs
-
 add-q : tie.Need-add-q Inv-levels μ-levels Inv-grants μ-grants
 add-q c =
     let x = c .before .before in
@@ -180,9 +150,6 @@ sub-q c = omega (arith, goes (c .before .before) .in-r)
 
 part-q-start : tie.Need-part-q-start Inv-levels μ-levels Inv-grants μ-grants
 part-q-start c = omega (arith, goes (c .before .before) .in-r)
-
-part-q-end : tie.Need-part-q-end Inv-levels μ-levels Inv-grants μ-grants
-part-q-end c = search needs
 
 levels-less : tie.Need-levels-less Inv-levels μ-levels Inv-grants μ-grants
 levels-less c =
@@ -197,12 +164,6 @@ levels-again c =
       omega (arith, part-shorter (l .q .now) (x .a .given .0 .1 .0) (goes x .in-r), l .inv .1),
       l .inv .2 ∙ sym (next-same _ _ _ _ (goes x)),
     )
-
-add-i : tie.Need-add-i Inv-levels μ-levels Inv-grants μ-grants
-add-i c = search needs
-
-grants-less : tie.Need-grants-less Inv-levels μ-levels Inv-grants μ-grants
-grants-less c = search needs
 
 grants-again : tie.Need-grants-again Inv-levels μ-levels Inv-grants μ-grants
 grants-again c =
@@ -227,41 +188,8 @@ returns-4 c = let x = c .before .before in hit (x .before .before .before) (subs
 pub first-grant-spec : {M : Type 1} → statement M
 first-grant-spec =
     tie.close
-    (tie.spec
-    Inv-levels
-    μ-levels
-    Inv-grants
-    μ-grants
-    grants-holds
-    read-grant-requires
-    enum-known-fields
-    enum-told
-    is-eligible-requires
-    add-end
-    add-p
-    sub-p
-    part-p-start
-    part-p-end
-    levels-holds
-    is-deep-requires
-    step-levels-requires
-    enum-told-2
-    enum-told-3
-    enum-known-a
-    add-p-2
-    sub-p-2
-    part-p-start-2
-    part-p-end-2
-    add-q
-    sub-q
-    part-q-start
-    part-q-end
-    levels-less
-    levels-again
-    add-i
-    grants-less
-    grants-again
-    returns
-    returns-2
-    returns-3
-    returns-4)
+    (tie.spec Inv-levels μ-levels Inv-grants μ-grants grants-holds (λ c κs. search needs) (λ c. search needs)
+    (λ c. search needs) (λ c κs. search needs) add-end add-p sub-p part-p-start part-p-end levels-holds
+    (λ c κs. search needs) (λ c κs. search needs) (λ c. search needs) (λ c. search needs) (λ c. search needs) add-p-2
+    sub-p-2 part-p-start-2 (λ c. search needs) add-q sub-q part-q-start (λ c. search needs) levels-less levels-again
+    (λ c. search needs) (λ c. search needs) grants-again returns returns-2 returns-3 returns-4)

@@ -12,17 +12,11 @@ use Rattle.submission.proofs.choose.admit.Tie as tie
 lead : (j : tie.Joined1) → j .before .args .before ≤ j .before .args .clock + longestLead
 lead j = ⊎-elim (λ w. omega (arith, w .0 .taken, w .1 .left)) (λ w. omega (arith, w .left)) (j .if1 .came)
 
-sub-if2 : tie.Need-sub-if2
-sub-if2 c = search needs
-
 returns : tie.Need-returns
 returns c = admit-late _ _ _ _ (omega arith)
 
 returns-2 : tie.Need-returns-2
 returns-2 c = admit-issuer _ _ _ _ (lead (c .before)) (c .if3 .taken)
-
-key-open-requires : tie.Need-key-open-requires
-key-open-requires c κs = search needs
 
 returns-3 : tie.Need-returns-3
 returns-3 c =
@@ -41,4 +35,4 @@ returns-5 c =
 
 pub admit-spec : {M : Type 1} → statement M
 admit-spec =
-    tie.close (tie.spec sub-if2 returns returns-2 key-open-requires returns-3 returns-4 returns-5)
+    tie.close (tie.spec (λ c. search needs) returns returns-2 (λ c κs. search needs) returns-3 returns-4 returns-5)

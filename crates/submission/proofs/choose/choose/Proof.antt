@@ -17,44 +17,17 @@ bytes s = are-bytes (s .before .args .image .now) (s .shared-slice-known .given)
 returns : tie.Need-returns
 returns c = (choice-malformed _ _ _ _ _ (omega arith), bytes (c .before .before))
 
-read-descriptor-requires : tie.Need-read-descriptor-requires
-read-descriptor-requires c κs = search needs
-
-enum-known-fields : tie.Need-enum-known-fields
-enum-known-fields c = search needs
-
 add-check : tie.Need-add-check
 add-check c = omega (arith, id-room _ _ _ (c .before .before .before .read-descriptor .ensures) (c .before .fields .given .1))
 
-sub-check : tie.Need-sub-check
-sub-check c = search needs
-
-part-check-start : tie.Need-part-check-start
-part-check-start c = search needs
-
 part-check-end : tie.Need-part-check-end
 part-check-end c = omega (arith, id-room _ _ _ (c .before .before .before .read-descriptor .ensures) (c .before .fields .given .1))
-
-check-requires : tie.Need-check-requires
-check-requires c κs = search needs
 
 choose-read-requires : tie.Need-choose-read-requires
 choose-read-requires c κs =
     let o = c .before .before .before .before .before in
     subst (SurveyFits (o .before .before .before .before .args .image .now)) (sym (c .check .ensures))
     (survey-inside _ _ (bytes (o .before .before .before)))
-
-enum-told : tie.Need-enum-told
-enum-told c = search needs
-
-choose-unread-requires : tie.Need-choose-unread-requires
-choose-unread-requires c κs = search needs
-
-enum-told-2 : tie.Need-enum-told-2
-enum-told-2 c = search needs
-
-choose-unread-requires-2 : tie.Need-choose-unread-requires-2
-choose-unread-requires-2 c κs = search needs
 
 returns-2 : tie.Need-returns-2
 returns-2 c =
@@ -85,20 +58,6 @@ returns-4 c =
 pub choose-spec : {M : Type 1} → statement M
 choose-spec =
     tie.close
-    (tie.spec
-    returns
-    read-descriptor-requires
-    enum-known-fields
-    add-check
-    sub-check
-    part-check-start
-    part-check-end
-    check-requires
-    choose-read-requires
-    enum-told
-    choose-unread-requires
-    enum-told-2
-    choose-unread-requires-2
-    returns-2
-    returns-3
-    returns-4)
+    (tie.spec returns (λ c κs. search needs) (λ c. search needs) add-check (λ c. search needs) (λ c. search needs)
+    part-check-end (λ c κs. search needs) choose-read-requires (λ c. search needs) (λ c κs. search needs)
+    (λ c. search needs) (λ c κs. search needs) returns-2 returns-3 returns-4)

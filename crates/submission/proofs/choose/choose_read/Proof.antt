@@ -6,26 +6,11 @@ use borrow.Author.Needs.{needs}
 use Rattle.submission.proofs.choose.choose_read.Statement.{statement}
 use Rattle.submission.proofs.choose.choose_read.Tie as tie
 
-enum-known-found : tie.Need-enum-known-found
-enum-known-found c = search needs
-
-admit-requires : tie.Need-admit-requires
-admit-requires c κs = search needs
-
-enum-known-answer : tie.Need-enum-known-answer
-enum-known-answer c = search needs
-
-enum-told : tie.Need-enum-told
-enum-told c = search needs
-
 place-requires : tie.Need-place-requires
 place-requires c κs =
     let x = c .before .before .before .before in
     let s = x .before .before .before .before in
     subst (SurveyFits (s .args .image .now)) (x .found .given .1) (s .pre)
-
-enum-told-2 : tie.Need-enum-told-2
-enum-told-2 c = search needs
 
 returns : tie.Need-returns
 returns c =
@@ -44,13 +29,5 @@ returns-3 c = read-unsound _ _ _ _ _ _ _ (c .enum-told2 .given .1)
 pub choose-read-spec : {M : Type 1} → statement M
 choose-read-spec =
     tie.close
-    (tie.spec
-    enum-known-found
-    admit-requires
-    enum-known-answer
-    enum-told
-    place-requires
-    enum-told-2
-    returns
-    returns-2
-    returns-3)
+    (tie.spec (λ c. search needs) (λ c κs. search needs) (λ c. search needs) (λ c. search needs) place-requires
+    (λ c. search needs) returns returns-2 returns-3)

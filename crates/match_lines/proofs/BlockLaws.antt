@@ -1,15 +1,17 @@
 -- Laws of blocks (specs/Block.antt): a line in a block, the bytes that are kept of a block, how many are written for it, and that the
 -- blocks of an input together have the answers to its lines written. Assumes nothing.
 use mathlib.Core.Path.{_≡_, refl, sym, ap, _∙_}
-use mathlib.Core.Bool.{Bool, true, false, not, _&&_, _||_}
+use mathlib.Core.Bool.{Bool, true, false, _||_}
 use mathlib.Core.List.{List, [], _∷_, _++_, append-nil, append-assoc}
 use Prim.Native.Nat.{ℕ, _-_, _*_, _≤_, _<_}
 use native.Mathlib.Omega.{arith}
 use lib.ListN.{length, drop, length-append}
 use lib.Seq.{drop-at, append-snoc}
 use lib.Dec.{eqb, ltb}
-use borrow.Author.Tests.{not-true, lt-leb, ltb-true, ltb-false}
-use Rattle.octets.proofs.Tests.{by-cond, and-left, and-right, and-both}
+use borrow.Author.Tests.{lt-leb, ltb-true, ltb-false}
+use Rattle.octets.specs.Scan.{without}
+use Rattle.octets.proofs.ScanLaws.{without-append, without-first, without-rest}
+use Rattle.octets.proofs.Tests.{by-cond}
 use Rattle.match_lines.specs.declared.Verdict.{Verdict}
 use Rattle.match_lines.specs.declared.Verdict.the-variants.{IsYes, IsNo, IsBad}
 use Rattle.match_lines.specs.Lines.{longestLine, word, verdict, lastLine, answersFrom}
@@ -17,11 +19,6 @@ use Rattle.match_lines.specs.Block.{Fed, verdictIf, keptOf, after, fedFr
 use Rattle.match_lines.specs.Promises.{concat, writtenFrom}
 
 -- ---- the first byte of a block
-
--- no byte of the text is a newline
-unfoldable pub noNewline : List ℕ → Bool
-noNewline [] = true
-noNewline (b ∷ bs) = not (eqb b 10) && noNewline bs
 
 -- a newline first: the line that has begun is answered
 pub fed-newline : (long : Bool) (begun : List ℕ) (b : ℕ) (bs : List ℕ) → eqb b 10 ≡ true
@@ -66,13 +63,13 @@ module _ (P : Bool → List ℕ → List ℕ → Fed → Type 0)
 -- ---- a line in a block
 
 -- bytes with no newline among them join the line that has begun
-fed-join : (long : Bool) (begun line rest : List ℕ) → noNewline line ≡ true
+fed-join : (long : Bool) (begun line rest : List ℕ) → without 10 line ≡ true
     → fedFrom long begun (line ++ rest) ≡ fedFrom long (begun ++ line) rest
-unfolding noNewline
+unfolding without
 fed-join long begun [] rest h = rw append-nil
 fed-join long begun (b ∷ bs) rest h =
-    fed-byte long begun b (bs ++ rest) (not-true (eqb b 10) (and-left (not (eqb b 10)) (noNewline bs) h))
-    ∙ fed-join long (begun ++ (b ∷ [])) bs rest (and-right (not (eqb b 10)) (noNewline bs) h)
+    fed-byte long begun b (bs ++ rest) (without-first 10 b bs h)
+    ∙ fed-join long (begun ++ (b ∷ [])) bs rest (without-rest 10 b bs h)
     ∙ rw append-assoc
 
 -- ---- what is kept, and how much is written
@@ -132,11 +129,11 @@ bad-long line h = rw (lt-leb (length line) longestLine h)
 
 -- a line of the input has begun, and its part that a block has seen: the part is the line, or the line is too long
 data Stands : Bool → List ℕ → List ℕ → Type 0 where
-  whole : (line : List ℕ) → noNewline line ≡ true → Stands false line line
-  tooLong : (part line : List ℕ) → noNewline part ≡ true → longestLine < length line → Stands true part line
+  whole : (line : List ℕ) → without 10 line ≡ true → Stands false line line
+  tooLong : (part line : List ℕ) → without 10 part ≡ true → longestLine < length line → Stands true part line
 
 -- the part has no newline
-stands-part : {long : Bool} {part line : List ℕ} → Stands long part line → noNewline part ≡ true
+stands-part : {long : Bool} {part line : List ℕ} → Stands long part line → without 10 part ≡ true
 stands-part (whole l h) = h
 stands-part (tooLong p l h k) = h
 
@@ -146,12 +143,9 @@ stands-verdict (whole l h) = refl
 stands-verdict (tooLong p l h k) = sym (bad-long l k)
 
 -- a text without newline, and one more byte
-no-newline-snoc : (l : List ℕ) (b : ℕ) → noNewline l ≡ true → eqb b 10 ≡ false → noNewline (l ++ (b ∷ [])) ≡ true
-unfolding noNewline
-no-newline-snoc [] b h e = rw e
-no-newline-snoc (x ∷ xs) b h e =
-    and-both (not (eqb x 10)) (noNewline (xs ++ (b ∷ []))) (and-left (not (eqb x 10)) (noNewline xs) h)
-    (no-newline-snoc xs b (and-right (not (eqb x 10)) (noNewline xs) h) e)
+no-newline-snoc : (l : List ℕ) (b : ℕ) → without 10 l ≡ true → eqb b 10 ≡ false → without 10 (l ++ (b ∷ [])) ≡ true
+unfolding without
+no-newline-snoc l b h e = without-append 10 l (b ∷ []) h (rw e)
 
 -- one more byte of the line
 stands-byte : {long : Bool} {part line : List ℕ} (b : ℕ) → eqb b 10 ≡ false → Stands long part line
@@ -162,7 +156,7 @@ stands-byte b e (tooLong p l h k) = tooLong (p ++ (b ∷ [])) (l ++ (b ∷ [])) 
 
 -- at the end of a block, what is kept is such a part
 stands-kept : {long : Bool} {part line : List ℕ} → Stands long part line → Stands (keptOf long part .long) (keptOf long part .kept) line
-unfolding keptOf noNewline
+unfolding keptOf without
 stands-kept (whole l h) =
     by-cond (λ (f : Fed). Stands (f .long) (f .kept) l) (ltb longestLine (length l))
     (λ e. tooLong [] l refl (ltb-true longestLine (length l) e)) (λ e. whole l h)
@@ -185,7 +179,7 @@ Carries line s f =
 
 -- this holds of each block
 fed-carries : (long : Bool) (part s line : List ℕ) → Stands long part line → Carries line s (fedFrom long part s)
-unfolding noNewline
+unfolding without
 fed-carries =
     by-fed (λ long part s f. (line : List ℕ) → Stands long part line → Carries line s f)
     (λ long part line h. (line, stands-kept h, λ more. rw kept-out))
@@ -206,5 +200,5 @@ written-answers (b ∷ bs) long kept line h =
 
 -- however the input is cut into blocks, what is written is the answers to its lines
 pub blocks-answers : (blocks : List (List ℕ)) → writtenFrom false [] blocks ≡ answersFrom [] (concat blocks)
-unfolding noNewline
+unfolding without
 blocks-answers blocks = written-answers blocks false [] [] (whole [] refl)

@@ -2,119 +2,32 @@
 -- what matching promises alone. Assumes nothing.
 use mathlib.Core.Path.{_≡_, refl, sym, ap, _∙_, subst, ap₂}
 use mathlib.Core.Logic.{_↔_, _⊎_, inl, inr, ⊎-elim}
-use mathlib.Core.Bool.{Bool, true, false, not, cond, _&&_}
+use mathlib.Core.Bool.{Bool, true, false, cond, _&&_}
 use mathlib.Core.List.{List, [], _∷_, _++_}
 use Prim.Native.Nat.{ℕ, suc, _+_, _≤_, _<_}
 use native.Mathlib.Omega.{arith}
 use lib.ListN.{length, take, drop, length-append}
 use lib.Seq.{take-at}
 use lib.Dec.{eqb, leb}
-use borrow.Author.Tests.{not-true, eqb-true, leb-true, leb-false, le-leb, lt-leb}
+use borrow.Author.Tests.{eqb-true, leb-true, leb-false, le-leb, lt-leb}
 use Rattle.resource.specs.declared.Matching.{Matching}
 use Rattle.resource.specs.declared.Matching.the-variants.{Yes, No, Malformed}
 use Rattle.resource.specs.Characters.{codes}
-use Rattle.resource.specs.Identifier.{isHex, Slot, fits, hasForm, uuidForm, terminalForm, isTerminal}
+use Rattle.resource.specs.Identifier.{fits}
 use Rattle.octets.specs.Scan.{bytesBefore}
-use Rattle.resource.specs.Level.{isNameChar, allNameChars, isName, joined}
-use Rattle.resource.specs.Pattern.{Path, pathText, Levels, done, deep, name, star, Pattern, IsPattern, patternText, admits, NamesIn}
+use Rattle.resource.specs.Pattern.{Path, pathText, Pattern, patternText, admits}
 use Rattle.resource.specs.Pattern.{spelled}
 use Rattle.resource.specs.Text.{isPattern, isResource, patternOk, resourceOk, numbersOf, matching}
-use Rattle.octets.proofs.Tests.{by-cond, and-left, and-right, and-both, no-flag}
+use Rattle.octets.proofs.Tests.{by-cond, and-left, and-right, no-flag}
+use Rattle.octets.proofs.ScanLaws.{before-all}
+use Rattle.resource.proofs.Laws.{pattern-spaceless}
 use Rattle.resource.proofs.Promises.{patterns-exact, resources-exact, matching-exact, malformed15}
 use Rattle.match_lines.specs.declared.Verdict.{Verdict}
 use Rattle.match_lines.specs.declared.Verdict.the-variants.{IsYes, IsNo, IsBad}
 use Rattle.match_lines.specs.Lines.{word, verdictOf, beforeSpace, verdictAt, verdict}
 use Rattle.match_lines.specs.Promises.{Asks, BadElse}
 
--- ---- no space in a pattern's text
-
--- no byte of the text is a space
-unfoldable noSpace : List ℕ → Bool
-noSpace [] = true
-noSpace (b ∷ bs) = not (eqb b 32) && noSpace bs
-
--- a character with a property that a space has not is no space
-not-space-by : (f : ℕ → Bool) (b : ℕ) → f 32 ≡ false → f b ≡ true → not (eqb b 32) ≡ true
-not-space-by f b n e = go (eqb b 32) refl
-  where
-    go : (t : Bool) → eqb b 32 ≡ t → not t ≡ true
-    go true i = no-flag (sym n ∙ ap f (sym (eqb-true b 32 i)) ∙ e)
-    go false i = refl
-
--- no character of a name is a space
-chars-free : (l : List ℕ) → allNameChars l ≡ true → noSpace l ≡ true
-unfolding allNameChars noSpace isNameChar
-chars-free [] e = refl
-chars-free (b ∷ bs) e =
-    and-both (not (eqb b 32)) (noSpace bs) (not-space-by isNameChar b refl (and-left (isNameChar b) (allNameChars bs) e))
-    (chars-free bs (and-right (isNameChar b) (allNameChars bs) e))
-
--- a name has no space
-name-free : (l : List ℕ) → isName l ≡ true → noSpace l ≡ true
-name-free [] e = no-flag e
-name-free (b ∷ bs) e = chars-free (b ∷ bs) e
-
--- a space fits no slot of a form
-abbrev spaceless : List Slot → Bool
-spaceless [] = true
-spaceless (f ∷ fs) = not (fits f 32) && spaceless fs
-
--- a text of such a form has no space
-form-free : (fs : List Slot) (bs : List ℕ) → spaceless fs ≡ true → hasForm fs bs ≡ true → noSpace bs ≡ true
-unfolding hasForm noSpace
-form-free [] [] n e = refl
-form-free [] (b ∷ bs) n e = no-flag e
-form-free (f ∷ fs) [] n e = refl
-form-free (f ∷ fs) (b ∷ bs) n e =
-    and-both (not (eqb b 32)) (noSpace bs)
-    (not-space-by (fits f) b (not-true (fits f 32) (and-left (not (fits f 32)) (spaceless fs) n)) (and-left (fits f b) (hasForm fs bs) e))
-    (form-free fs bs (and-right (not (fits f 32)) (spaceless fs) n) (and-right (fits f b) (hasForm fs bs) e))
-
--- a terminal id has no space
-terminal-free : (t : List ℕ) → isTerminal t ≡ true → noSpace t ≡ true
-unfolding isTerminal terminalForm uuidForm isHex
-terminal-free t e = form-free terminalForm t refl e
-
--- no level has a space
-abbrev AllFree : List (List ℕ) → Type 0
-AllFree [] = Unit {0}
-AllFree (l ∷ ls) = (noSpace l ≡ true) × AllFree ls
-
--- two texts without a space, one after the other
-append-free : (l r : List ℕ) → noSpace l ≡ true → noSpace r ≡ true → noSpace (l ++ r) ≡ true
-unfolding noSpace
-append-free [] r e f = f
-append-free (b ∷ bs) r e f =
-    and-both (not (eqb b 32)) (noSpace (bs ++ r)) (and-left (not (eqb b 32)) (noSpace bs) e)
-    (append-free bs r (and-right (not (eqb b 32)) (noSpace bs) e) f)
-
--- joined levels without a space have none
-joined-free : (l : List ℕ) (ls : List (List ℕ)) → AllFree (l ∷ ls) → noSpace (joined (l ∷ ls)) ≡ true
-unfolding noSpace
-joined-free l [] f = f .0
-joined-free l (k ∷ ls) f = append-free l (47 ∷ joined (k ∷ ls)) (f .0) (joined-free k ls (f .1))
-
--- levels as they are spelled have no space
-spelled-free : (p : Levels) → NamesIn p → AllFree (spelled p)
-unfolding noSpace
-spelled-free done n = tt
-spelled-free deep n = (refl, tt)
-spelled-free (name l p) n = (name-free l (n .0), spelled-free p (n .1))
-spelled-free (star p) n = (refl, spelled-free p n)
-
--- the text of a pattern has no space
-pattern-free : (p : Pattern) → IsPattern p → noSpace (patternText p) ≡ true
-pattern-free p h = joined-free (p .terminal) (spelled (p .below))
-    (terminal-free (p .terminal) (h .terminal), spelled-free (p .below) (h .names))
-
 -- ---- the first space of a line
-
--- a text without a space, a space, and more: the first space is after the text
-first-space : (l r : List ℕ) → noSpace l ≡ true → beforeSpace (l ++ (32 ∷ r)) ≡ length l
-unfolding noSpace bytesBefore
-first-space [] r e = refl
-first-space (b ∷ bs) r e =
-    rw (not-true (eqb b 32) (and-left (not (eqb b 32)) (noSpace bs) e), bytesBefore, first-space bs r (and-right (not (eqb b 32)) (noSpace bs) e))
 
 -- a line with a space is what stands before it, the space, and what stands after it
 parts-at : (line : List ℕ) → beforeSpace line < length line → line
@@ -163,7 +76,7 @@ unfolding verdict verdictAt
 asks-verdict line p x a =
     let l : List ℕ = patternText p in
     let r : List ℕ = pathText x in
-    let n : beforeSpace (l ++ (32 ∷ r)) ≡ length l = first-space l r (pattern-free p (a .pattern)) in
+    let n : beforeSpace (l ++ (32 ∷ r)) ≡ length l = before-all 32 l r (pattern-spaceless p (a .pattern)) in
     let size : length (l ++ (32 ∷ r)) ≡ length l + suc (length r) = length-append l (32 ∷ r) in
     let fits : leb (length (l ++ (32 ∷ r))) 600 ≡ true = le-leb (length (l ++ (32 ∷ r))) 600 (omega (arith, size, a .pattern-fits, a .path-fits)) in
     let some : leb (length (l ++ (32 ∷ r))) (length l) ≡ false = lt-leb (length (l ++ (32 ∷ r))) (length l) (omega (arith, size)) in

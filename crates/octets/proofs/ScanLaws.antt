@@ -1,15 +1,16 @@
 -- Laws of the bytes before the first of a kind (specs/Scan.antt). Assumes nothing.
-use mathlib.Core.Path.{_≡_}
-use mathlib.Core.Bool.{Bool, true, false}
-use mathlib.Core.List.{List, [], _∷_}
+use mathlib.Core.Path.{_≡_, refl, sym, ap, _∙_}
+use mathlib.Core.Bool.{Bool, true, false, not}
+use mathlib.Core.List.{List, [], _∷_, _++_}
 use Prim.Native.Nat.{ℕ, suc, _+_, _≤_, _<_}
 use native.Mathlib.Numerals.{add-one}
 use native.Mathlib.Omega.{arith}
 use lib.ListN.{length, getD, drop, drop-of-length-le}
 use lib.Seq.{drop-cons}
 use lib.Dec.{eqb}
-use borrow.Author.Tests.{eq-eqb, ne-eqb}
-use Rattle.octets.specs.Scan.{bytesBefore}
+use borrow.Author.Tests.{eq-eqb, ne-eqb, eqb-true, not-true}
+use Rattle.octets.specs.Scan.{bytesBefore, without}
+use Rattle.octets.proofs.Tests.{and-left, and-right, and-both, no-flag}
 
 -- ---- by the first byte
 
@@ -50,3 +51,39 @@ module _ (b : ℕ) (s : List ℕ) (i : ℕ) where
   pub before-end : length s ≤ i → bytesBefore b (drop i s) ≡ 0
   unfolding bytesBefore
   before-end h = rw (drop-of-length-le s h)
+
+-- ---- a byte that stands nowhere
+
+-- A byte with a property that b has not is another.
+pub other-by : (f : ℕ → Bool) (b x : ℕ) → f b ≡ false → f x ≡ true → not (eqb x b) ≡ true
+other-by f b x n e = go (eqb x b) refl
+  where
+    go : (t : Bool) → eqb x b ≡ t → not t ≡ true
+    go true i = no-flag (sym n ∙ ap f (sym (eqb-true x b i)) ∙ e)
+    go false i = refl
+
+module _ (b x : ℕ) (xs : List ℕ) where
+  -- One byte more, which is not b.
+  pub without-more : not (eqb x b) ≡ true → without b xs ≡ true → without b (x ∷ xs) ≡ true
+  unfolding without
+  without-more e h = and-both (not (eqb x b)) (without b xs) e h
+
+  -- The first byte is another.
+  pub without-first : without b (x ∷ xs) ≡ true → eqb x b ≡ false
+  unfolding without
+  without-first h = not-true (eqb x b) (and-left (not (eqb x b)) (without b xs) h)
+
+  -- So are those after it.
+  pub without-rest : without b (x ∷ xs) ≡ true → without b xs ≡ true
+  unfolding without
+  without-rest h = and-right (not (eqb x b)) (without b xs) h
+
+-- Two texts without b, one after the other.
+pub without-append : (b : ℕ) (l r : List ℕ) → without b l ≡ true → without b r ≡ true → without b (l ++ r) ≡ true
+without-append b [] r e f = f
+without-append b (x ∷ xs) r e f = without-more b x (xs ++ r) (ap not (without-first b x xs e)) (without-append b xs r (without-rest b x xs e) f)
+
+-- A text without b, then b: all of the text stands before it.
+pub before-all : (b : ℕ) (l r : List ℕ) → without b l ≡ true → bytesBefore b (l ++ (b ∷ r)) ≡ length l
+before-all b [] r e = before-this b b r (eq-eqb b b refl)
+before-all b (x ∷ xs) r e = before-other b x (xs ++ (b ∷ r)) (without-first b x xs e) ∙ ap suc (before-all b xs r (without-rest b x xs e))

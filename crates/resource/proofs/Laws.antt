@@ -1,9 +1,10 @@
 -- The statements of specs/Laws.antt, each from its law. Assumes nothing.
 use Rattle.resource.specs.Laws.{TerminalLength, FayLength, PatternShort, ResourceShort, PatternTerminal, PatternLevels, AdmitsText}
-use Rattle.resource.specs.Laws.{FirstStar, SpelledFirst, StepLevels, StepTold, DeepTold, NextSame, CoversExact, TakenCan}
+use Rattle.resource.specs.Laws.{PatternSpaceless, FirstStar, SpelledFirst, StepLevels, StepTold, DeepTold, NextSame, CoversExact, TakenCan}
 use Rattle.resource.specs.Laws.{CoversStay, WitnessMatched, WitnessDecides, WitnessNames, ZsFresh}
 use Rattle.resource.proofs.CoverLaws.{covers-exactly, taken-can-be, covers-stays, witness-is-matched, witness-covers}
 use Rattle.resource.proofs.CoverLaws.{witness-has-names, zs-are-fresh}
+use Rattle.resource.proofs.WithoutLaws.{pattern-without}
 use Rattle.resource.proofs.SpellLaws.{first-spelled}
 use Rattle.resource.proofs.StepLaws.{star-level, first-levels, step-tells, deep-tells, next-decides}
 use Rattle.resource.proofs.TextLaws.{terminal-long, fay-long, pattern-sized, resource-sized, pattern-id, pattern-parts, admits-parts}
@@ -30,6 +31,9 @@ pattern-levels = pattern-parts
 
 pub admits-text : AdmitsText
 admits-text = admits-parts
+
+pub pattern-spaceless : PatternSpaceless
+pattern-spaceless = pattern-without
 
 -- ---- first levels
 

@@ -1,6 +1,7 @@
 pub mod LevelLaws
 pub mod CharLaws
 pub mod FormLaws
+pub mod WithoutLaws
 pub mod ScanLaws
 pub mod TextLaws
 pub mod StepLaws

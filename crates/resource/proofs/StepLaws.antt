@@ -1,7 +1,7 @@
 -- Laws of matching the first level of a pattern against the first level of a path (specs/Scan.antt), and what it says of all levels
 -- (specs/Text.antt). Assumes nothing.
 use mathlib.Core.Path.{_≡_, refl, sym, ap, subst, _∙_}
-use mathlib.Core.Bool.{Bool, true, false, not, cond, _&&_, _||_, and-true, and-false}
+use mathlib.Core.Bool.{Bool, true, false, cond, _&&_, _||_, and-true, and-false}
 use mathlib.Core.List.{List, [], _∷_, _++_, append-nil}
 use Prim.Native.Nat.{ℕ, suc, _+_, _-_, _≤_, _<_}
 use native.Mathlib.Nat.{add-zero, zero-add}
@@ -10,21 +10,21 @@ use native.Mathlib.Omega.{arith}
 use lib.ListN.{length, getD, drop, take, length-append, drop-of-length-le}
 use lib.Seq.{drop-cons}
 use lib.Dec.{eqb}
-use borrow.Author.Tests.{eq-eqb, ne-eqb, not-true}
+use borrow.Author.Tests.{eq-eqb, ne-eqb}
 use Rattle.resource.specs.declared.Step.{Step}
 use Rattle.resource.specs.declared.Step.the-variants.{Differ, Finish, Next}
 use Rattle.octets.specs.Bytes.{same}
-use Rattle.octets.specs.Scan.{bytesBefore}
+use Rattle.octets.specs.Scan.{bytesBefore, without}
 use Rattle.resource.specs.Level.{isStar, isDeep, levels}
 use Rattle.resource.specs.Pattern.{Levels, done, deep, matches}
 use Rattle.resource.specs.Text.{withLevel, levelsOf, levelsMatch}
 use Rattle.resource.specs.Scan.{levelLength, nameStep, starFirst, starStep, stepOf}
 use Rattle.resource.specs.Laws.{alike, Firsts, FirstLevels, Goes, Stepped, StepLevels, FirstStar, StepTold, DeepTold}
-use Rattle.octets.proofs.Tests.{by-cond, and-left, and-right, no-flag}
+use Rattle.octets.proofs.Tests.{by-cond, no-flag}
 use Rattle.octets.proofs.SameLaws.{same-equal}
 use Rattle.octets.proofs.PartLaws.{part-to-end}
-use Rattle.octets.proofs.ScanLaws.{before-other}
-use Rattle.resource.proofs.LevelLaws.{noSlash, levels-one, levels-more, levels-some}
+use Rattle.octets.proofs.ScanLaws.{before-other, without-first, without-rest}
+use Rattle.resource.proofs.LevelLaws.{levels-one, levels-more, levels-some}
 use Rattle.resource.proofs.ScanLaws.{Parted, last, more, parted, drop-more}
 use Rattle.resource.proofs.SpellLaws.{first-spelled}
 
@@ -130,7 +130,7 @@ pub data Ends : List ℕ → Type 0 where
 
 -- a text is its first level and what follows it
 pub data Front : List ℕ → Type 0 where
-  front : (l a : List ℕ) → noSlash l ≡ true → Ends a → Front (l ++ a)
+  front : (l a : List ℕ) → without 47 l ≡ true → Ends a → Front (l ++ a)
 
 -- each parted text is so
 pub front-of : {s : List ℕ} → Parted s → Front s
@@ -150,39 +150,29 @@ tailStep i j (x ∷ a) [] = Differ
 tailStep i j (x ∷ a) (y ∷ b) = Next i j
 
 -- the levels of a text by its first one
-pub front-levels : (l : List ℕ) {a : List ℕ} → noSlash l ≡ true → Ends a → levels (l ++ a) ≡ l ∷ tailLevels a
+pub front-levels : (l : List ℕ) {a : List ℕ} → without 47 l ≡ true → Ends a → levels (l ++ a) ≡ l ∷ tailLevels a
 unfolding tailLevels
 front-levels l h at-end = rw (append-nil l) (levels-one l h)
 front-levels l h (at-slash t) = levels-more l t h
 
--- the first byte of a level is not "/"
-front-byte : (b : ℕ) (l : List ℕ) → noSlash (b ∷ l) ≡ true → eqb b 47 ≡ false
-unfolding noSlash
-front-byte b l h = not-true (eqb b 47) (and-left (not (eqb b 47)) (noSlash l) h)
-
--- the remaining bytes of a level are not "/"
-front-rest : (b : ℕ) (l : List ℕ) → noSlash (b ∷ l) ≡ true → noSlash l ≡ true
-unfolding noSlash
-front-rest b l h = and-right (not (eqb b 47)) (noSlash l) h
-
 -- ---- the step of two first levels
 
 -- the bytes before the first "/" are those of the first level
-front-length : (k : List ℕ) {b : List ℕ} → noSlash k ≡ true → Ends b → levelLength (k ++ b) ≡ length k
+front-length : (k : List ℕ) {b : List ℕ} → without 47 k ≡ true → Ends b → levelLength (k ++ b) ≡ length k
 unfolding bytesBefore
 front-length [] h at-end = refl
 front-length [] h (at-slash t) = refl
-front-length (x ∷ k) {b} h e = before-other 47 x (k ++ b) (front-byte x k h) ∙ ap suc (front-length k (front-rest x k h) e)
+front-length (x ∷ k) {b} h e = before-other 47 x (k ++ b) (without-first 47 x k h) ∙ ap suc (front-length k (without-rest 47 x k h) e)
 
 -- whether the first level is "*"
-pub front-star : (l : List ℕ) {a : List ℕ} → noSlash l ≡ true → Ends a → starFirst (l ++ a) ≡ isStar l
+pub front-star : (l : List ℕ) {a : List ℕ} → without 47 l ≡ true → Ends a → starFirst (l ++ a) ≡ isStar l
 unfolding starFirst same
 front-star [] h at-end = refl
 front-star [] h (at-slash []) = refl
 front-star [] h (at-slash (x ∷ t)) = refl
 front-star (c ∷ []) h at-end = sym (and-true (eqb c 42))
 front-star (c ∷ []) h (at-slash t) = refl
-front-star (c ∷ d ∷ l) h e = rw (front-byte d l (front-rest c (d ∷ l) h))
+front-star (c ∷ d ∷ l) h e = rw (without-first 47 d l (without-rest 47 c (d ∷ l) h))
 
 -- the step where both levels have been read
 name-tail : (i : ℕ) {a b : List ℕ} → Ends a → Ends b → nameStep i a b ≡ tailStep i i a b
@@ -209,13 +199,13 @@ name-to-end i x p e at-end = refl
 name-to-end i x p e (at-slash u) = name-other i x 47 p u e
 
 -- the step of two names
-front-name : (i : ℕ) (l k : List ℕ) {a b : List ℕ} → noSlash l ≡ true → noSlash k ≡ true → Ends a → Ends b
+front-name : (i : ℕ) (l k : List ℕ) {a b : List ℕ} → without 47 l ≡ true → without 47 k ≡ true → Ends a → Ends b
     → nameStep i (l ++ a) (k ++ b) ≡ cond (same l k) (tailStep (i + length l) (i + length l) a b) Differ
 unfolding same
 front-name i [] [] h g e f = rw (add-zero i) (name-tail i e f)
-front-name i [] (y ∷ k) {a} {b} h g e f = name-from-end i y (k ++ b) (front-byte y k g) e
-front-name i (x ∷ l) [] {a} {b} h g e f = name-to-end i x (l ++ a) (front-byte x l h) f
-front-name i (x ∷ l) (y ∷ k) {a} {b} h g e f = go (eqb x y) refl (front-name (i + 1) l k (front-rest x l h) (front-rest y k g) e f)
+front-name i [] (y ∷ k) {a} {b} h g e f = name-from-end i y (k ++ b) (without-first 47 y k g) e
+front-name i (x ∷ l) [] {a} {b} h g e f = name-to-end i x (l ++ a) (without-first 47 x l h) f
+front-name i (x ∷ l) (y ∷ k) {a} {b} h g e f = go (eqb x y) refl (front-name (i + 1) l k (without-rest 47 x l h) (without-rest 47 y k g) e f)
   where
     sum : i + suc (length l) ≡ (i + 1) + length l
     sum = omega arith
@@ -223,7 +213,7 @@ front-name i (x ∷ l) (y ∷ k) {a} {b} h g e f = go (eqb x y) refl (front-name
     go : (t : Bool) → eqb x y ≡ t → nameStep (i + 1) (l ++ a) (k ++ b)
         ≡ cond (same l k) (tailStep ((i + 1) + length l) ((i + 1) + length l) a b) Differ
         → nameStep i (x ∷ (l ++ a)) (y ∷ (k ++ b)) ≡ cond (eqb x y && same l k) (tailStep (i + suc (length l)) (i + suc (length l)) a b) Differ
-    go true q r = name-equal i x y (l ++ a) (k ++ b) q (front-byte x l h) ∙ r ∙ sym (rw (q, sum))
+    go true q r = name-equal i x y (l ++ a) (k ++ b) q (without-first 47 x l h) ∙ r ∙ sym (rw (q, sum))
     go false q r = name-other i x y (l ++ a) (k ++ b) q ∙ sym (rw q)
 
 -- the step of "*" and a level
@@ -243,7 +233,7 @@ same-lengths l k a b true e = rw (zero-add (length l)) (ap (λ (n : ℕ). tailSt
 same-lengths l k a b false e = refl
 
 -- the step of two first levels: "*", or a name and itself
-pub front-step : (l k : List ℕ) {a b : List ℕ} → noSlash l ≡ true → noSlash k ≡ true → Ends a → Ends b
+pub front-step : (l k : List ℕ) {a b : List ℕ} → without 47 l ≡ true → without 47 k ≡ true → Ends a → Ends b
     → stepOf (l ++ a) (k ++ b) ≡ cond (isStar l || same l k) (tailStep (length l) (length k) a b) Differ
 unfolding stepOf
 front-step l k {a} {b} h g e f = rw (front-star l h e, front-length k g f) (go (isStar l) refl)
@@ -257,12 +247,12 @@ front-step l k {a} {b} h g e f = rw (front-star l h e, front-length k g f) (go (
 -- ---- what the step says of the levels
 
 -- the first levels, and those after them
-front-firsts : (l k : List ℕ) {a b : List ℕ} (t : Bool) → noSlash l ≡ true → noSlash k ≡ true → Ends a → Ends b → (isStar l || same l k) ≡ t
+front-firsts : (l k : List ℕ) {a b : List ℕ} (t : Bool) → without 47 l ≡ true → without 47 k ≡ true → Ends a → Ends b → (isStar l || same l k) ≡ t
     → Firsts (l ++ a) (k ++ b) (tailLevels a) (tailLevels b) t
 front-firsts l k t h g e f m = record { first-p = l; first-r = k; of-p = front-levels l h e; of-r = front-levels k g f; fit = m }
 
 -- what the step says where they fit
-fit-told : (l k : List ℕ) {a b : List ℕ} → noSlash l ≡ true → noSlash k ≡ true → Ends a → Ends b → (isStar l || same l k) ≡ true
+fit-told : (l k : List ℕ) {a b : List ℕ} → without 47 l ≡ true → without 47 k ≡ true → Ends a → Ends b → (isStar l || same l k) ≡ true
     → FirstLevels (l ++ a) (k ++ b) (tailStep (length l) (length k) a b)
 unfolding tailStep tailLevels
 fit-told l k h g at-end at-end m = front-firsts l k true h g at-end at-end m

@@ -1,5 +1,5 @@
 -- Characters as numbers, so that a definition can have the letters of document 01.
-use mathlib.Core.Bool.{Bool, true, false, _||_}
+use mathlib.Core.Bool.{Bool, false, _||_}
 use mathlib.Core.List.{List, [] as []ᴸ, _∷_ as _∷ᴸ_}
 use Prim.Native.Nat.{ℕ}
 use Prim.Native.Char.{code}

@@ -11,7 +11,9 @@ use Rattle.resource.specs.declared.Step.{Step}
 use Rattle.resource.specs.declared.Step.the-variants.{Differ, Finish, Next}
 use Rattle.resource.specs.Identifier.{isFay, isTerminal}
 use Rattle.resource.specs.Level.{isName, isStar, isDeep, levels}
-use Rattle.resource.specs.Pattern.{Levels, matches, admits, before, taken, AllNames, Some, NamesIn, spelled}
+use Rattle.octets.specs.Scan.{without}
+use Rattle.resource.specs.Pattern.{Levels, Pattern, matches, admits, before, taken, AllNames, Some, NamesIn, spelled}
+use Rattle.resource.specs.Pattern.{IsPattern, patternText}
 use Rattle.resource.specs.Text.{resourceOk, patternOk, pathOf, patternOf, withLevel, levelsOf, levelsMatch}
 use Rattle.resource.specs.Scan.{starFirst, stepOf}
 use Rattle.resource.specs.Cover.{covers, witness, CanTake, Fresh, longestName, zs}
@@ -46,6 +48,10 @@ PatternLevels = (p : List ℕ) → patternOk p ≡ true → levels p ≡ take 45
 abbrev pub AdmitsText : Type 0
 AdmitsText = (p r : List ℕ) → patternOk p ≡ true → resourceOk r ≡ true
     → admits (patternOf p) (pathOf r) ≡ (same (take 45 p) (take 45 r) && levelsMatch (drop 46 p) (drop 46 r))
+
+-- the text of a pattern has no space
+abbrev pub PatternSpaceless : Type 0
+PatternSpaceless = (p : Pattern) → IsPattern p → without 32 (patternText p) ≡ true
 
 -- ---- the first level of a text
 

@@ -65,33 +65,12 @@ goes : (t : ℕ) (a : cover-lts.After-i (given t) (cover-at t) cover.Post)
 goes t a = subst (Stepped _ _) (a .i .given .1) (stepped t (a .before .before))
 
 -- the needs at the measure t
-cover-is-deep-requires : (t : ℕ) → cover-lts.Need-is-deep-requires (given t) (cover-at t) cover.Post
-cover-is-deep-requires t c κs = search needs
-
 cover-returns : (t : ℕ) → cover-lts.Need-returns (given t) (cover-at t) cover.Post
 cover-returns t c = sym (deep-told _ _ (sym (c .before .is-deep .ensures) ∙ c .if1 .taken))
-
-cover-is-deep-requires-2 : (t : ℕ) → cover-lts.Need-is-deep-requires-2 (given t) (cover-at t) cover.Post
-cover-is-deep-requires-2 t c κs = search needs
-
-cover-fresh-requires : (t : ℕ) → cover-lts.Need-fresh-requires (given t) (cover-at t) cover.Post
-cover-fresh-requires t c κs = search needs
 
 cover-returns-2 : (t : ℕ) → cover-lts.Need-returns-2 (given t) (cover-at t) cover.Post
 cover-returns-2 t c = let e = c .before in c .fresh .ensures ∙ sym
     (fresh-told _ _ (q-not-deep t (e .before .before)) (sym (e .before .is-deep2 .ensures) ∙ e .if2 .taken))
-
-cover-step-levels-requires : (t : ℕ) → cover-lts.Need-step-levels-requires (given t) (cover-at t) cover.Post
-cover-step-levels-requires t c κs = search needs
-
-cover-enum-told : (t : ℕ) → cover-lts.Need-enum-told (given t) (cover-at t) cover.Post
-cover-enum-told t c = search needs
-
-cover-enum-told-2 : (t : ℕ) → cover-lts.Need-enum-told-2 (given t) (cover-at t) cover.Post
-cover-enum-told-2 t c = search needs
-
-cover-enum-known-i : (t : ℕ) → cover-lts.Need-enum-known-i (given t) (cover-at t) cover.Post
-cover-enum-known-i t c = search needs
 
 cover-add-cover : (t : ℕ) → cover-lts.Need-add-cover (given t) (cover-at t) cover.Post
 cover-add-cover t c = omega (arith, goes t (c .before) .in-q)
@@ -102,9 +81,6 @@ cover-sub-cover t c = omega (arith, goes t (c .before) .in-q)
 cover-part-cover-start : (t : ℕ) → cover-lts.Need-part-cover-start (given t) (cover-at t) cover.Post
 cover-part-cover-start t c = omega (arith, goes t (c .before) .in-q)
 
-cover-part-cover-end : (t : ℕ) → cover-lts.Need-part-cover-end (given t) (cover-at t) cover.Post
-cover-part-cover-end t c = search needs
-
 cover-add-cover-2 : (t : ℕ) → cover-lts.Need-add-cover-2 (given t) (cover-at t) cover.Post
 cover-add-cover-2 t c = omega (arith, goes t (c .before .before) .in-p)
 
@@ -113,9 +89,6 @@ cover-sub-cover-2 t c = omega (arith, goes t (c .before .before) .in-p)
 
 cover-part-cover-start-2 : (t : ℕ) → cover-lts.Need-part-cover-start-2 (given t) (cover-at t) cover.Post
 cover-part-cover-start-2 t c = omega (arith, goes t (c .before .before) .in-p)
-
-cover-part-cover-end-2 : (t : ℕ) → cover-lts.Need-part-cover-end-2 (given t) (cover-at t) cover.Post
-cover-part-cover-end-2 t c = search needs
 
 cover-cover-requires : (t : ℕ) → cover-lts.Need-cover-requires (given t) (cover-at t) cover.Post
 cover-cover-requires t c κs =
@@ -133,27 +106,9 @@ cover-returns-5 : (t : ℕ) → cover-lts.Need-returns-5 (given t) (cover-at t) 
 cover-returns-5 t c = c .cover .ensures ∙ next-same _ _ _ _ (goes t (c .before .before .before .before))
 
 pub +cover-spec : {M : Type 1} → statement M
-+cover-spec = close μ-cover λ t. cover-lts.spec (given t)
-    (cover-at t)
-    cover.Post
-    (cover-is-deep-requires t)
-    (cover-returns t)
-    (cover-is-deep-requires-2 t)
-    (cover-fresh-requires t)
-    (cover-returns-2 t)
-    (cover-step-levels-requires t)
-    (cover-enum-told t)
-    (cover-enum-told-2 t)
-    (cover-enum-known-i t)
-    (cover-add-cover t)
-    (cover-sub-cover t)
-    (cover-part-cover-start t)
-    (cover-part-cover-end t)
-    (cover-add-cover-2 t)
-    (cover-sub-cover-2 t)
-    (cover-part-cover-start-2 t)
-    (cover-part-cover-end-2 t)
-    (cover-cover-requires t)
-    (cover-returns-3 t)
-    (cover-returns-4 t)
++cover-spec = close μ-cover λ t. cover-lts.spec (given t) (cover-at t) cover.Post (λ c κs. search needs)
+    (cover-returns t) (λ c κs. search needs) (λ c κs. search needs) (cover-returns-2 t) (λ c κs. search needs)
+    (λ c. search needs) (λ c. search needs) (λ c. search needs) (cover-add-cover t) (cover-sub-cover t)
+    (cover-part-cover-start t) (λ c. search needs) (cover-add-cover-2 t) (cover-sub-cover-2 t)
+    (cover-part-cover-start-2 t) (λ c. search needs) (cover-cover-requires t) (cover-returns-3 t) (cover-returns-4 t)
     (cover-returns-5 t)

@@ -44,23 +44,8 @@ goes t a =
     (step-tells (s .p .now) (s .r .now) (sym (e .before .is-deep .ensures) ∙ e .if1 .left))
 
 -- the needs at the measure t
-levels-is-deep-requires : (t : ℕ) → levels-lts.Need-is-deep-requires (given t) (levels-at t) levels.Post
-levels-is-deep-requires t c κs = search needs
-
 levels-returns : (t : ℕ) → levels-lts.Need-returns (given t) (levels-at t) levels.Post
 levels-returns t c = sym (deep-tells _ _ (sym (c .before .is-deep .ensures) ∙ c .if1 .taken))
-
-levels-first-step-requires : (t : ℕ) → levels-lts.Need-first-step-requires (given t) (levels-at t) levels.Post
-levels-first-step-requires t c κs = search needs
-
-levels-enum-told : (t : ℕ) → levels-lts.Need-enum-told (given t) (levels-at t) levels.Post
-levels-enum-told t c = search needs
-
-levels-enum-told-2 : (t : ℕ) → levels-lts.Need-enum-told-2 (given t) (levels-at t) levels.Post
-levels-enum-told-2 t c = search needs
-
-levels-enum-known-i : (t : ℕ) → levels-lts.Need-enum-known-i (given t) (levels-at t) levels.Post
-levels-enum-known-i t c = search needs
 
 levels-add-levels : (t : ℕ) → levels-lts.Need-add-levels (given t) (levels-at t) levels.Post
 levels-add-levels t c = omega (arith, goes t (c .before) .in-p)
@@ -71,9 +56,6 @@ levels-sub-levels t c = omega (arith, goes t (c .before) .in-p)
 levels-part-levels-start : (t : ℕ) → levels-lts.Need-part-levels-start (given t) (levels-at t) levels.Post
 levels-part-levels-start t c = omega (arith, goes t (c .before) .in-p)
 
-levels-part-levels-end : (t : ℕ) → levels-lts.Need-part-levels-end (given t) (levels-at t) levels.Post
-levels-part-levels-end t c = search needs
-
 levels-add-levels-2 : (t : ℕ) → levels-lts.Need-add-levels-2 (given t) (levels-at t) levels.Post
 levels-add-levels-2 t c = omega (arith, goes t (c .before .before) .in-r)
 
@@ -82,9 +64,6 @@ levels-sub-levels-2 t c = omega (arith, goes t (c .before .before) .in-r)
 
 levels-part-levels-start-2 : (t : ℕ) → levels-lts.Need-part-levels-start-2 (given t) (levels-at t) levels.Post
 levels-part-levels-start-2 t c = omega (arith, goes t (c .before .before) .in-r)
-
-levels-part-levels-end-2 : (t : ℕ) → levels-lts.Need-part-levels-end-2 (given t) (levels-at t) levels.Post
-levels-part-levels-end-2 t c = search needs
 
 levels-levels-requires : (t : ℕ) → levels-lts.Need-levels-requires (given t) (levels-at t) levels.Post
 levels-levels-requires t c κs =
@@ -108,24 +87,8 @@ levels-returns-4 : (t : ℕ) → levels-lts.Need-returns-4 (given t) (levels-at 
 levels-returns-4 t c = c .levels .ensures ∙ next-decides _ _ _ _ (goes t (c .before .before .before .before))
 
 pub +levels-spec : {M : Type 1} → statement M
-+levels-spec = close μ-levels λ t. levels-lts.spec (given t)
-    (levels-at t)
-    levels.Post
-    (levels-is-deep-requires t)
-    (levels-returns t)
-    (levels-first-step-requires t)
-    (levels-enum-told t)
-    (levels-enum-told-2 t)
-    (levels-enum-known-i t)
-    (levels-add-levels t)
-    (levels-sub-levels t)
-    (levels-part-levels-start t)
-    (levels-part-levels-end t)
-    (levels-add-levels-2 t)
-    (levels-sub-levels-2 t)
-    (levels-part-levels-start-2 t)
-    (levels-part-levels-end-2 t)
-    (levels-levels-requires t)
-    (levels-returns-2 t)
-    (levels-returns-3 t)
-    (levels-returns-4 t)
++levels-spec = close μ-levels λ t. levels-lts.spec (given t) (levels-at t) levels.Post (λ c κs. search needs)
+    (levels-returns t) (λ c κs. search needs) (λ c. search needs) (λ c. search needs) (λ c. search needs)
+    (levels-add-levels t) (levels-sub-levels t) (levels-part-levels-start t) (λ c. search needs) (levels-add-levels-2 t)
+    (levels-sub-levels-2 t) (levels-part-levels-start-2 t) (λ c. search needs) (levels-levels-requires t)
+    (levels-returns-2 t) (levels-returns-3 t) (levels-returns-4 t)

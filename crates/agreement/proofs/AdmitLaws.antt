@@ -1,31 +1,30 @@
 -- What a descriptor admits is what steps 9, 10 and 13 let pass (specs/Promises.antt). Assumes nothing.
 use mathlib.Core.Path.{_≡_, refl, sym, ap, ap₂, _∙_, subst}
-use mathlib.Core.Logic.{_↔_, _⊎_, inl, inr, ⊎-elim}
+use mathlib.Core.Logic.{_⊎_, inl, inr}
 use mathlib.Core.Bool.{Bool, true, false, cond, _&&_, _||_, and-true, false≢true}
 use mathlib.Core.List.{List, [], _∷_, _++_}
-use Prim.Native.Nat.{ℕ, zero, suc, _≤_, _<_}
+use Prim.Native.Nat.{ℕ, zero, suc}
 use native.Mathlib.Omega.{arith}
 use lib.ListN.{length}
-use lib.Dec.{leb, ltb, eqb}
+use lib.Dec.{leb, eqb}
 use borrow.Author.Tests.{leb-true, le-leb, ltb-true, lt-ltb, eq-eqb}
 use Rattle.octets.proofs.Tests.{and-left, and-right}
 use Rattle.resource.specs.Identifier.{isFay, isTerminal}
-use Rattle.resource.specs.Pattern.{Path, IsPath, admits, pathText}
+use Rattle.resource.specs.Pattern.{Path, IsPath, admits}
 use Rattle.resource.specs.Text.{isResource, pathOf, patternOf}
 use Rattle.resource.proofs.Promises.{resources-exact, resources-once}
 use Rattle.descriptor.specs.Model.{Grant, Descriptor, pairCount, encode}
 use Rattle.descriptor.specs.Allowed.{isIn}
-use Rattle.request.specs.Asked.{Asked}
+use Rattle.request.specs.Request.{Request}
 use Rattle.request.specs.Promises.{someServes, formed}
-use Rattle.narrowing.specs.Meaning.{grantAdmits, anyAdmits, Admits}
-use Rattle.narrowing.specs.Promises.{NoPairs, Reads, Inside, answerOnly}
-use Rattle.narrowing.specs.Narrow.{narrow, numbersOf as narrowNumbers}
+use Rattle.narrowing.specs.Meaning.{anyAdmits}
+use Rattle.narrowing.specs.Promises.{NoPairs, Inside}
 use Rattle.narrowing.proofs.Promises.{constrained-exactly, accepted-exactly}
 use Rattle.octets.proofs.ListLaws.{or-assoc}
 use Rattle.resource.specs.Characters.{oneOf}
 use Rattle.steps.specs.Order.{Step, AllPass}
 use Rattle.request.specs.declared.DecisionNumbers.{DecisionNumbers}
-use Rattle.agreement.specs.Promises.{numbered, Serves, AcceptedUnder, AsksSame, StepsAdmit}
+use Rattle.agreement.specs.Promises.{numbered, AcceptedUnder, StepsAdmit}
 
 -- a number is one of two lists exactly where it is one of the first or of the second
 one-either : (c : ℕ) (xs ys : List ℕ) → oneOf c (xs ++ ys) ≡ (oneOf c xs || oneOf c ys)
@@ -146,7 +145,7 @@ path-of s e =
     subst IsPath (sym (ap pathOf (x .2) ∙ resources-once (x .0) (x .1))) (x .1)
 
 -- so does that of well-formed arguments
-pub path-formed : (q : Asked) → formed q ≡ true → IsPath (pathOf (q .resource))
+pub path-formed : (q : Request) → formed q ≡ true → IsPath (pathOf (q .resource))
 path-formed q e =
     path-of (q .resource)
     (and-right (leb (length (q .resource)) 256) (isResource (q .resource))

@@ -4,7 +4,7 @@ use mathlib.Core.List.{List, [], _∷_}
 use Prim.Native.Nat.{ℕ}
 use Rattle.resource.specs.Text.{pathOf}
 use Rattle.descriptor.specs.Model.{Descriptor}
-use Rattle.request.specs.Asked.{Asked}
+use Rattle.request.specs.Request.{Request}
 use Rattle.request.specs.Promises.{held, stepsFor}
 use Rattle.request.proofs.Promises.{granted-exactly}
 use Rattle.narrowing.specs.Meaning.{Admits}
@@ -29,7 +29,7 @@ granted-admits s q d u n o =
     )
 
 -- the moment, the path and the mode of a request that asks the same
-same-asked : (q r : Asked) (d : Descriptor) → r .clock ≡ q .clock → r .resource ≡ q .resource → r .mode ≡ q .mode
+same-asked : (q r : Request) (d : Descriptor) → r .clock ≡ q .clock → r .resource ≡ q .resource → r .mode ≡ q .mode
     → Admits d (q .clock) (pathOf (q .resource)) (q .mode) → Admits d (r .clock) (pathOf (r .resource)) (r .mode)
 same-asked q r d c x m a = rw (c, x, m) a
 

@@ -12,9 +12,9 @@ use Rattle.descriptor.specs.Model.{Descriptor, encode}
 use Rattle.descriptor.specs.Allowed.{Allowed}
 use Rattle.steps.specs.Order.{Step, AllPass}
 use Rattle.request.specs.declared.DecisionNumbers.{DecisionNumbers}
-use Rattle.request.specs.Asked.{Asked}
+use Rattle.request.specs.Request.{Request}
 use Rattle.request.specs.Decision.{decisionOf, numbersOf}
-use Rattle.request.specs.Promises.{Stored, held, Under, stepsFor}
+use Rattle.request.specs.Promises.{held, Under, stepsFor}
 use Rattle.narrowing.specs.Meaning.{Admits}
 use Rattle.narrowing.specs.Narrow.{narrow, numbersOf as narrowNumbers}
 use Rattle.narrowing.specs.Promises.{NoPairs, answerOnly}
@@ -25,25 +25,25 @@ numbered ns [] = []
 numbered ns (s ∷ steps) = cond (oneOf (s .refusal .answer) ns) (s ∷ numbered ns steps) (numbered ns steps)
 
 -- steps 9, 10 and 13 of a request on the descriptor d pass
-abbrev pub Serves : Asked → Descriptor → Type 0
+abbrev pub Serves : Request → Descriptor → Type 0
 Serves q d = AllPass (numbered (9 ∷ 10 ∷ 13 ∷ []) (stepsFor q (held d)))
 
 -- the other steps pass
-abbrev pub OthersPass : Asked → Descriptor → Type 0
+abbrev pub OthersPass : Request → Descriptor → Type 0
 OthersPass q d = AllPass (numbered (15 ∷ 16 ∷ 7 ∷ 8 ∷ 11 ∷ 12 ∷ 14 ∷ 4 ∷ []) (stepsFor q (held d)))
 
 -- for a descriptor without constraint pairs, steps 9, 10 and 13 pass exactly when it admits the request's moment, path and mode together
 abbrev pub StepsAdmit : Type 0
-StepsAdmit = (q : Asked) (d : Descriptor) → NoPairs (d .payload .grants) → Serves q d ↔ Admits d (q .clock) (pathOf (q .resource)) (q .mode)
+StepsAdmit = (q : Request) (d : Descriptor) → NoPairs (d .payload .grants) → Serves q d ↔ Admits d (q .clock) (pathOf (q .resource)) (q .mode)
 
 -- where the other steps pass, a request for such a descriptor is answered 0 exactly when the descriptor admits its moment, path and
 -- mode together
 abbrev pub GrantedAdmits : Type 0
-GrantedAdmits = (s : List ℕ) (q : Asked) (d : Descriptor) → Under s (q .id) (held d) → NoPairs (d .payload .grants) → OthersPass q d
+GrantedAdmits = (s : List ℕ) (q : Request) (d : Descriptor) → Under s (q .id) (held d) → NoPairs (d .payload .grants) → OthersPass q d
     → (numbersOf (decisionOf s q) .answer ≡ 0) ↔ Admits d (q .clock) (pathOf (q .resource)) (q .mode)
 
 -- r asks for the moment, the path and the mode that q asks for
-pub record AsksSame (q r : Asked) : Type 0 where
+pub record AsksSame (q r : Request) : Type 0 where
   pub clock : r .clock ≡ q .clock
   pub resource : r .resource ≡ q .resource
   pub mode : r .mode ≡ q .mode
@@ -58,11 +58,11 @@ pub record AcceptedUnder (parent child : Descriptor) : Type 0 where
 
 -- what is granted on an accepted child, steps 9, 10 and 13 let pass on the parent
 abbrev pub AcceptedServes : Type 0
-AcceptedServes = (s : List ℕ) (q r : Asked) (parent child : Descriptor) → AcceptedUnder parent child → Under s (q .id) (held child)
+AcceptedServes = (s : List ℕ) (q r : Request) (parent child : Descriptor) → AcceptedUnder parent child → Under s (q .id) (held child)
     → numbersOf (decisionOf s q) .answer ≡ 0 → AsksSame q r → Serves r parent
 
 -- so that an image that holds the parent grants it, where the other steps pass
 abbrev pub AcceptedGrants : Type 0
-AcceptedGrants = (s t : List ℕ) (q r : Asked) (parent child : Descriptor) → AcceptedUnder parent child → Under s (q .id) (held child)
+AcceptedGrants = (s t : List ℕ) (q r : Request) (parent child : Descriptor) → AcceptedUnder parent child → Under s (q .id) (held child)
     → numbersOf (decisionOf s q) .answer ≡ 0 → AsksSame q r → Under t (r .id) (held parent) → OthersPass r parent
     → numbersOf (decisionOf t r) .answer ≡ 0

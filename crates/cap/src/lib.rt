@@ -8,6 +8,7 @@ use descriptor::GrantNumbers;
 use image::StoredNumbers;
 use narrowing::NarrowingNumbers;
 use request::DecisionNumbers;
+use request::Environment;
 use resource::MatchingNumbers;
 ghost use mathlib.Core.Path.{_≡_};
 ghost use Rattle.octets.specs.Bytes.{AreBytes};
@@ -20,7 +21,7 @@ ghost use Rattle.grant_reader.specs.Walk.{nthOf};
 ghost use Rattle.image.specs.Check as images;
 ghost use Rattle.image.specs.Fresh as fresh;
 ghost use Rattle.submission.specs.Submission as submissions;
-ghost use Rattle.request.specs.Asked.{asked};
+ghost use Rattle.request.specs.Request.{requestOf};
 ghost use Rattle.request.specs.Decision as requests;
 ghost use Rattle.narrowing.specs.Narrow as narrowings;
 ghost use Rattle.cap.specs.Numbers.{windowOf};
@@ -114,23 +115,26 @@ pub extern "C" fn cap_request(
     has_valid_until: u64,
     valid_until: u64,
 ) -> DecisionNumbers
-    ensures answer { λ r. ⌜ r ≡ requests.numbersOf (requests.decisionOf (now (image .entry)) (asked (now (id .entry)) (now (fay .entry)) (now (terminal .entry)) (now (resource .entry)) mode clock «session_length» (now (revoked .entry)) verdict (windowOf «valid_from» «has_valid_until» «valid_until»))) ⌝ }
+    ensures answer { λ r. ⌜ r ≡ requests.numbersOf (requests.decisionOf (now (image .entry)) (requestOf (now (id .entry)) (now (fay .entry)) (now (terminal .entry)) (now (resource .entry)) mode clock «session_length» (now (revoked .entry)) verdict (windowOf «valid_from» «has_valid_until» «valid_until»))) ⌝ }
     ensures lent { λ _. ⌜ AreBytes (now (image .entry)) × AreBytes (now (id .entry)) × AreBytes (now (fay .entry)) × AreBytes (now (terminal .entry)) × AreBytes (now (resource .entry)) × AreBytes (now (revoked .entry)) ⌝ }
 {
-    let key = numbers::window(valid_from, has_valid_until, valid_until);
-    numbers::of_decision(request::request(
+    let environment = Environment {
+        clock,
+        session: session_length,
+        verdict,
+        window: numbers::window(valid_from, has_valid_until, valid_until),
+    };
+    let decision = request::request(
         image,
         id,
         fay,
         terminal,
         resource,
         mode,
-        clock,
-        session_length,
         revoked,
-        verdict,
-        key,
-    ))
+        environment,
+    );
+    numbers::of_decision(decision)
 }
 
 // Narrows the child under the parent.

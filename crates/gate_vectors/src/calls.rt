@@ -3,6 +3,7 @@ use crate::show;
 use image::Finding;
 use image::Made;
 use octets::number_at;
+use request::Environment;
 use steps::Window;
 
 // The number at a place of the numbers.
@@ -99,6 +100,12 @@ fn request(
     revoked: &[u8],
     image: &[u8],
 ) {
+    let environment = Environment {
+        clock: nth(numbers, 2),
+        session: nth(numbers, 3),
+        verdict: nth(numbers, 4),
+        window: window(numbers, 5),
+    };
     let answer = request::request(
         image,
         id,
@@ -106,11 +113,8 @@ fn request(
         terminal,
         resource,
         nth(numbers, 1),
-        nth(numbers, 2),
-        nth(numbers, 3),
         revoked,
-        nth(numbers, 4),
-        window(numbers, 5),
+        environment,
     );
     show::decision(name, answer);
 }

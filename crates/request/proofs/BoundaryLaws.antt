@@ -6,14 +6,14 @@ use Prim.Native.Nat.{ℕ, _≤_, _<_}
 use native.Mathlib.Omega.{arith}
 use borrow.Author.Tests.{le-leb, lt-leb, lt-ltb, le-ltb}
 use Rattle.descriptor.specs.Model.{Descriptor}
-use Rattle.request.specs.Asked.{Asked, isListed}
+use Rattle.request.specs.Request.{Request, isListed}
 use Rattle.request.specs.Decision.{decisionOf, numbersOf}
 use Rattle.request.specs.Promises.{held, Under, refusal, formed, stepsFor, grantedFor, BeginBoundary, EndBoundary}
 use Rattle.request.proofs.NumberLaws.{answerOf, decided-exactly, refusals-zero}
 use Rattle.steps.specs.Laws.{passesBy, failsBy}
 use Rattle.steps.proofs.Laws.{not-by, failed-by}
 
-module _ (s : List ℕ) (q : Asked) (d : Descriptor) (u : Under s (q .id) (held d)) where
+module _ (s : List ℕ) (q : Request) (d : Descriptor) (u : Under s (q .id) (held d)) where
   -- The answer is no number but 0 that only steps have which pass.
   not-answered : (n : ℕ) → (0 ≡ n → ⊥) → passesBy answerOf n (stepsFor q (held d)) ≡ true → numbersOf (decisionOf s q) .answer ≡ n → ⊥
   not-answered n other k z =

@@ -1,18 +1,17 @@
 -- Laws of the steps of a request (specs/Decision.antt, specs/Stages.antt), in the code's own form. Assumes nothing.
-use mathlib.Core.Path.{_≡_, refl, sym, ap, _∙_, subst}
-use mathlib.Core.Bool.{Bool, true, false, not, cond, _&&_}
-use mathlib.Core.List.{List, [], _∷_}
+use mathlib.Core.Path.{_≡_, refl, sym, ap, _∙_}
+use mathlib.Core.Bool.{Bool, true, false, false≢true}
+use mathlib.Core.List.{List}
 use Prim.Native.Nat.{ℕ, _+_, _-_, min}
 use lib.ListN.{length, take, drop}
 use borrow.Author.Tests.{eq-eqb, ne-eqb}
 use Rattle.octets.specs.Bytes.{part, same}
 use Rattle.octets.proofs.PartLaws.{part-to-end}
 use Rattle.descriptor.specs.declared.Fields.{Fields}
-use Rattle.steps.specs.declared.Window.{Window}
-use Rattle.steps.specs.Order.{step, orElse, inOrder}
+use Rattle.steps.specs.Order.{orElse, inOrder}
 use Rattle.steps.specs.Key.{bad, noKey, isThat, keyOpen}
-use Rattle.steps.specs.Laws.{Decides, ends, passes, fails}
-use Rattle.steps.proofs.Laws.{decided}
+use Rattle.steps.specs.Laws.{Decides, passes, fails, mapped}
+use Rattle.steps.proofs.Laws.{decided, same-end, order-append, order-staged, passed-by}
 use Rattle.image.specs.declared.Held.the-variants.{Missing, Body}
 use Rattle.image.specs.declared.Survey.{Survey}
 use Rattle.image.specs.declared.Survey.the-variants.{Sound, Unsound}
@@ -20,12 +19,15 @@ use Rattle.image.specs.Check.{surveyOf, isSound, isHeld}
 use Rattle.octets.proofs.ListLaws.{lent-part}
 use Rattle.request.specs.declared.Decision.{Decision}
 use Rattle.request.specs.declared.Decision.the-variants as answers
+use Rattle.request.specs.declared.Environment.{Environment}
+use Rattle.request.specs.declared.decide.Applicability.{Applicability}
+use Rattle.request.specs.declared.decide.Applicability.the-variants.{Applies, Refused}
 use Rattle.request.specs.declared.search.Matched.{Matched}
 use Rattle.request.specs.declared.search.Matched.the-variants.{IsAt, Nothing}
-use Rattle.request.specs.Asked.{Asked, wellFormed}
-use Rattle.request.specs.Decision.{keySteps, laterSteps, stepsBy, grantedBy, factsOf, firstFrom, matchedOn, decidedOn, factsIn}
-use Rattle.request.specs.Decision.{matchedIn, stepsOf, decisionOf}
-use Rattle.request.specs.Stages.{signedBy}
+use Rattle.request.specs.Request.{Request, wellFormed, isListed}
+use Rattle.request.specs.Decision.{revocationSteps, descriptorSteps, keySteps, laterSteps, stepsBy, grantedBy, factsOf, firstFrom}
+use Rattle.request.specs.Decision.{matchedOn, decidedOn, factsIn, matchedIn, stepsOf, decisionOf, numbersOf}
+use Rattle.request.specs.Stages.{appliesWith, applicabilityOf, signedBy}
 
 -- The code compares a part that it lends.
 pub lent-same : (s t : List ℕ) (at n : ℕ) {b : Bool} → b ≡ same (take (at + n - at) (drop at s)) t → same (part s at n) t ≡ b
@@ -50,57 +52,100 @@ module _ (b : List ℕ) (f : Fields) (resource : List ℕ) (mode : ℕ) {t : Boo
       ∙ ap (λ (r : List ℕ). firstFrom b r mode (f .grants) (f .first) 0) (part-to-end resource 46)
       ∙ sym (rw (lent-same b (take 45 resource) (f .terminal) 45 e ∙ g))
 
+-- ---- the stages
+
+-- The number of an answer.
+abbrev answerOf : Decision → ℕ
+answerOf x = numbersOf x .answer
+
+-- What the steps of a stage come to, of a body of which f was read: the first grant that serves is m.
+pub on-descriptor : (b : List ℕ) (f : Fields) (fay terminal resource : List ℕ) (mode clock : ℕ) (m : Matched) {x : Applicability}
+    → m ≡ matchedOn b f resource mode
+    → Decides (mapped Refused (descriptorSteps (factsOf b f) fay terminal clock m)) (appliesWith m) x
+    → x ≡ applicabilityOf b f fay terminal resource mode clock
+unfolding applicabilityOf
+on-descriptor b f fay terminal resource mode clock m e d =
+    decided d
+    ∙ ap (λ (n : Matched). inOrder (mapped Refused (descriptorSteps (factsOf b f) fay terminal clock n)) (appliesWith n)) e
+
+-- What follows a stage: its refusal, or what is decided with the grant that serves.
+abbrev afterStage : (ℕ → ℕ → Decision) → Applicability → Decision
+afterStage k (Applies grant mask) = k grant mask
+afterStage k (Refused answer) = answer
+
+module _ (q : Request) (b : List ℕ) (f : Fields) where
+  -- What is decided with a grant that serves, by the key and the signature.
+  abbrev signedWith : ℕ → ℕ → Decision
+  signedWith grant mask =
+      inOrder (keySteps (q .verdict) (q .window) (q .clock)) (answers.Granted grant mask (min (f .after) (q .clock + q .session)))
+
+  -- The steps 9 to 13 and what follows them, by the first grant that serves.
+  descriptor-steps : (m : Matched) (k : ℕ → ℕ → Decision) (r : Decision) → ((grant mask : ℕ) → m ≡ IsAt grant mask → r ≡ k grant mask)
+      → afterStage k (inOrder (mapped Refused (descriptorSteps (factsOf b f) (q .fay) (q .terminal) (q .clock) m)) (appliesWith m))
+      ≡ inOrder (descriptorSteps (factsOf b f) (q .fay) (q .terminal) (q .clock) m) r
+  unfolding descriptorSteps
+  descriptor-steps (IsAt grant mask) k r h =
+      order-staged Refused (afterStage k) (λ x. refl) (descriptorSteps (factsOf b f) (q .fay) (q .terminal) (q .clock) (IsAt grant mask)) (Applies grant mask)
+      ∙ ap (inOrder (descriptorSteps (factsOf b f) (q .fay) (q .terminal) (q .clock) (IsAt grant mask))) (sym (h grant mask refl))
+  descriptor-steps Nothing k r h =
+      order-staged Refused (afterStage k) (λ x. refl) (descriptorSteps (factsOf b f) (q .fay) (q .terminal) (q .clock) Nothing) (Refused answers.Insufficient)
+      ∙ same-end (descriptorSteps (factsOf b f) (q .fay) (q .terminal) (q .clock) Nothing) answers.Insufficient r
+      (λ a. absurd (false≢true (passed-by answerOf 13 (descriptorSteps (factsOf b f) (q .fay) (q .terminal) (q .clock) Nothing) a)))
+
+  -- What is decided on a body that is not revoked, by the stage.
+  on-stage : isListed (q .revoked) (q .id) ≡ false
+      → afterStage signedWith (applicabilityOf b f (q .fay) (q .terminal) (q .resource) (q .mode) (q .clock)) ≡ decidedOn q b f
+  unfolding decidedOn laterSteps revocationSteps applicabilityOf grantedBy inOrder orElse
+  on-stage e =
+      let m = matchedOn b f (q .resource) (q .mode) in
+      let ks = keySteps (q .verdict) (q .window) (q .clock) in
+      descriptor-steps m signedWith (inOrder ks (grantedBy q (factsOf b f) m)) (λ grant mask i. ap (λ (n : Matched). inOrder ks (grantedBy q (factsOf b f) n)) i)
+      ∙ sym (rw e (order-append (descriptorSteps (factsOf b f) (q .fay) (q .terminal) (q .clock) m) ks (grantedBy q (factsOf b f) m)))
+
+  module _ (e : isListed (q .revoked) (q .id) ≡ false) where
+    -- Where a grant serves, what the key and the signature come to is decided.
+    pub on-applies : (grant mask : ℕ) {x : Decision} → Applies grant mask ≡ applicabilityOf b f (q .fay) (q .terminal) (q .resource) (q .mode) (q .clock)
+        → x ≡ signedWith grant mask → x ≡ decidedOn q b f
+    on-applies grant mask a h = h ∙ ap (afterStage signedWith) a ∙ on-stage e
+
+    -- Else the refusal is.
+    pub on-refused : (x : Decision) → Refused x ≡ applicabilityOf b f (q .fay) (q .terminal) (q .resource) (q .mode) (q .clock) → x ≡ decidedOn q b f
+    on-refused x a = ap (afterStage signedWith) a ∙ on-stage e
+
+  -- What is decided on a body that is revoked.
+  pub on-revoked : isListed (q .revoked) (q .id) ≡ true → answers.Revoked ≡ decidedOn q b f
+  unfolding decidedOn laterSteps revocationSteps inOrder orElse
+  on-revoked e = sym (rw e)
+
 -- ---- the key and the signature
 
-module _ (grant mask after clock session verdict : ℕ) (window : Window) where
+module _ (grant mask after : ℕ) (e : Environment) where
   -- There is no such key.
-  pub signed-none : verdict ≡ 2 → answers.KeyInvalid ≡ signedBy grant mask after clock session verdict window
-  unfolding signedBy isThat
-  signed-none h = sym (rw (eq-eqb verdict 2 h))
+  pub signed-none : e .verdict ≡ noKey → answers.KeyInvalid ≡ signedBy grant mask after e
+  unfolding signedBy keySteps isThat inOrder orElse
+  signed-none h = sym (rw (eq-eqb (e .verdict) noKey h))
 
-  -- The clock is not in its window.
-  pub signed-shut : (verdict ≡ 2 → ⊥) → keyOpen window clock ≡ false
-      → answers.KeyInvalid ≡ signedBy grant mask after clock session verdict window
-  unfolding signedBy isThat
-  signed-shut h k = sym (rw (ne-eqb verdict 2 h, k))
+  module _ (h : e .verdict ≡ noKey → ⊥) where
+    -- The clock is not in its window.
+    pub signed-shut : keyOpen (e .window) (e .clock) ≡ false → answers.KeyInvalid ≡ signedBy grant mask after e
+    unfolding signedBy keySteps isThat inOrder orElse
+    signed-shut k = sym (rw (ne-eqb (e .verdict) noKey h, k))
 
-  -- The signature is bad.
-  pub signed-bad : (verdict ≡ 2 → ⊥) → keyOpen window clock ≡ true → verdict ≡ 1
-      → answers.BadSignature ≡ signedBy grant mask after clock session verdict window
-  unfolding signedBy isThat
-  signed-bad h k l = sym (rw (ne-eqb verdict 2 h, k, eq-eqb verdict 1 l))
+    module _ (k : keyOpen (e .window) (e .clock) ≡ true) where
+      -- The signature is bad.
+      pub signed-bad : e .verdict ≡ bad → answers.BadSignature ≡ signedBy grant mask after e
+      unfolding signedBy keySteps isThat inOrder orElse
+      signed-bad l = sym (rw (ne-eqb (e .verdict) noKey h, k, eq-eqb (e .verdict) bad l))
 
-  -- The request is granted, up to an end.
-  pub signed-good : (verdict ≡ 2 → ⊥) → keyOpen window clock ≡ true → (verdict ≡ 1 → ⊥) → {end : ℕ} → end ≡ min after (clock + session)
-      → answers.Granted grant mask end ≡ signedBy grant mask after clock session verdict window
-  unfolding signedBy isThat
-  signed-good h k l e = sym (rw (ne-eqb verdict 2 h, k, ne-eqb verdict 1 l, e))
-
--- ---- the steps on a body
-
--- Two steps come to what a choice by their tests is.
-last-two : (t u : Bool) (a b r : Decision) {x : Decision} → x ≡ cond t (cond u r b) a → Decides (step t a ∷ step u b ∷ []) r x
-last-two true true a b r h = subst (λ (y : Decision). Decides (step true a ∷ step true b ∷ []) r y) (sym h) (passes refl (passes refl ends))
-last-two true false a b r h = subst (λ (y : Decision). Decides (step true a ∷ step false b ∷ []) r y) (sym h) (passes refl (fails refl))
-last-two false u a b r h = subst (λ (y : Decision). Decides (step false a ∷ step u b ∷ []) r y) (sym h) (fails refl)
-
-module _ (q : Asked) (b : List ℕ) (f : Fields) where
-  -- What the steps come to, by the first grant that serves, is the decision.
-  pub on-steps : (m : Matched) {x : Decision} → m ≡ matchedOn b f (q .resource) (q .mode)
-      → Decides (laterSteps q (factsOf b f) m) (grantedBy q (factsOf b f) m) x → x ≡ decidedOn q b f
-  unfolding decidedOn
-  on-steps m e d = decided d ∙ ap (λ (n : Matched). inOrder (laterSteps q (factsOf b f) n) (grantedBy q (factsOf b f) n)) e
-
-  -- Where a grant serves, the last two steps come to what the key and the signature come to.
-  pub on-signed : (grant mask : ℕ) {x : Decision} → x ≡ signedBy grant mask (f .after) (q .clock) (q .session) (q .verdict) (q .window)
-      → Decides (keySteps q) (grantedBy q (factsOf b f) (IsAt grant mask)) x
-  unfolding grantedBy signedBy
-  on-signed grant mask e = last-two (not (isThat (q .verdict) noKey) && keyOpen (q .window) (q .clock))
-      (not (isThat (q .verdict) bad)) _ _ _ e
+      -- The request is granted, up to an end.
+      pub signed-good : (e .verdict ≡ bad → ⊥) → {end : ℕ} → end ≡ min after (e .clock + e .session)
+          → answers.Granted grant mask end ≡ signedBy grant mask after e
+      unfolding signedBy keySteps isThat inOrder orElse
+      signed-good l i = sym (rw (ne-eqb (e .verdict) noKey h, k, ne-eqb (e .verdict) bad l, i))
 
 -- ---- all steps
 
-module _ (s : List ℕ) (q : Asked) where
+module _ (s : List ℕ) (q : Request) where
   -- the decision by a survey
   abbrev decisionBy : Survey → Decision
   decisionBy v = inOrder (stepsBy q (isSound v) (isHeld v) (factsIn s v) (matchedIn s q v)) (grantedBy q (factsIn s v) (matchedIn s q v))
@@ -111,12 +156,12 @@ module _ (s : List ℕ) (q : Asked) where
   by-survey e = ap decisionBy e
 
   -- Malformed arguments are refused first.
-  pub decide-malformed : wellFormed (q .id) (q .fay) (q .terminal) (q .resource) (q .mode) (q .revoked) (q .verdict) ≡ false
+  pub decide-malformed : wellFormed q ≡ false
       → answers.Malformed ≡ decisionOf s q
   unfolding stepsBy
   decide-malformed w = decided (fails w) ∙ by-survey refl
 
-  module _ (w : wellFormed (q .id) (q .fay) (q .terminal) (q .resource) (q .mode) (q .revoked) (q .verdict) ≡ true) where
+  module _ (w : wellFormed q ≡ true) where
     -- Then an image that is not sound.
     pub decide-unsound : Unsound ≡ surveyOf s (q .id) → answers.BadImage ≡ decisionOf s q
     unfolding stepsBy

@@ -10,19 +10,19 @@ use Rattle.descriptor.specs.Modes.{unionOf}
 use Rattle.steps.specs.Order.{AllPass}
 use Rattle.steps.proofs.Laws.{passed-end, passed-by}
 use Rattle.request.specs.declared.DecisionNumbers.{DecisionNumbers}
-use Rattle.request.specs.Asked.{Asked}
+use Rattle.request.specs.Request.{Request}
 use Rattle.request.specs.Promises.{Stored, badImage, notHeld, held, Under, stepsFor, grantedFor, FirstServes, GrantedGives}
 use Rattle.request.proofs.ServingLaws.{first-serves}
 use Rattle.request.proofs.NumberLaws.{answerOf, decided-exactly, granted-exactly}
 use Rattle.request.proofs.UnderLaws.{all-stored}
 
 -- What the numbers n grant to q, on a descriptor that is held.
-abbrev Given : List ℕ → Asked → DecisionNumbers → Type 0
+abbrev Given : List ℕ → Request → DecisionNumbers → Type 0
 Given s q n = (d : Descriptor) × Under s (q .id) (held d) × ((g : Grant) × FirstServes q d (n .grant) g × (n .mask ≡ unionOf (g ∷ [])))
     × (n .«session_end» ≡ min (d .payload .notAfter) (q .clock + q .session))
 
 -- Where every step passes, what follows them is given.
-given : (s : List ℕ) (q : Asked) (x : Stored) → Under s (q .id) x → AllPass (stepsFor q x) → Given s q (grantedFor q x)
+given : (s : List ℕ) (q : Request) (x : Stored) → Under s (q .id) x → AllPass (stepsFor q x) → Given s q (grantedFor q x)
 given s q badImage u a = absurd (false≢true (passed-by answerOf 16 (stepsFor q badImage) a))
 given s q notHeld u a = absurd (false≢true (passed-by answerOf 7 (stepsFor q notHeld) a))
 given s q (held d) u a =

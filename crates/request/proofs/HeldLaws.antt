@@ -22,30 +22,26 @@ use Rattle.request.specs.declared.Decision.{Decision}
 use Rattle.request.specs.declared.Decision.the-variants as answers
 use Rattle.request.specs.declared.search.Matched.{Matched}
 use Rattle.request.specs.declared.search.Matched.the-variants.{Nothing}
-use Rattle.request.specs.Asked.{Asked, wellFormed}
+use Rattle.request.specs.Request.{Request, wellFormed}
 use Rattle.request.specs.Decision.{Facts, stepsBy, grantedBy, factsOf, matchedOn, factsIn, matchedIn, stepsOf, decisionOf}
 
 -- ---- what is decided on a survey
 
 -- The decision by the steps: whether the image is sound and holds the id, the facts of the descriptor, and the first grant that serves.
-abbrev pub decidedBy : Asked → Bool → Bool → Facts → Matched → Decision
+abbrev pub decidedBy : Request → Bool → Bool → Facts → Matched → Decision
 decidedBy q sound held x m = inOrder (stepsBy q sound held x m) (grantedBy q x m)
 
 -- The decision of a request of which the survey of the image is v.
-abbrev pub decidedIn : List ℕ → Asked → Survey → Decision
+abbrev pub decidedIn : List ℕ → Request → Survey → Decision
 decidedIn s q v = decidedBy q (isSound v) (isHeld v) (factsIn s v) (matchedIn s q v)
 
 -- The decision is that on the survey of the image.
-pub decided-in : (s : List ℕ) (q : Asked) (v : Survey) → surveyOf s (q .id) ≡ v → decisionOf s q ≡ decidedIn s q v
+pub decided-in : (s : List ℕ) (q : Request) (v : Survey) → surveyOf s (q .id) ≡ v → decisionOf s q ≡ decidedIn s q v
 unfolding decisionOf stepsOf
 decided-in s q v e = ap (decidedIn s q) e
 
--- The arguments of a request are well formed.
-abbrev pub isWell : Asked → Bool
-isWell q = wellFormed (q .id) (q .fay) (q .terminal) (q .resource) (q .mode) (q .revoked) (q .verdict)
-
--- Where the arguments are not well formed the answer is 15, whatever else is asked.
-pub malformed-first : (q : Asked) (sound held : Bool) (x : Facts) (m : Matched) (r : Decision) → isWell q ≡ false
+-- Where the arguments are not well formed the answer is 15, whatever else is requestOf.
+pub malformed-first : (q : Request) (sound held : Bool) (x : Facts) (m : Matched) (r : Decision) → wellFormed q ≡ false
     → inOrder (stepsBy q sound held x m) r ≡ answers.Malformed
 unfolding stepsBy inOrder orElse
 malformed-first q sound held x m r e = rw e
@@ -57,11 +53,11 @@ fields-same : (f g : Fields) → Read f ≡ Read g → f ≡ g
 fields-same f g e = cc
 
 -- The decision on a body that is held and of which f is read.
-abbrev pub heldBy : Asked → List ℕ → Fields → Decision
+abbrev pub heldBy : Request → List ℕ → Fields → Decision
 heldBy q b f = decidedBy q true true (factsOf b f) (matchedOn b f (q .resource) (q .mode))
 
 -- A request for the body b, which a sound image holds and of which f is read, is decided on b and f.
-pub decided-on-body : (s : List ℕ) (q : Asked) (bs : List (List ℕ)) (b : List ℕ) (f : Fields) → Holds s bs
+pub decided-on-body : (s : List ℕ) (q : Request) (bs : List (List ℕ)) (b : List ℕ) (f : Fields) → Holds s bs
     → bodyWith (q .id) bs ≡ some b → reading b ≡ Read f
     → decisionOf s q ≡ heldBy q b f
 decided-on-body s q bs b f h e r =
@@ -77,11 +73,11 @@ decided-on-body s q bs b f h e r =
 -- ---- no body is held
 
 -- The decision on a sound image that does not hold the id.
-abbrev pub missingBy : Asked → Decision
+abbrev pub missingBy : Request → Decision
 missingBy q = decidedBy q true false (record { before = 0; after = 0; fay = []; terminal = [] }) Nothing
 
 -- A request for an id that a sound image does not hold is decided without a body.
-pub decided-on-none : (s : List ℕ) (q : Asked) (bs : List (List ℕ)) → Holds s bs → bodyWith (q .id) bs ≡ none → decisionOf s q ≡ missingBy q
+pub decided-on-none : (s : List ℕ) (q : Request) (bs : List (List ℕ)) → Holds s bs → bodyWith (q .id) bs ≡ none → decisionOf s q ≡ missingBy q
 decided-on-none s q bs h e =
     let w = survey-tells s (q .id) bs h in
     decided-in s q (Sound (length bs) (length (imageOf bs)) (w .0)) (w .1) ∙ go (w .0) (w .2)

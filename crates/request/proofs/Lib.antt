@@ -1,5 +1,5 @@
 pub mod SearchLaws
-pub mod AskedLaws
+pub mod ArgumentLaws
 pub mod DecideLaws
 pub mod FitLaws
 pub mod ListedLaws

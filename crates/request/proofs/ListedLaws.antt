@@ -1,4 +1,4 @@
--- Which ids are in a list of ids (specs/Asked.antt). Assumes nothing.
+-- Which ids are in a list of ids (specs/Request.antt). Assumes nothing.
 use mathlib.Core.Path.{_≡_, refl, sym, ap, _∙_}
 use mathlib.Core.Bool.{Bool, true, false, false≢true}
 use mathlib.Core.List.{List}
@@ -9,7 +9,7 @@ use lib.ListN.{length}
 use Rattle.octets.specs.Bytes.{part, same}
 use Rattle.image.specs.Layout.{idSize}
 use Rattle.octets.proofs.ListLaws.{same-true, true-same}
-use Rattle.request.specs.Asked.{listedAmong, isListed}
+use Rattle.request.specs.Request.{listedAmong, isListed}
 use Rattle.request.specs.Promises.{ListedExactly}
 
 -- An id that is among the first n is one of them.

@@ -1,17 +1,12 @@
 -- A request for a descriptor that a sound image holds is decided on that descriptor (specs/Meaning.antt). Assumes nothing.
 use mathlib.Core.Path.{_≡_, refl, sym, ap, ap₂, _∙_}
-use mathlib.Core.Bool.{Bool, true, false, _&&_}
+use mathlib.Core.Bool.{Bool, true, false}
 use mathlib.Core.List.{List}
 use mathlib.Core.Option.{some}
-use Prim.Native.Nat.{ℕ, _%_, _≤_, _<_}
+use Prim.Native.Nat.{ℕ, _<_}
 use native.Mathlib.Omega.{arith}
-use lib.ListN.{length}
-use lib.Dec.{leb, eqb}
-use borrow.Author.Tests.{leb-true}
 use Rattle.octets.specs.Bytes.{AreBytes}
-use Rattle.resource.specs.Identifier.{isFay, isTerminal}
 use Rattle.resource.specs.Text.{resourceOk, pathOf}
-use Rattle.octets.proofs.Tests.{and-left, and-right}
 use Rattle.descriptor.specs.declared.Fields.{Fields}
 use Rattle.descriptor.specs.declared.Reading.the-variants.{Read}
 use Rattle.descriptor.specs.Model.{Descriptor, encode}
@@ -19,32 +14,18 @@ use Rattle.descriptor.specs.Allowed.{Formed, Allowed}
 use Rattle.descriptor.specs.View.{descriptorView}
 use Rattle.descriptor.specs.Answer.{fieldsOf, readingOf}
 use Rattle.descriptor_laws.proofs.Laws.{reads-exactly, seen-handed}
-use Rattle.steps.specs.Key.{isVerdict}
-use Rattle.image.specs.Layout.{idSize}
 use Rattle.image.specs.Image.{reading, Holds, bodyWith}
 use Rattle.request.specs.declared.search.Matched.{Matched}
-use Rattle.request.specs.Asked.{Asked, highestMode, wellFormed}
+use Rattle.request.specs.Request.{Request, wellFormed}
 use Rattle.request.specs.Decision.{Facts, factsOf, matchedOn, decisionOf}
 use Rattle.request.specs.Meaning.{firstServing, factsOfDescriptor, decidedFor}
-use Rattle.request.proofs.HeldLaws.{decidedBy, isWell, malformed-first, decided-on-body}
+use Rattle.request.proofs.HeldLaws.{decidedBy, malformed-first, decided-on-body}
+use Rattle.request.proofs.ArgumentLaws.{formed-mode, formed-resource}
 use Rattle.request.proofs.GrantLaws.{matched-agree}
 
 -- What well-formed arguments say of the mode and the resource id.
-pub well-asked : (q : Asked) → isWell q ≡ true → (q .mode < 4) × (resourceOk (q .resource) ≡ true)
-unfolding wellFormed
-well-asked q e =
-    let last : Bool = eqb (length (q .revoked) % idSize) 0 in
-    let five : Bool = resourceOk (q .resource) && last in
-    let four : Bool = isTerminal (q .terminal) && five in
-    let three : Bool = isFay (q .fay) && four in
-    let two : Bool = eqb (length (q .id)) idSize && three in
-    let one : Bool = leb (q .mode) highestMode && two in
-    let a : one ≡ true = and-right (isVerdict (q .verdict)) one e in
-    let small : q .mode ≤ highestMode = leb-true (q .mode) highestMode (and-left (leb (q .mode) highestMode) two a) in
-    let b : two ≡ true = and-right (leb (q .mode) highestMode) two a in
-    let c : three ≡ true = and-right (eqb (length (q .id)) idSize) three b in
-    let d : four ≡ true = and-right (isFay (q .fay)) four c in
-    (omega arith, and-left (resourceOk (q .resource)) last (and-right (isTerminal (q .terminal)) five d))
+pub well-formed : (q : Request) → wellFormed q ≡ true → (q .mode < 4) × (resourceOk (q .resource) ≡ true)
+well-formed q e = (omega (arith, formed-mode q e), formed-resource q e)
 
 -- The encoding of an allowed descriptor is read, and what is read is the descriptor's.
 pub reading-encode : (d : Descriptor) → AreBytes (encode d) → Allowed d → reading (encode d) ≡ Read (fieldsOf (descriptorView 0 d))
@@ -58,12 +39,12 @@ facts-agree d q =
     (seen-handed d q .fay) (seen-handed d q .terminal)
 
 -- A request for a descriptor that a sound image holds is decided on that descriptor, with the meaning of matching.
-pub decided-on-descriptor : (s : List ℕ) (q : Asked) (bs : List (List ℕ)) (d : Descriptor) → Holds s bs → AreBytes (encode d) → Allowed d
+pub decided-on-descriptor : (s : List ℕ) (q : Request) (bs : List (List ℕ)) (d : Descriptor) → Holds s bs → AreBytes (encode d) → Allowed d
     → bodyWith (q .id) bs ≡ some (encode d) → decisionOf s q ≡ decidedFor q d
 unfolding decidedFor
 decided-on-descriptor s q bs d h b o e =
     decided-on-body s q bs (encode d) f h e (reading-encode d b o)
-    ∙ ap (λ (x : Facts). decidedBy q true true x found) (facts-agree d (o .formed)) ∙ go (isWell q) refl
+    ∙ ap (λ (x : Facts). decidedBy q true true x found) (facts-agree d (o .formed)) ∙ go (wellFormed q) refl
   where
     f : Fields
     f = fieldsOf (descriptorView 0 d)
@@ -77,7 +58,7 @@ decided-on-descriptor s q bs d h b o e =
     mine : Matched
     mine = firstServing (d .payload .grants) (q .mode) (pathOf (q .resource)) 0
 
-    go : (t : Bool) → isWell q ≡ t → decidedBy q true true facts found ≡ decidedBy q true true facts mine
-    go true w = let k = well-asked q w in ap (decidedBy q true true facts)
+    go : (t : Bool) → wellFormed q ≡ t → decidedBy q true true facts found ≡ decidedBy q true true facts mine
+    go true w = let k = well-formed q w in ap (decidedBy q true true facts)
         (matched-agree d (q .resource) (q .mode) b (o .formed) (k .1) (k .0))
     go false w = malformed-first q true true facts found _ w ∙ sym (malformed-first q true true facts mine _ w)

@@ -23,8 +23,9 @@ use Rattle.request.specs.declared.Decision.the-variants as answers
 use Rattle.request.specs.declared.DecisionNumbers.{DecisionNumbers}
 use Rattle.request.specs.declared.search.Matched.{Matched}
 use Rattle.request.specs.declared.search.Matched.the-variants.{IsAt, Nothing}
-use Rattle.request.specs.Asked.{Asked, wellFormed}
-use Rattle.request.specs.Decision.{Facts, laterSteps, stepsBy, grantedBy, factsIn, decisionOf, numbersOf}
+use Rattle.request.specs.Request.{Request, wellFormed}
+use Rattle.request.specs.Decision.{Facts, revocationSteps, descriptorSteps, keySteps, laterSteps, stepsBy, grantedBy, factsIn, decisionOf}
+use Rattle.request.specs.Decision.{numbersOf}
 use Rattle.request.specs.Meaning.{firstServing, factsOfDescriptor, decidedFor}
 use Rattle.request.specs.Promises.{Stored, badImage, notHeld, held, Among, refusal, someServes, firstPlace, firstMask, stepsFor}
 use Rattle.request.specs.Promises.{grantedFor, answerFor, DecidedExactly, GrantedExactly, RefusedExactly, RefusalsZero}
@@ -41,22 +42,22 @@ answerOf n = n .answer
 -- ---- the numbers by what is held
 
 -- The numbers of a decision by the steps are those of the steps with their numbers.
-by-numbers : (q : Asked) (sound there : Bool) (x : Facts) (m : Matched)
+by-numbers : (q : Request) (sound there : Bool) (x : Facts) (m : Matched)
     → numbersOf (decidedBy q sound there x m) ≡ inOrder (mapped numbersOf (stepsBy q sound there x m)) (numbersOf (grantedBy q x m))
 by-numbers q sound there x m = order-mapped numbersOf (stepsBy q sound there x m) (grantedBy q x m)
 
 -- An image that a survey calls unsound.
-unsound-numbers : (s : List ℕ) (q : Asked) → surveyOf s (q .id) ≡ Unsound → numbersOf (decisionOf s q) ≡ answerFor q badImage
+unsound-numbers : (s : List ℕ) (q : Request) → surveyOf s (q .id) ≡ Unsound → numbersOf (decisionOf s q) ≡ answerFor q badImage
 unfolding inOrder orElse stepsBy laterSteps wellFormed isVerdict resourceOk
 unsound-numbers s q e = ap numbersOf (decided-in s q Unsound e) ∙ by-numbers q false false (factsIn s Unsound) Nothing
 
 -- A sound image that does not hold the id.
-missing-numbers : (q : Asked) → numbersOf (missingBy q) ≡ answerFor q notHeld
+missing-numbers : (q : Request) → numbersOf (missingBy q) ≡ answerFor q notHeld
 unfolding inOrder orElse stepsBy laterSteps wellFormed isVerdict resourceOk
 missing-numbers q = by-numbers q true false (record { before = 0; after = 0; fay = []; terminal = [] }) Nothing
 
 -- What is granted on a descriptor, where some grant of it serves.
-granted-numbers : (q : Asked) (d : Descriptor) → Allowed d → someServes (d .payload .grants) (q .mode) (pathOf (q .resource)) ≡ true
+granted-numbers : (q : Request) (d : Descriptor) → Allowed d → someServes (d .payload .grants) (q .mode) (pathOf (q .resource)) ≡ true
     → numbersOf (grantedBy q (factsOfDescriptor d) (firstServing (d .payload .grants) (q .mode) (pathOf (q .resource)) 0))
     ≡ grantedFor q (held d)
 unfolding grantedBy
@@ -68,13 +69,13 @@ granted-numbers q d a e =
     ∙ ap (λ (i : ℕ). numbersOf (grantedBy q (factsOfDescriptor d) (IsAt i (firstMask gs (q .mode) x)))) z
 
 -- The steps on a descriptor that is held, with their numbers.
-held-steps : (q : Asked) (d : Descriptor)
+held-steps : (q : Request) (d : Descriptor)
     → mapped numbersOf (stepsBy q true true (factsOfDescriptor d) (firstServing (d .payload .grants) (q .mode) (pathOf (q .resource)) 0)) ≡ stepsFor q (held d)
-unfolding stepsBy laterSteps wellFormed isVerdict isThat keyOpen resourceOk
+unfolding stepsBy laterSteps revocationSteps descriptorSteps keySteps wellFormed isVerdict isThat keyOpen resourceOk
 held-steps q d = rw (some-found (d .payload .grants) (q .mode) (pathOf (q .resource)) 0)
 
 -- A descriptor that is held.
-held-numbers : (q : Asked) (d : Descriptor) → Allowed d → numbersOf (decidedFor q d) ≡ answerFor q (held d)
+held-numbers : (q : Request) (d : Descriptor) → Allowed d → numbersOf (decidedFor q d) ≡ answerFor q (held d)
 unfolding decidedFor
 held-numbers q d a =
     let m : Matched = firstServing (d .payload .grants) (q .mode) (pathOf (q .resource)) 0 in
@@ -95,13 +96,13 @@ decided-exactly s q (held d) u =
 -- ---- the order of the steps
 
 -- No step has the number 0.
-never-zero : (q : Asked) (x : Stored) → passesBy answerOf 0 (stepsFor q x) ≡ true
+never-zero : (q : Request) (x : Stored) → passesBy answerOf 0 (stepsFor q x) ≡ true
 never-zero q badImage = refl
 never-zero q notHeld = refl
 never-zero q (held d) = refl
 
 -- What follows the steps has the number 0.
-pub granted-zero : (q : Asked) (x : Stored) → grantedFor q x .answer ≡ 0
+pub granted-zero : (q : Request) (x : Stored) → grantedFor q x .answer ≡ 0
 granted-zero q badImage = refl
 granted-zero q notHeld = refl
 granted-zero q (held d) = refl

@@ -1,6 +1,6 @@
 -- The promises of specs/Promises.antt, each from its law. Assumes nothing.
 use mathlib.Core.Path.{refl}
-use Rattle.request.specs.Promises.{AskedInOrder, ListedExactly, AllStored, DecidedExactly, GrantedExactly, RefusedExactly}
+use Rattle.request.specs.Promises.{ArgumentsInOrder, ListedExactly, AllStored, DecidedExactly, GrantedExactly, RefusedExactly}
 use Rattle.request.specs.Promises.{RefusalsZero, EditionsRefused, GrantedGives, BeginBoundary, EndBoundary, StoredDecided}
 use Rattle.request.specs.Promises.{OthersDecided}
 use Rattle.request.proofs.ListedLaws as listed
@@ -10,10 +10,10 @@ use Rattle.request.proofs.GivenLaws as given
 use Rattle.request.proofs.BoundaryLaws as boundary
 use Rattle.request.proofs.StoredLaws as stored
 
--- ---- what is asked
+-- ---- what is requestOf
 
-pub asked-in-order : AskedInOrder
-asked-in-order id fay terminal resource mode clock session revoked verdict window = refl
+pub arguments-in-order : ArgumentsInOrder
+arguments-in-order id fay terminal resource mode clock session revoked verdict window = refl
 
 pub listed-exactly : ListedExactly
 listed-exactly = listed.listed-exactly

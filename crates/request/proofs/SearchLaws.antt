@@ -74,7 +74,7 @@ module _ (s r : List ℕ) (mode count at i : ℕ) where
   first-stop h e = one-left h ∙ rw (← e, firstFrom)
 
   module _ {g : GrantSeen} {next : ℕ} (h : i < count) (e : got g next ≡ grantAt s at) where
-    -- It is asked whether the grant that was read serves.
+    -- It is requestOf whether the grant that was read serves.
     first-read : (t : Bool) → serves s r mode g ≡ t → firstFrom s r mode (count - i) at i
         ≡ orNext t i (g .mask) (firstFrom s r mode (count - (i + 1)) next (i + 1))
     unfolding firstFrom

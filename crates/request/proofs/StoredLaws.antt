@@ -17,7 +17,7 @@ use Rattle.submission.specs.declared.Submission.the-variants as submission
 use Rattle.submission.specs.Submission.{submitted, afterOf, numberOf}
 use Rattle.submission.proofs.Laws.{done-means, after-holds}
 use Rattle.submission.proofs.Promises.{refusal-keeps}
-use Rattle.request.specs.Asked.{Asked}
+use Rattle.request.specs.Request.{Request}
 use Rattle.request.specs.Decision.{decisionOf, numbersOf}
 use Rattle.request.specs.Promises.{held, Under, StoredDecided, OthersDecided}
 use Rattle.request.proofs.HeldLaws.{decided-on-body, decided-on-none}
@@ -42,7 +42,7 @@ stored-decided d b clock verdict window bytes a z =
     )
 
 -- Two images in which the id finds the same body decide a request for it alike.
-found-alike : (s t : List ℕ) (q : Asked) (bs cs : List (List ℕ)) → Holds s bs → Holds t cs → bodyWith (q .id) cs ≡ bodyWith (q .id) bs
+found-alike : (s t : List ℕ) (q : Request) (bs cs : List (List ℕ)) → Holds s bs → Holds t cs → bodyWith (q .id) cs ≡ bodyWith (q .id) bs
     → decisionOf t q ≡ decisionOf s q
 found-alike s t q bs cs h k e = let w = survey-tells s (q .id) bs h in go (w .0) (w .2)
   where

@@ -1,7 +1,7 @@
 -- The decision of a request, as the code takes it: the steps in document 01's order. These definitions compute. A reader of the
 -- promises does not need this page.
 use mathlib.Core.Bool.{Bool, true, false, not, cond, _&&_}
-use mathlib.Core.List.{List, [], _∷_}
+use mathlib.Core.List.{List, [], _∷_, _++_}
 use Prim.Native.Nat.{ℕ, zero, suc, _+_, _-_, min}
 use lib.ListN.{take, drop}
 use lib.Dec.{leb, ltb, eqb}
@@ -10,6 +10,7 @@ use Rattle.exact.specs.Reads.{got, refused}
 use Rattle.resource.specs.Text.{levelsMatch}
 use Rattle.descriptor.specs.declared.Fields.{Fields}
 use Rattle.descriptor.specs.Reader.{hasMode, GrantSeen, grantAt}
+use Rattle.steps.specs.declared.Window.{Window}
 use Rattle.steps.specs.Order.{Step, step, inOrder}
 use Rattle.steps.specs.Key.{bad, noKey, isThat, keyOpen}
 use Rattle.image.specs.declared.Held.the-variants.{Missing, Body}
@@ -21,7 +22,7 @@ use Rattle.request.specs.declared.DecisionNumbers.{DecisionNumbers}
 use Rattle.request.specs.declared.Decision.the-variants as answers
 use Rattle.request.specs.declared.search.Matched.{Matched}
 use Rattle.request.specs.declared.search.Matched.the-variants.{IsAt, Nothing}
-use Rattle.request.specs.Asked.{Asked, wellFormed, isListed}
+use Rattle.request.specs.Request.{Request, wellFormed, isListed}
 
 -- ---- the steps
 
@@ -37,34 +38,42 @@ abbrev pub isMatched : Matched → Bool
 isMatched (IsAt grant mask) = true
 isMatched Nothing = false
 
--- the last steps: the key and the signature
-abbrev pub keySteps : Asked → List (Step Decision)
-keySteps q =
-    step (not (isThat (q .verdict) noKey) && keyOpen (q .window) (q .clock)) answers.KeyInvalid
-    ∷ step (not (isThat (q .verdict) bad)) answers.BadSignature
+-- 8: the id is revoked
+unfoldable pub revocationSteps : Request → List (Step Decision)
+revocationSteps q = step (not (isListed (q .revoked) (q .id))) answers.Revoked ∷ []
+
+-- 9 to 13: the descriptor's period, its subject, its terminal, and a grant that serves
+unfoldable pub descriptorSteps : Facts → List ℕ → List ℕ → ℕ → Matched → List (Step Decision)
+descriptorSteps x fay terminal clock m =
+    step (leb (x .before) clock) answers.NotYetValid
+    ∷ step (ltb clock (x .after)) answers.Expired
+    ∷ step (same (x .fay) fay) answers.SubjectMismatch
+    ∷ step (same (x .terminal) terminal) answers.TerminalMismatch
+    ∷ step (isMatched m) answers.Insufficient
+    ∷ []
+
+-- 14 and 4: the key and the signature
+unfoldable pub keySteps : ℕ → Window → ℕ → List (Step Decision)
+keySteps verdict window clock =
+    step (not (isThat verdict noKey) && keyOpen window clock) answers.KeyInvalid
+    ∷ step (not (isThat verdict bad)) answers.BadSignature
     ∷ []
 
 -- the steps on a descriptor that was found, by its facts and the first grant that serves
-unfoldable pub laterSteps : Asked → Facts → Matched → List (Step Decision)
+unfoldable pub laterSteps : Request → Facts → Matched → List (Step Decision)
 laterSteps q x m =
-    step (not (isListed (q .revoked) (q .id))) answers.Revoked
-    ∷ step (leb (x .before) (q .clock)) answers.NotYetValid
-    ∷ step (ltb (q .clock) (x .after)) answers.Expired
-    ∷ step (same (x .fay) (q .fay)) answers.SubjectMismatch
-    ∷ step (same (x .terminal) (q .terminal)) answers.TerminalMismatch
-    ∷ step (isMatched m) answers.Insufficient
-    ∷ keySteps q
+    revocationSteps q ++ (descriptorSteps x (q .fay) (q .terminal) (q .clock) m ++ keySteps (q .verdict) (q .window) (q .clock))
 
 -- all steps: the arguments, the image, that the id is held, and those
-unfoldable pub stepsBy : Asked → Bool → Bool → Facts → Matched → List (Step Decision)
+unfoldable pub stepsBy : Request → Bool → Bool → Facts → Matched → List (Step Decision)
 stepsBy q sound held x m =
-    step (wellFormed (q .id) (q .fay) (q .terminal) (q .resource) (q .mode) (q .revoked) (q .verdict)) answers.Malformed
+    step (wellFormed q) answers.Malformed
     ∷ step sound answers.BadImage
     ∷ step held answers.NotFound
     ∷ laterSteps q x m
 
 -- granted: the grant's place, its mask, and the session's end, the smaller of not_after and the clock and the session length together
-unfoldable pub grantedBy : Asked → Facts → Matched → Decision
+unfoldable pub grantedBy : Request → Facts → Matched → Decision
 grantedBy q x (IsAt grant mask) = answers.Granted grant mask (min (x .after) (q .clock + q .session))
 grantedBy q x Nothing = answers.Insufficient
 
@@ -95,7 +104,7 @@ matchedOn b f resource mode =
     cond (same (part b (f .terminal) 45) (take 45 resource)) (firstFrom b (drop 46 resource) mode (f .grants) (f .first) 0) Nothing
 
 -- the decision on a body of which f was read
-unfoldable pub decidedOn : Asked → List ℕ → Fields → Decision
+unfoldable pub decidedOn : Request → List ℕ → Fields → Decision
 decidedOn q b f =
     let x = factsOf b f in
     let m = matchedOn b f (q .resource) (q .mode) in
@@ -108,17 +117,17 @@ factsIn s (Sound n end Missing) = record { before = 0; after = 0; fay = []; term
 factsIn s Unsound = record { before = 0; after = 0; fay = []; terminal = [] }
 
 -- its first grant that serves
-abbrev pub matchedIn : List ℕ → Asked → Survey → Matched
+abbrev pub matchedIn : List ℕ → Request → Survey → Matched
 matchedIn s q (Sound n end (Body at len f)) = matchedOn (part s at len) f (q .resource) (q .mode)
 matchedIn s q (Sound n end Missing) = Nothing
 matchedIn s q Unsound = Nothing
 
 -- the steps of a request to the image s
-unfoldable pub stepsOf : List ℕ → Asked → List (Step Decision)
+unfoldable pub stepsOf : List ℕ → Request → List (Step Decision)
 stepsOf s q = let v = surveyOf s (q .id) in stepsBy q (isSound v) (isHeld v) (factsIn s v) (matchedIn s q v)
 
 -- the decision: the first failing step's refusal, or granted
-unfoldable pub decisionOf : List ℕ → Asked → Decision
+unfoldable pub decisionOf : List ℕ → Request → Decision
 decisionOf s q = let v = surveyOf s (q .id) in inOrder (stepsOf s q) (grantedBy q (factsIn s v) (matchedIn s q v))
 
 -- ---- document 01's numbers

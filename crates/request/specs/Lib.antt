@@ -1,4 +1,4 @@
-pub mod Asked
+pub mod Request
 pub mod Decision
 pub mod Meaning
 pub mod Stages

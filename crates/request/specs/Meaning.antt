@@ -10,7 +10,7 @@ use Rattle.steps.specs.Order.{inOrder}
 use Rattle.request.specs.declared.Decision.{Decision}
 use Rattle.request.specs.declared.search.Matched.{Matched}
 use Rattle.request.specs.declared.search.Matched.the-variants.{Nothing}
-use Rattle.request.specs.Asked.{Asked}
+use Rattle.request.specs.Request.{Request}
 use Rattle.request.specs.Decision.{Facts, orNext, stepsBy, grantedBy}
 use Rattle.request.specs.Promises.{grantServes}
 
@@ -29,7 +29,7 @@ factsOfDescriptor d = record {
 }
 
 -- the decision of a request in a sound image that holds the descriptor d under the id
-unfoldable pub decidedFor : Asked → Descriptor → Decision
+unfoldable pub decidedFor : Request → Descriptor → Decision
 decidedFor q d =
     let x = factsOfDescriptor d in
     let m = firstServing (d .payload .grants) (q .mode) (pathOf (q .resource)) 0 in

@@ -19,15 +19,15 @@ use Rattle.steps.specs.Order.{Step, step, inOrder, AllPass, FirstFails}
 use Rattle.image.specs.Image.{Holds}
 use Rattle.submission.specs.Submission.{submitted, afterOf, numberOf}
 use Rattle.request.specs.declared.DecisionNumbers.{DecisionNumbers}
-use Rattle.request.specs.Asked.{Asked, asked, isListed}
+use Rattle.request.specs.Request.{Request, requestOf, isListed}
 use Rattle.request.specs.Decision.{decisionOf, numbersOf}
 
--- ---- what is asked
+-- ---- the arguments
 
 -- the arguments of the call, in its order
-abbrev pub AskedInOrder : Type 0
-AskedInOrder = (id fay terminal resource : List ℕ) (mode clock session : ℕ) (revoked : List ℕ) (verdict : ℕ) (window : Window)
-    → asked id fay terminal resource mode clock session revoked verdict window
+abbrev pub ArgumentsInOrder : Type 0
+ArgumentsInOrder = (id fay terminal resource : List ℕ) (mode clock session : ℕ) (revoked : List ℕ) (verdict : ℕ) (window : Window)
+    → requestOf id fay terminal resource mode clock session revoked verdict window
     ≡ record {
       id = id;
       fay = fay;
@@ -82,7 +82,7 @@ refusal n = record { answer = n; grant = 0; mask = 0; «session_end» = 0 }
 
 -- the arguments are well formed: the verdict is not above 2, the mode not above 3, the id 16 bytes; the fay, terminal and resource ids
 -- are well formed, the last at most 256 bytes; the revocation list is a multiple of 16
-abbrev pub formed : Asked → Bool
+abbrev pub formed : Request → Bool
 formed q =
     leb (q .verdict) 2
     && (leb (q .mode) 3
@@ -104,7 +104,7 @@ abbrev pub keyValid : Window → ℕ → Bool
 keyValid window clock = leb (window .from) clock && (not (window .bounded) || leb clock (window .until))
 
 -- the steps, by what the image holds under the id
-abbrev pub stepsFor : Asked → Stored → List (Step DecisionNumbers)
+abbrev pub stepsFor : Request → Stored → List (Step DecisionNumbers)
 stepsFor q badImage = step (formed q) (refusal 15) ∷ step false (refusal 16) ∷ []
 stepsFor q notHeld = step (formed q) (refusal 15) ∷ step true (refusal 16) ∷ step false (refusal 7) ∷ []
 stepsFor q (held d) =
@@ -133,7 +133,7 @@ firstMask (g ∷ gs) m x = cond (grantServes g m x) (unionOf (g ∷ [])) (firstM
 
 -- granted: that grant's place, its mask, and the session's end, the smaller of not_after and now + the host's session length; where the
 -- id is not held a step fails, and nothing is granted
-abbrev pub grantedFor : Asked → Stored → DecisionNumbers
+abbrev pub grantedFor : Request → Stored → DecisionNumbers
 grantedFor q badImage = refusal 0
 grantedFor q notHeld = refusal 0
 grantedFor q (held d) =
@@ -145,39 +145,39 @@ grantedFor q (held d) =
     }
 
 -- the numbers that a request is answered, by what the image holds under the id
-abbrev pub answerFor : Asked → Stored → DecisionNumbers
+abbrev pub answerFor : Request → Stored → DecisionNumbers
 answerFor q x = inOrder (stepsFor q x) (grantedFor q x)
 
 -- ---- the order of the steps
 
 -- a request is answered the refusal of the first step that fails, or granted, by what the image holds under the id
 abbrev pub DecidedExactly : Type 0
-DecidedExactly = (s : List ℕ) (q : Asked) (x : Stored) → Under s (q .id) x → numbersOf (decisionOf s q) ≡ answerFor q x
+DecidedExactly = (s : List ℕ) (q : Request) (x : Stored) → Under s (q .id) x → numbersOf (decisionOf s q) ≡ answerFor q x
 
 -- the answer is 0 exactly when every step passes
 abbrev pub GrantedExactly : Type 0
-GrantedExactly = (s : List ℕ) (q : Asked) (x : Stored) → Under s (q .id) x → (numbersOf (decisionOf s q) .answer ≡ 0)
+GrantedExactly = (s : List ℕ) (q : Request) (x : Stored) → Under s (q .id) x → (numbersOf (decisionOf s q) .answer ≡ 0)
     ↔ AllPass (stepsFor q x)
 
 -- and another answer exactly when it is that of the first step that fails
 abbrev pub RefusedExactly : Type 0
-RefusedExactly = (s : List ℕ) (q : Asked) (x : Stored) (n : ℕ) → Under s (q .id) x → (n ≡ 0 → ⊥)
+RefusedExactly = (s : List ℕ) (q : Request) (x : Stored) (n : ℕ) → Under s (q .id) x → (n ≡ 0 → ⊥)
     → (numbersOf (decisionOf s q) .answer ≡ n) ↔ FirstFails (stepsFor q x) (refusal n)
 
 -- whatever the image is, a refusal's other numbers are 0
 abbrev pub RefusalsZero : Type 0
-RefusalsZero = (s : List ℕ) (q : Asked) → (numbersOf (decisionOf s q) .answer ≡ 0 → ⊥)
+RefusalsZero = (s : List ℕ) (q : Request) → (numbersOf (decisionOf s q) .answer ≡ 0 → ⊥)
     → numbersOf (decisionOf s q) ≡ refusal (numbersOf (decisionOf s q) .answer)
 
 -- an image whose image edition or mode edition is another than 1 grants nothing; it is answered 16, where the arguments are well formed
 abbrev pub EditionsRefused : Type 0
-EditionsRefused = (s : List ℕ) (q : Asked) → (numberAt s 0 2 ≡ 1 → ⊥) ⊎ (numberAt s 2 2 ≡ 1 → ⊥)
+EditionsRefused = (s : List ℕ) (q : Request) → (numberAt s 0 2 ≡ 1 → ⊥) ⊎ (numberAt s 2 2 ≡ 1 → ⊥)
     → (numbersOf (decisionOf s q) .answer ≡ 0 → ⊥) × (formed q ≡ true → numbersOf (decisionOf s q) ≡ refusal 16)
 
 -- ---- what is granted
 
 -- the grant g of d at the place i serves the request, and none before it does
-pub record FirstServes (q : Asked) (d : Descriptor) (i : ℕ) (g : Grant) : Type 0 where
+pub record FirstServes (q : Request) (d : Descriptor) (i : ℕ) (g : Grant) : Type 0 where
   pub place : i < length (d .payload .grants)
   pub there : getD (d .payload .grants) i g ≡ g
   pub serves : grantServes g (q .mode) (pathOf (q .resource)) ≡ true
@@ -186,7 +186,7 @@ pub record FirstServes (q : Asked) (d : Descriptor) (i : ℕ) (g : Grant) : Type
 -- where the answer is 0 a descriptor is held under the id, and the numbers are the place of its first grant that serves, that grant's
 -- mask, and the smaller of not_after and now + the host's session length
 abbrev pub GrantedGives : Type 0
-GrantedGives = (s : List ℕ) (q : Asked) → AreBytes s → numbersOf (decisionOf s q) .answer ≡ 0
+GrantedGives = (s : List ℕ) (q : Request) → AreBytes s → numbersOf (decisionOf s q) .answer ≡ 0
     → (d : Descriptor) × Under s (q .id) (held d)
     × ((g : Grant) × FirstServes q d (numbersOf (decisionOf s q) .grant) g × (numbersOf (decisionOf s q) .mask ≡ unionOf (g ∷ [])))
     × (numbersOf (decisionOf s q) .«session_end» ≡ min (d .payload .notAfter) (q .clock + q .session))
@@ -195,14 +195,14 @@ GrantedGives = (s : List ℕ) (q : Asked) → AreBytes s → numbersOf (decision
 
 -- now = not_before is answered neither 9 nor 10; one second before it 9 is answered, where the steps before pass
 abbrev pub BeginBoundary : Type 0
-BeginBoundary = (s : List ℕ) (q : Asked) (d : Descriptor) → Under s (q .id) (held d)
+BeginBoundary = (s : List ℕ) (q : Request) (d : Descriptor) → Under s (q .id) (held d)
     → (q .clock ≡ d .payload .notBefore → (numbersOf (decisionOf s q) .answer ≡ 9 → ⊥) × (numbersOf (decisionOf s q) .answer ≡ 10 → ⊥))
     × (q .clock + 1 ≡ d .payload .notBefore → formed q ≡ true → isListed (q .revoked) (q .id) ≡ false
     → numbersOf (decisionOf s q) ≡ refusal 9)
 
 -- one second before not_after is answered neither 9 nor 10; now = not_after is answered 10, where the steps before pass
 abbrev pub EndBoundary : Type 0
-EndBoundary = (s : List ℕ) (q : Asked) (d : Descriptor) → Under s (q .id) (held d)
+EndBoundary = (s : List ℕ) (q : Request) (d : Descriptor) → Under s (q .id) (held d)
     → (q .clock + 1 ≡ d .payload .notAfter → (numbersOf (decisionOf s q) .answer ≡ 9 → ⊥) × (numbersOf (decisionOf s q) .answer ≡ 10 → ⊥))
     × (q .clock ≡ d .payload .notAfter → formed q ≡ true → isListed (q .revoked) (q .id) ≡ false → numbersOf (decisionOf s q) ≡ refusal 10)
 
@@ -214,12 +214,12 @@ abbrev pub StoredDecided : Type 0
 StoredDecided = (d b : List ℕ) (clock verdict : ℕ) (window : Window) → AreBytes d → AreBytes b
     → numberOf (submitted d b clock verdict window) ≡ 0
     → (c : Descriptor) × Allowed c × (b ≡ encode c)
-    × ((q : Asked) → q .id ≡ c .payload .id
+    × ((q : Request) → q .id ≡ c .payload .id
     → Under (afterOf d b clock verdict window) (q .id) (held c)
     × (numbersOf (decisionOf (afterOf d b clock verdict window) q) ≡ answerFor q (held c)))
 
 -- after a submission, whatever it answered, a request for an id that what was submitted does not have is answered as before it
 abbrev pub OthersDecided : Type 0
-OthersDecided = (d b : List ℕ) (clock verdict : ℕ) (window : Window) (q : Asked) → AreBytes d → AreBytes b
+OthersDecided = (d b : List ℕ) (clock verdict : ℕ) (window : Window) (q : Request) → AreBytes d → AreBytes b
     → ((c : Descriptor) → Allowed c → b ≡ encode c → q .id ≡ c .payload .id → ⊥)
     → numbersOf (decisionOf (afterOf d b clock verdict window) q) ≡ numbersOf (decisionOf d q)

@@ -1,15 +1,21 @@
 -- What the code's inner functions answer and need. A reader of the promises does not need this page.
-use mathlib.Core.Bool.{Bool, not, cond, _&&_}
+use mathlib.Core.Bool.{Bool, _&&_}
 use mathlib.Core.List.{List}
 use Prim.Native.Nat.{ℕ, _+_, _≤_, min}
 use lib.ListN.{length}
 use lib.Dec.{eqb}
 use Rattle.descriptor.specs.declared.Fields.{Fields}
 use Rattle.descriptor.specs.Reader.{hasMode}
-use Rattle.steps.specs.declared.Window.{Window}
-use Rattle.steps.specs.Key.{bad, noKey, isThat, keyOpen}
+use Rattle.steps.specs.Order.{inOrder}
+use Rattle.steps.specs.Laws.{mapped}
 use Rattle.request.specs.declared.Decision.{Decision}
 use Rattle.request.specs.declared.Decision.the-variants as answers
+use Rattle.request.specs.declared.Environment.{Environment}
+use Rattle.request.specs.declared.decide.Applicability.{Applicability}
+use Rattle.request.specs.declared.decide.Applicability.the-variants.{Applies, Refused}
+use Rattle.request.specs.declared.search.Matched.{Matched}
+use Rattle.request.specs.declared.search.Matched.the-variants.{IsAt, Nothing}
+use Rattle.request.specs.Decision.{descriptorSteps, keySteps, factsOf, matchedOn}
 
 -- the identifiers that the steps look at lie in the body
 pub record BodyFits (b : List ℕ) (f : Fields) : Type 0 where
@@ -20,9 +26,20 @@ pub record BodyFits (b : List ℕ) (f : Fields) : Type 0 where
 unfoldable pub eligible : ℕ → ℕ → ℕ → Bool
 eligible mask pairs mode = hasMode mask mode && eqb pairs 0
 
--- the key and the signature, where a grant serves
-unfoldable pub signedBy : ℕ → ℕ → ℕ → ℕ → ℕ → ℕ → Window → Decision
-signedBy grant mask after clock session verdict window =
-    cond (not (isThat verdict noKey) && keyOpen window clock)
-    (cond (not (isThat verdict bad)) (answers.Granted grant mask (min after (clock + session))) answers.BadSignature)
-    answers.KeyInvalid
+-- ---- the stages of the steps on a body
+
+-- what the steps 9 to 13 answer where they pass: the first grant that serves
+abbrev pub appliesWith : Matched → Applicability
+appliesWith (IsAt grant mask) = Applies grant mask
+appliesWith Nothing = Refused answers.Insufficient
+
+-- the steps 9 to 13 on a body of which f was read
+unfoldable pub applicabilityOf : List ℕ → Fields → List ℕ → List ℕ → List ℕ → ℕ → ℕ → Applicability
+applicabilityOf b f fay terminal resource mode clock =
+    let m = matchedOn b f resource mode in
+    inOrder (mapped Refused (descriptorSteps (factsOf b f) fay terminal clock m)) (appliesWith m)
+
+-- the steps 14 and 4, where a grant serves
+unfoldable pub signedBy : ℕ → ℕ → ℕ → Environment → Decision
+signedBy grant mask after e =
+    inOrder (keySteps (e .verdict) (e .window) (e .clock)) (answers.Granted grant mask (min after (e .clock + e .session)))

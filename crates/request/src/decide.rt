@@ -1,17 +1,23 @@
 // The steps of a request, one after the other.
 use crate::Decision;
+use crate::Environment;
 use crate::search::Matched;
 use descriptor::Fields;
 use octets::same_bytes;
-use steps::Window;
 ghost use mathlib.Core.Path.{_≡_};
 ghost use mathlib.Core.Bool.{true};
 ghost use Prim.Native.Nat.{_+_, _≤_, min};
 ghost use lib.ListN.{length};
 ghost use Rattle.resource.specs.Text.{resourceOk};
-ghost use Rattle.request.specs.Asked.{asked, wellFormed, isListed};
+ghost use Rattle.request.specs.Request.{requestOf, wellFormed, isListed};
 ghost use Rattle.request.specs.Decision.{matchedOn, decidedOn};
-ghost use Rattle.request.specs.Stages.{BodyFits, signedBy};
+ghost use Rattle.request.specs.Stages.{BodyFits, applicabilityOf, signedBy};
+
+// What the steps 9 to 13 answer: the grant that serves, with its mask, or the refusal of the first step that fails.
+pub(crate) enum Applicability {
+    Applies { grant: u64, mask: u64 },
+    Refused(Decision),
+}
 
 // Whether the arguments are well formed.
 pub(crate) fn well_formed(
@@ -21,11 +27,11 @@ pub(crate) fn well_formed(
     resource: &[u8],
     mode: u64,
     revoked: &[u8],
-    verdict: u64,
+    environment: Environment,
 ) -> bool
-    ensures { λ r. ⌜ r ≡ wellFormed (now (id .entry)) (now (fay .entry)) (now (terminal .entry)) (now (resource .entry)) mode (now (revoked .entry)) verdict ⌝ }
+    ensures { λ r. ⌜ r ≡ wellFormed (requestOf (now (id .entry)) (now (fay .entry)) (now (terminal .entry)) (now (resource .entry)) mode (environment .clock) (environment .session) (now (revoked .entry)) (environment .verdict) (environment .window)) ⌝ }
 {
-    if 2 < verdict {
+    if 2 < environment.verdict {
         return false;
     }
     if 3 < mode {
@@ -86,22 +92,49 @@ fn match_grant(body: &[u8], fields: Fields, resource: &[u8], mode: u64) -> Match
     crate::search::first_grant(body, fields.first, fields.grants, mode, &resource[46..])
 }
 
-// The key and the signature, where a grant serves.
-fn signed(
-    grant: u64,
-    mask: u64,
-    after: u64,
+// The steps 9 to 13 on a body of which the fields were read.
+fn check_descriptor(
+    body: &[u8],
+    fields: Fields,
+    fay: &[u8],
+    terminal: &[u8],
+    resource: &[u8],
+    mode: u64,
     clock: u64,
-    session: u64,
-    verdict: u64,
-    window: Window,
-) -> Decision
-    ensures { λ r. ⌜ r ≡ signedBy grant mask after clock session verdict window ⌝ }
+) -> Applicability
+    requires { ⌜ (resourceOk (now resource) ≡ true) × (mode ≤ 3) × BodyFits (now body) fields ⌝ }
+    ensures { λ r. ⌜ r ≡ applicabilityOf (now (body .entry)) fields (now (fay .entry)) (now (terminal .entry)) (now (resource .entry)) mode clock ⌝ }
 {
+    if clock < fields.before {
+        return Applicability::Refused(Decision::NotYetValid);
+    }
+    if fields.after <= clock {
+        return Applicability::Refused(Decision::Expired);
+    }
+    let f = fields.fay;
+    if !same_bytes(&body[f..f + 40], fay) {
+        return Applicability::Refused(Decision::SubjectMismatch);
+    }
+    let t = fields.terminal;
+    if !same_bytes(&body[t..t + 45], terminal) {
+        return Applicability::Refused(Decision::TerminalMismatch);
+    }
+    match match_grant(body, fields, resource, mode) {
+        Matched::IsAt { grant, mask } => Applicability::Applies { grant, mask },
+        Matched::Nothing => Applicability::Refused(Decision::Insufficient),
+    }
+}
+
+// The steps 14 and 4, where a grant serves.
+fn signed(grant: u64, mask: u64, after: u64, environment: Environment) -> Decision
+    ensures { λ r. ⌜ r ≡ signedBy grant mask after environment ⌝ }
+{
+    let clock = environment.clock;
+    let verdict = environment.verdict;
     if verdict == 2 {
         return Decision::KeyInvalid;
     }
-    if !steps::key_open(window, clock) {
+    if !steps::key_open(environment.window, clock) {
         return Decision::KeyInvalid;
     }
     if verdict == 1 {
@@ -110,7 +143,7 @@ fn signed(
     Decision::Granted {
         grant,
         mask,
-        end: session_end(after, clock, session),
+        end: session_end(after, clock, environment.session),
     }
 }
 
@@ -123,36 +156,25 @@ pub(crate) fn on_body(
     terminal: &[u8],
     resource: &[u8],
     mode: u64,
-    clock: u64,
-    session: u64,
     revoked: &[u8],
-    verdict: u64,
-    window: Window,
+    environment: Environment,
 ) -> Decision
     requires { ⌜ (resourceOk (now resource) ≡ true) × (mode ≤ 3) × BodyFits (now body) fields ⌝ }
-    ensures { λ r. ⌜ r ≡ decidedOn (asked (now (id .entry)) (now (fay .entry)) (now (terminal .entry)) (now (resource .entry)) mode clock session (now (revoked .entry)) verdict window) (now (body .entry)) fields ⌝ }
+    ensures { λ r. ⌜ r ≡ decidedOn (requestOf (now (id .entry)) (now (fay .entry)) (now (terminal .entry)) (now (resource .entry)) mode (environment .clock) (environment .session) (now (revoked .entry)) (environment .verdict) (environment .window)) (now (body .entry)) fields ⌝ }
 {
     if is_listed(revoked, id) {
         return Decision::Revoked;
     }
-    if clock < fields.before {
-        return Decision::NotYetValid;
-    }
-    if fields.after <= clock {
-        return Decision::Expired;
-    }
-    let f = fields.fay;
-    if !same_bytes(&body[f..f + 40], fay) {
-        return Decision::SubjectMismatch;
-    }
-    let t = fields.terminal;
-    if !same_bytes(&body[t..t + 45], terminal) {
-        return Decision::TerminalMismatch;
-    }
-    match match_grant(body, fields, resource, mode) {
-        Matched::IsAt { grant, mask } => {
-            signed(grant, mask, fields.after, clock, session, verdict, window)
-        }
-        Matched::Nothing => Decision::Insufficient,
+    match check_descriptor(
+        body,
+        fields,
+        fay,
+        terminal,
+        resource,
+        mode,
+        environment.clock,
+    ) {
+        Applicability::Applies { grant, mask } => signed(grant, mask, fields.after, environment),
+        Applicability::Refused(refusal) => refusal,
     }
 }

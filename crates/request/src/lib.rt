@@ -8,7 +8,7 @@ use image::Survey;
 use steps::Window;
 ghost use mathlib.Core.Path.{_≡_};
 ghost use Prim.Native.Nat.{_+_, _≤_, _<_};
-ghost use Rattle.request.specs.Asked.{asked};
+ghost use Rattle.request.specs.Request.{requestOf};
 ghost use Rattle.request.specs.Decision.{decisionOf};
 
 // What a request answers: granted, with the grant's place, its mask and the session's end; or the refusal of the first step that fails:
@@ -38,6 +38,15 @@ pub struct DecisionNumbers {
     pub session_end: u64,
 }
 
+// What the host says beside the request itself: the clock and the session length, in seconds; its verdict on the signature, and the
+// window in which the key is valid.
+pub struct Environment {
+    pub clock: u64,
+    pub session: u64,
+    pub verdict: u64,
+    pub window: Window,
+}
+
 // Decides a request for the descriptor with the id.
 pub fn request(
     image: &[u8],
@@ -46,15 +55,12 @@ pub fn request(
     terminal: &[u8],
     resource: &[u8],
     mode: u64,
-    clock: u64,
-    session: u64,
     revoked: &[u8],
-    verdict: u64,
-    window: Window,
+    environment: Environment,
 ) -> Decision
-    ensures { λ r. ⌜ r ≡ decisionOf (now (image .entry)) (asked (now (id .entry)) (now (fay .entry)) (now (terminal .entry)) (now (resource .entry)) mode clock session (now (revoked .entry)) verdict window) ⌝ }
+    ensures { λ r. ⌜ r ≡ decisionOf (now (image .entry)) (requestOf (now (id .entry)) (now (fay .entry)) (now (terminal .entry)) (now (resource .entry)) mode (environment .clock) (environment .session) (now (revoked .entry)) (environment .verdict) (environment .window)) ⌝ }
 {
-    if !decide::well_formed(id, fay, terminal, resource, mode, revoked, verdict) {
+    if !decide::well_formed(id, fay, terminal, resource, mode, revoked, environment) {
         return Decision::Malformed;
     }
     match image::check(image, id) {
@@ -63,20 +69,20 @@ pub fn request(
             end: _,
             held,
         } => match held {
-            Held::Body { at, len, fields } => decide::on_body(
-                &image[at..at + len],
-                fields,
-                id,
-                fay,
-                terminal,
-                resource,
-                mode,
-                clock,
-                session,
-                revoked,
-                verdict,
-                window,
-            ),
+            Held::Body { at, len, fields } => {
+                let body = &image[at..at + len];
+                decide::on_body(
+                    body,
+                    fields,
+                    id,
+                    fay,
+                    terminal,
+                    resource,
+                    mode,
+                    revoked,
+                    environment,
+                )
+            }
             Held::Missing => Decision::NotFound,
         },
         Survey::Unsound => Decision::BadImage,

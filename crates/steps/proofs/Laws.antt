@@ -1,7 +1,7 @@
 -- Laws of steps in order that the crates above cite (specs/Laws.antt). Assumes nothing.
-use mathlib.Core.Path.{_≡_, refl, ap}
+use mathlib.Core.Path.{_≡_, refl, ap, _∙_}
 use mathlib.Core.Bool.{Bool, true, false, not, cond, _&&_, _||_, false≢true}
-use mathlib.Core.List.{List, [], _∷_}
+use mathlib.Core.List.{List, [], _∷_, _++_}
 use Prim.Native.Nat.{ℕ}
 use lib.Dec.{eqb}
 use borrow.Author.Tests.{eqb-true, eqb-false}
@@ -34,6 +34,12 @@ same-end (s ∷ steps) r r′ k = go (s .passes) refl (same-end steps r r′)
     go true e f = f (λ a. k (e, a))
     go false e f = refl
 
+-- Steps after steps: what the later ones answer follows the earlier ones.
+pub order-append : {R : Type 0} (xs ys : List (Step R)) (r : R) → inOrder (xs ++ ys) r ≡ inOrder xs (inOrder ys r)
+unfolding inOrder
+order-append [] ys r = refl
+order-append (s ∷ xs) ys r = ap (orElse (s .passes) (s .refusal)) (order-append xs ys r)
+
 -- ---- the answer through a function
 
 -- A function of the answer is the answer of the steps with their refusals through it.
@@ -46,6 +52,16 @@ order-mapped f (s ∷ steps) r = go (s .passes) (order-mapped f steps r)
         → f (orElse t (s .refusal) (inOrder steps r)) ≡ orElse t (f (s .refusal)) (inOrder (mapped f steps) (f r))
     go true e = e
     go false e = refl
+
+-- Refusals through a function and back are the refusals.
+mapped-back : {R S : Type 0} (f : R → S) (g : S → R) → ((x : R) → g (f x) ≡ x) → (steps : List (Step R)) → mapped g (mapped f steps) ≡ steps
+mapped-back f g h [] = refl
+mapped-back f g h (s ∷ steps) = rw (h (s .refusal), mapped-back f g h steps)
+
+-- Steps that were decided as a stage, their refusals through f, and what g makes of the stage's answer.
+pub order-staged : {R S : Type 0} (f : R → S) (g : S → R) → ((x : R) → g (f x) ≡ x) → (steps : List (Step R)) (p : S)
+    → g (inOrder (mapped f steps) p) ≡ inOrder steps (g p)
+order-staged f g h steps p = order-mapped g (mapped f steps) p ∙ rw (mapped-back f g h steps)
 
 -- ---- steps named by the number of their refusal
 

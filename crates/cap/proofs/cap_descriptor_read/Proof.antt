@@ -1,14 +1,10 @@
 -- `cap_descriptor_read` meets its contract. Assumes nothing.
-use mathlib.Core.Path.{_≡_, sym, ap, _∙_}
+use mathlib.Core.Path.{ap, _∙_}
 use Rattle.descriptor.specs.Numbers.{numbersOf}
 use Rattle.octets.proofs.BytesLaws.{are-bytes}
 use borrow.Author.Needs.{needs}
 use Rattle.cap.proofs.cap_descriptor_read.Statement.{statement}
 use Rattle.cap.proofs.cap_descriptor_read.Tie as tie
-use Rattle.cap.proofs.cap_descriptor_read.Reads as reads
-use Rattle.cap.proofs.cap_descriptor_read.Lts as lts
-use Rattle.cap.proofs.numbers.of_reading.Reads as of-reading-reads
-use Rattle.descriptor.proofs.read_descriptor.Reads as read-descriptor-reads
 
 returns : tie.Need-returns
 returns c = (c .of-reading .ensures ∙ ap numbersOf (c .before .read-descriptor .ensures), are-bytes (c .before .before .before .args .bytes .now) (c .before .before .shared-slice-known .given))

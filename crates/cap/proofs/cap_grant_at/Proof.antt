@@ -1,14 +1,10 @@
 -- `cap_grant_at` meets its contract. Assumes nothing.
-use mathlib.Core.Path.{_≡_, sym, ap, _∙_}
+use mathlib.Core.Path.{ap, _∙_}
 use Rattle.descriptor.specs.Numbers.{grantNumbers}
 use Rattle.octets.proofs.BytesLaws.{are-bytes}
 use borrow.Author.Needs.{needs}
 use Rattle.cap.proofs.cap_grant_at.Statement.{statement}
 use Rattle.cap.proofs.cap_grant_at.Tie as tie
-use Rattle.cap.proofs.cap_grant_at.Reads as reads
-use Rattle.cap.proofs.cap_grant_at.Lts as lts
-use Rattle.cap.proofs.numbers.of_grant.Reads as of-grant-reads
-use Rattle.grant_reader.proofs.nth.Reads as nth-reads
 
 returns : tie.Need-returns
 returns c = (c .of-grant .ensures ∙ ap grantNumbers (c .before .nth .ensures), are-bytes (c .before .before .before .args .bytes .now) (c .before .before .shared-slice-known .given))

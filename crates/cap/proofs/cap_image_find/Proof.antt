@@ -1,14 +1,10 @@
 -- `cap_image_find` meets its contract. Assumes nothing.
-use mathlib.Core.Path.{_≡_, sym, ap, _∙_}
+use mathlib.Core.Path.{ap, _∙_}
 use Rattle.image.specs.Check.{numbersOf}
 use Rattle.octets.proofs.BytesLaws.{are-bytes}
 use borrow.Author.Needs.{needs}
 use Rattle.cap.proofs.cap_image_find.Statement.{statement}
 use Rattle.cap.proofs.cap_image_find.Tie as tie
-use Rattle.cap.proofs.cap_image_find.Reads as reads
-use Rattle.cap.proofs.cap_image_find.Lts as lts
-use Rattle.cap.proofs.numbers.of_finding.Reads as of-finding-reads
-use Rattle.image.proofs.find.Reads as find-reads
 
 returns : tie.Need-returns
 returns c =

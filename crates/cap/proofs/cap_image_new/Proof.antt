@@ -1,14 +1,10 @@
 -- `cap_image_new` meets its contract. Assumes nothing.
-use mathlib.Core.Path.{_≡_, sym, ap, _∙_}
+use mathlib.Core.Path.{ap, _∙_}
 use Rattle.image.specs.Fresh.{numberOf}
 use Rattle.octets.proofs.BytesLaws.{are-bytes}
 use borrow.Author.Needs.{needs}
 use Rattle.cap.proofs.cap_image_new.Statement.{statement}
 use Rattle.cap.proofs.cap_image_new.Tie as tie
-use Rattle.cap.proofs.cap_image_new.Reads as reads
-use Rattle.cap.proofs.cap_image_new.Lts as lts
-use Rattle.cap.proofs.numbers.of_made.Reads as of-made-reads
-use Rattle.image.proofs.new_image.Reads as new-image-reads
 
 returns : tie.Need-returns
 returns c =

@@ -1,14 +1,10 @@
 -- `cap_item_read` meets its contract. Assumes nothing.
-use mathlib.Core.Path.{_≡_, sym, ap, _∙_}
+use mathlib.Core.Path.{ap, _∙_}
 use Rattle.cbor_item.specs.Item.{numbersOf}
 use Rattle.octets.proofs.BytesLaws.{are-bytes}
 use borrow.Author.Needs.{needs}
 use Rattle.cap.proofs.cap_item_read.Statement.{statement}
 use Rattle.cap.proofs.cap_item_read.Tie as tie
-use Rattle.cap.proofs.cap_item_read.Reads as reads
-use Rattle.cap.proofs.cap_item_read.Lts as lts
-use Rattle.cap.proofs.numbers.of_item.Reads as of-item-reads
-use Rattle.cbor_item.proofs.read_item.Reads as read-item-reads
 
 returns : tie.Need-returns
 returns c = (c .of-item .ensures ∙ ap numbersOf (c .before .read-item .ensures), are-bytes (c .before .before .before .args .bytes .now) (c .before .before .shared-slice-known .given))

@@ -1,14 +1,10 @@
 -- `cap_match` meets its contract. Assumes nothing.
-use mathlib.Core.Path.{_≡_, sym, ap, _∙_}
+use mathlib.Core.Path.{ap, _∙_}
 use Rattle.resource.specs.Text.{numbersOf}
 use Rattle.octets.proofs.BytesLaws.{are-bytes}
 use borrow.Author.Needs.{needs}
 use Rattle.cap.proofs.cap_match.Statement.{statement}
 use Rattle.cap.proofs.cap_match.Tie as tie
-use Rattle.cap.proofs.cap_match.Reads as reads
-use Rattle.cap.proofs.cap_match.Lts as lts
-use Rattle.cap.proofs.numbers.of_matching.Reads as of-matching-reads
-use Rattle.resource.proofs.match_texts.Reads as match-texts-reads
 
 returns : tie.Need-returns
 returns c =

@@ -1,14 +1,10 @@
 -- `cap_narrow` meets its contract. Assumes nothing.
-use mathlib.Core.Path.{_≡_, sym, ap, _∙_}
+use mathlib.Core.Path.{ap, _∙_}
 use Rattle.narrowing.specs.Narrow.{numbersOf}
 use Rattle.octets.proofs.BytesLaws.{are-bytes}
 use borrow.Author.Needs.{needs}
 use Rattle.cap.proofs.cap_narrow.Statement.{statement}
 use Rattle.cap.proofs.cap_narrow.Tie as tie
-use Rattle.cap.proofs.cap_narrow.Reads as reads
-use Rattle.cap.proofs.cap_narrow.Lts as lts
-use Rattle.cap.proofs.numbers.of_narrowing.Reads as of-narrowing-reads
-use Rattle.narrowing.proofs.narrow.Reads as narrow-reads
 
 returns : tie.Need-returns
 returns c =

@@ -4,26 +4,21 @@ use mathlib.Core.List.{List}
 use Prim.Native.Nat.{ℕ}
 use Rattle.steps.specs.declared.Window.{Window}
 use Rattle.request.specs.declared.Decision.{Decision}
-use Rattle.request.specs.Asked.{asked}
+use Rattle.request.specs.Request.{requestOf}
 use Rattle.request.specs.Decision.{decisionOf, numbersOf}
 use Rattle.octets.proofs.BytesLaws.{are-bytes}
 use borrow.Author.Needs.{needs}
 use Rattle.cap.proofs.cap_request.Statement.{statement}
 use Rattle.cap.proofs.cap_request.Tie as tie
-use Rattle.cap.proofs.cap_request.Reads as reads
-use Rattle.cap.proofs.cap_request.Lts as lts
-use Rattle.cap.proofs.numbers.of_decision.Reads as of-decision-reads
-use Rattle.cap.proofs.numbers.window.Reads as window-reads
-use Rattle.request.proofs.request.Reads as request-reads
 
 -- The numbers of a request with the key's window w′.
 shown-asked : (s id fay terminal resource : List ℕ) (mode clock session : ℕ) (revoked : List ℕ) (verdict : ℕ) (w w′ : Window)
     (r : Decision) → w ≡ w′
-    → r ≡ decisionOf s (asked id fay terminal resource mode clock session revoked verdict w)
-    → numbersOf r ≡ numbersOf (decisionOf s (asked id fay terminal resource mode clock session revoked verdict w′))
+    → r ≡ decisionOf s (requestOf id fay terminal resource mode clock session revoked verdict w)
+    → numbersOf r ≡ numbersOf (decisionOf s (requestOf id fay terminal resource mode clock session revoked verdict w′))
 shown-asked s id fay terminal resource mode clock session revoked verdict w w′ r e k =
     ap numbersOf k
-    ∙ ap (λ (x : Window). numbersOf (decisionOf s (asked id fay terminal resource mode clock session revoked verdict x))) e
+    ∙ ap (λ (x : Window). numbersOf (decisionOf s (requestOf id fay terminal resource mode clock session revoked verdict x))) e
 
 returns : tie.Need-returns
 returns c =

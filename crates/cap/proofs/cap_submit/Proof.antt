@@ -9,11 +9,6 @@ use Rattle.octets.proofs.BytesLaws.{are-bytes}
 use borrow.Author.Needs.{needs}
 use Rattle.cap.proofs.cap_submit.Statement.{statement}
 use Rattle.cap.proofs.cap_submit.Tie as tie
-use Rattle.cap.proofs.cap_submit.Reads as reads
-use Rattle.cap.proofs.cap_submit.Lts as lts
-use Rattle.cap.proofs.numbers.of_submission.Reads as of-submission-reads
-use Rattle.cap.proofs.numbers.window.Reads as window-reads
-use Rattle.submission.proofs.submit.Reads as submit-reads
 
 -- The number and the buffer of a submission with the key's window w′.
 shown-submitted : (d b d′ : List ℕ) (clock verdict : ℕ) (w w′ : Window) (r : Submission) → w ≡ w′

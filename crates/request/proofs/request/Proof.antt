@@ -11,8 +11,8 @@ use Rattle.octets.proofs.BytesLaws.{are-bytes}
 use Rattle.image.specs.declared.Held.the-variants.{Body}
 use Rattle.image.specs.declared.Survey.the-variants.{Sound}
 use Rattle.image.specs.Check.{surveyOf}
-use Rattle.request.specs.Asked.{Asked, asked, wellFormed}
-use Rattle.request.proofs.AskedLaws.{formed-mode, formed-resource}
+use Rattle.request.specs.Request.{Request, requestOf, wellFormed}
+use Rattle.request.proofs.ArgumentLaws.{formed-mode, formed-resource}
 use Rattle.request.proofs.DecideLaws.{decide-malformed, decide-unsound, decide-missing, decide-body}
 use Rattle.request.proofs.FitLaws.{held-inside, held-fits}
 use Rattle.request.proofs.request.Statement.{statement}
@@ -25,12 +25,12 @@ at2 c = c .before .before .before .before .before .before .before
 abbrev at1 : tie.Else1 → tie.Start
 at1 c = at2 c .before
 
--- what is asked
-abbrev questions : tie.Start → Asked
-questions s =
+-- what is requestOf
+abbrev asked : tie.Start → Request
+asked s =
     let a = s .args in
-    asked (a .id .now) (a .fay .now) (a .terminal .now) (a .resource .now) (a .mode) (a .clock) (a .session) (a .revoked .now)
-    (a .verdict) (a .window)
+    requestOf (a .id .now) (a .fay .now) (a .terminal .now) (a .resource .now) (a .mode) (a .environment .clock)
+    (a .environment .session) (a .revoked .now) (a .environment .verdict) (a .environment .window)
 
 -- the image is no longer than a number holds
 small : (k : tie.After-shared-slice-known) → length (k .before .args .image .now) < 2 ^ 64
@@ -41,9 +41,7 @@ bytes : (k : tie.After-shared-slice-known) → AreBytes (k .before .args .image 
 bytes k = are-bytes (k .before .args .image .now) (k .shared-slice-known .given)
 
 -- the arguments are well formed
-formed : (c : tie.Else1)
-    → let a = at1 c .args in
-    wellFormed (a .id .now) (a .fay .now) (a .terminal .now) (a .resource .now) (a .mode) (a .revoked .now) (a .verdict) ≡ true
+formed : (c : tie.Else1) → wellFormed (asked (at1 c)) ≡ true
 formed c = sym (c .before .well-formed .ensures) ∙ not-false _ (c .if1 .left)
 
 -- what the survey found
@@ -68,26 +66,26 @@ inside c = held-inside _ _ _ _ _ _ _ (bytes (at2 (before-match c .before .before
 returns : tie.Need-returns
 returns c = decide-malformed _ _ (sym (c .before .well-formed .ensures) ∙ not-true _ (c .if1 .taken))
 
-add-on-body : tie.Need-add-on-body
-add-on-body c =
+add-body : tie.Need-add-body
+add-body c =
     let e = before-match (c .before) .before .before .before in
     omega (arith, inside (c .before), small (at2 e))
 
-part-on-body-end : tie.Need-part-on-body-end
-part-on-body-end c = omega (arith, inside (c .before))
+part-body-end : tie.Need-part-body-end
+part-body-end c = omega (arith, inside (c .before))
 
 on-body-requires : tie.Need-on-body-requires
 on-body-requires c κs =
     let h = c .before .before in
     let e = before-match h .before .before .before in
     let w = formed e in
-    (formed-resource _ _ _ _ _ _ _ w, formed-mode _ _ _ _ _ _ _ w, held-fits _ _ _ _ _ _ _ (bytes (at2 e)) (surveyed h))
+    (formed-resource _ w, formed-mode _ w, held-fits _ _ _ _ _ _ _ (bytes (at2 e)) (surveyed h))
 
 returns-2 : tie.Need-returns-2
 returns-2 c =
     let h = c .before .before .before in
     let e = before-match h .before .before .before in
-    decide-body (at1 e .args .image .now) (questions (at1 e)) (formed e) (surveyed h) (c .on-body .ensures)
+    decide-body (at1 e .args .image .now) (asked (at1 e)) (formed e) (surveyed h) (c .on-body .ensures)
 
 returns-3 : tie.Need-returns-3
 returns-3 c =
@@ -102,6 +100,6 @@ returns-4 c = let k = c .before .before in decide-unsound _ _ (formed (k .before
 pub request-spec : {M : Type 1} → statement M
 request-spec =
     tie.close
-    (tie.spec (λ c κs. search needs) returns (λ c κs. search needs) (λ c. search needs) (λ c. search needs) add-on-body
-    (λ c. search needs) (λ c. search needs) part-on-body-end on-body-requires (λ c. search needs) (λ c. search needs)
+    (tie.spec (λ c κs. search needs) returns (λ c κs. search needs) (λ c. search needs) (λ c. search needs) add-body
+    (λ c. search needs) (λ c. search needs) part-body-end on-body-requires (λ c. search needs) (λ c. search needs)
     returns-2 returns-3 returns-4)

@@ -1,12 +1,9 @@
 -- `of_decision` meets its contract. Assumes nothing.
-use mathlib.Core.Path.{_≡_, sym, ap, _∙_}
+use mathlib.Core.Path.{sym, ap, _∙_}
 use Rattle.request.specs.Decision.{numbersOf}
 use borrow.Author.Needs.{needs}
 use Rattle.cap.proofs.numbers.of_decision.Statement.{statement}
 use Rattle.cap.proofs.numbers.of_decision.Tie as tie
-use Rattle.cap.proofs.numbers.of_decision.Reads as reads
-use Rattle.cap.proofs.numbers.of_decision.Lts as lts
-use Rattle.cap.proofs.numbers.refused.Reads as refused-reads
 
 returns : tie.Need-returns
 returns c = sym (ap numbersOf (c .before .decision .given .1))

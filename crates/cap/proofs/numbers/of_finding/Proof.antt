@@ -1,12 +1,9 @@
 -- `of_finding` meets its contract. Assumes nothing.
-use mathlib.Core.Path.{_≡_, sym, ap, _∙_}
+use mathlib.Core.Path.{sym, ap, _∙_}
 use Rattle.image.specs.Check.{numbersOf}
 use borrow.Author.Needs.{needs}
 use Rattle.cap.proofs.numbers.of_finding.Statement.{statement}
 use Rattle.cap.proofs.numbers.of_finding.Tie as tie
-use Rattle.cap.proofs.numbers.of_finding.Reads as reads
-use Rattle.cap.proofs.numbers.of_finding.Lts as lts
-use Rattle.cap.proofs.numbers.stored.Reads as stored-reads
 
 returns : tie.Need-returns
 returns c = c .stored .ensures ∙ sym (ap numbersOf (c .before .before .finding .given .1))

@@ -1,5 +1,5 @@
 -- `of_grant` meets its contract. Assumes nothing.
-use mathlib.Core.Path.{_≡_, sym, ap, _∙_}
+use mathlib.Core.Path.{sym, ap}
 use Rattle.descriptor.specs.declared.GrantRead.{GrantRead}
 use Rattle.descriptor.specs.Answer.{grantRead}
 use Rattle.descriptor.specs.declared.GrantNumbers.{GrantNumbers}
@@ -7,8 +7,6 @@ use Rattle.descriptor.specs.Numbers.{grantNumbers}
 use borrow.Author.Needs.{needs}
 use Rattle.cap.proofs.numbers.of_grant.Statement.{statement}
 use Rattle.cap.proofs.numbers.of_grant.Tie as tie
-use Rattle.cap.proofs.numbers.of_grant.Reads as reads
-use Rattle.cap.proofs.numbers.of_grant.Lts as lts
 
 -- The numbers of a grant.
 abbrev shown : GrantRead → GrantNumbers

@@ -1,12 +1,9 @@
 -- `of_item` meets its contract. Assumes nothing.
-use mathlib.Core.Path.{_≡_, sym, ap, _∙_}
+use mathlib.Core.Path.{sym, ap, _∙_}
 use Rattle.cbor_item.specs.Item.{numbersOf}
 use borrow.Author.Needs.{needs}
 use Rattle.cap.proofs.numbers.of_item.Statement.{statement}
 use Rattle.cap.proofs.numbers.of_item.Tie as tie
-use Rattle.cap.proofs.numbers.of_item.Reads as reads
-use Rattle.cap.proofs.numbers.of_item.Lts as lts
-use Rattle.cap.proofs.numbers.numbered.Reads as numbered-reads
 
 returns : tie.Need-returns
 returns c = c .numbered .ensures ∙ sym (ap numbersOf (c .before .before .item .given .1))

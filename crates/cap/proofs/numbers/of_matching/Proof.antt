@@ -1,11 +1,9 @@
 -- `of_matching` meets its contract. Assumes nothing.
-use mathlib.Core.Path.{_≡_, sym, ap, _∙_}
+use mathlib.Core.Path.{sym, ap}
 use Rattle.resource.specs.Text.{numbersOf}
 use borrow.Author.Needs.{needs}
 use Rattle.cap.proofs.numbers.of_matching.Statement.{statement}
 use Rattle.cap.proofs.numbers.of_matching.Tie as tie
-use Rattle.cap.proofs.numbers.of_matching.Reads as reads
-use Rattle.cap.proofs.numbers.of_matching.Lts as lts
 
 returns : tie.Need-returns
 returns c = sym (ap numbersOf (c .enum-told .given .1))

@@ -1,12 +1,9 @@
 -- `of_narrowing` meets its contract. Assumes nothing.
-use mathlib.Core.Path.{_≡_, sym, ap, _∙_}
+use mathlib.Core.Path.{sym, ap, _∙_}
 use Rattle.narrowing.specs.Narrow.{numbersOf}
 use borrow.Author.Needs.{needs}
 use Rattle.cap.proofs.numbers.of_narrowing.Statement.{statement}
 use Rattle.cap.proofs.numbers.of_narrowing.Tie as tie
-use Rattle.cap.proofs.numbers.of_narrowing.Reads as reads
-use Rattle.cap.proofs.numbers.of_narrowing.Lts as lts
-use Rattle.cap.proofs.numbers.narrowed.Reads as narrowed-reads
 
 returns : tie.Need-returns
 returns c = c .narrowed .ensures ∙ sym (ap numbersOf (c .before .enum-told .given .1))

@@ -1,13 +1,9 @@
 -- `of_reading` meets its contract. Assumes nothing.
-use mathlib.Core.Path.{_≡_, sym, ap, _∙_}
+use mathlib.Core.Path.{sym, ap, _∙_}
 use Rattle.descriptor.specs.Numbers.{numbersOf}
 use borrow.Author.Needs.{needs}
 use Rattle.cap.proofs.numbers.of_reading.Statement.{statement}
 use Rattle.cap.proofs.numbers.of_reading.Tie as tie
-use Rattle.cap.proofs.numbers.of_reading.Reads as reads
-use Rattle.cap.proofs.numbers.of_reading.Lts as lts
-use Rattle.cap.proofs.numbers.no_descriptor.Reads as no-descriptor-reads
-use Rattle.cap.proofs.numbers.of_fields.Reads as of-fields-reads
 
 returns : tie.Need-returns
 returns c = c .of-fields .ensures ∙ sym (ap numbersOf (c .before .before .reading .given .1))

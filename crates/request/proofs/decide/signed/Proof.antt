@@ -7,21 +7,20 @@ use Rattle.request.proofs.decide.signed.Statement.{statement}
 use Rattle.request.proofs.decide.signed.Tie as tie
 
 returns : tie.Need-returns
-returns c = signed-none _ _ _ _ _ _ _ (c .if1 .taken)
+returns c = signed-none _ _ _ _ (c .if1 .taken)
 
 returns-2 : tie.Need-returns-2
-returns-2 c = signed-shut _ _ _ _ _ _ _ (c .before .before .if1 .left) (sym (c .before .key-open .ensures) ∙ not-true _ (c .if2 .taken))
+returns-2 c = signed-shut _ _ _ _ (c .before .before .if1 .left) (sym (c .before .key-open .ensures) ∙ not-true _ (c .if2 .taken))
 
 returns-3 : tie.Need-returns-3
 returns-3 c =
     let e = c .before in
-    signed-bad _ _ _ _ _ _ _ (e .before .before .if1 .left) (sym (e .before .key-open .ensures) ∙ not-false _ (e .if2 .left))
-    (c .if3 .taken)
+    signed-bad _ _ _ _ (e .before .before .if1 .left) (sym (e .before .key-open .ensures) ∙ not-false _ (e .if2 .left)) (c .if3 .taken)
 
 returns-4 : tie.Need-returns-4
 returns-4 c =
     let e = c .before .before in
-    signed-good _ _ _ _ _ _ _ (e .before .before .if1 .left) (sym (e .before .key-open .ensures) ∙ not-false _ (e .if2 .left))
+    signed-good _ _ _ _ (e .before .before .if1 .left) (sym (e .before .key-open .ensures) ∙ not-false _ (e .if2 .left))
     (c .before .if3 .left)
     (c .session-end .ensures)
 

@@ -4,33 +4,33 @@ use mathlib.Core.Bool.{true}
 use borrow.Author.Tests.{not-true, not-false}
 use borrow.Author.Needs.{needs}
 use Rattle.resource.specs.Identifier.{isFay, isTerminal}
-use Rattle.request.proofs.AskedLaws.{no-verdict, no-mode, no-id, no-fay, no-terminal, no-resource, list-left}
+use Rattle.request.proofs.ArgumentLaws.{no-verdict, no-mode, no-id, no-fay, no-terminal, no-resource, list-left}
 use Rattle.request.proofs.decide.well_formed.Statement.{statement}
 use Rattle.request.proofs.decide.well_formed.Tie as tie
 
 -- what the tests on the way say
-well-fay : (e : tie.Else4) → isFay (e .before .before .before .before .before .before .before .before .before .before .args .fay .now)
+well-fay : (e : tie.Else4) → isFay (e .before .before .before .before .before .before .before .before .before .before .before .args .fay .now)
     ≡ true
 well-fay e = sym (e .before .is-fay .ensures) ∙ not-false _ (e .if4 .left)
 
 well-terminal : (e : tie.Else5)
-    → isTerminal (e .before .before .before .before .before .before .before .before .before .before .before .before .args .terminal .now) ≡ true
+    → isTerminal (e .before .before .before .before .before .before .before .before .before .before .before .before .before .args .terminal .now) ≡ true
 well-terminal e = sym (e .before .is-terminal .ensures) ∙ not-false _ (e .if5 .left)
 
 returns : tie.Need-returns
-returns c = no-verdict _ _ _ _ _ _ _ (c .if1 .taken)
+returns c = no-verdict _ (c .if1 .taken)
 
 returns-2 : tie.Need-returns-2
-returns-2 c = no-mode _ _ _ _ _ _ _ (c .before .if1 .left) (c .if2 .taken)
+returns-2 c = no-mode _ (c .before .if1 .left) (c .if2 .taken)
 
 returns-3 : tie.Need-returns-3
-returns-3 c = let n = c .before in no-id _ _ _ _ _ _ _ (n .before .if1 .left) (n .if2 .left) (c .if3 .taken)
+returns-3 c = let n = c .before in no-id _ (n .before .if1 .left) (n .if2 .left) (c .if3 .taken)
 
 returns-4 : tie.Need-returns-4
 returns-4 c =
     let n = c .before .before in
     let m = n .before in
-    no-fay _ _ _ _ _ _ _ (m .before .if1 .left) (m .if2 .left) (n .if3 .left)
+    no-fay _ (m .before .if1 .left) (m .if2 .left) (n .if3 .left)
     (sym (c .before .is-fay .ensures) ∙ not-true _ (c .if4 .taken))
 
 returns-5 : tie.Need-returns-5
@@ -38,7 +38,7 @@ returns-5 c =
     let e = c .before .before in
     let n = e .before .before in
     let m = n .before in
-    no-terminal _ _ _ _ _ _ _ (m .before .if1 .left) (m .if2 .left) (n .if3 .left) (well-fay e)
+    no-terminal _ (m .before .if1 .left) (m .if2 .left) (n .if3 .left) (well-fay e)
     (sym (c .before .is-terminal .ensures) ∙ not-true _ (c .if5 .taken))
 
 returns-6 : tie.Need-returns-6
@@ -47,7 +47,7 @@ returns-6 c =
     let e = f .before .before in
     let n = e .before .before in
     let m = n .before in
-    no-resource _ _ _ _ _ _ _ (m .before .if1 .left) (m .if2 .left) (n .if3 .left) (well-fay e) (well-terminal f)
+    no-resource _ (m .before .if1 .left) (m .if2 .left) (n .if3 .left) (well-fay e) (well-terminal f)
     (sym (c .before .is-resource .ensures) ∙ not-true _ (c .if6 .taken))
 
 returns-7 : tie.Need-returns-7
@@ -56,7 +56,7 @@ returns-7 c =
     let e = f .before .before in
     let n = e .before .before in
     let m = n .before in
-    list-left _ _ _ _ _ _ _ (m .before .if1 .left) (m .if2 .left) (n .if3 .left) (well-fay e) (well-terminal f)
+    list-left _ (m .before .if1 .left) (m .if2 .left) (n .if3 .left) (well-fay e) (well-terminal f)
     (sym (c .before .is-resource .ensures) ∙ not-false _ (c .if6 .left))
 
 pub well-formed-spec : {M : Type 1} → statement M

@@ -1,4 +1,4 @@
--- Laws of the arguments of a request and of the list of ids (specs/Asked.antt), in the code's own form. Assumes nothing.
+-- Laws of the arguments of a request and of the list of ids (specs/Request.antt), in the code's own form. Assumes nothing.
 use mathlib.Core.Path.{_≡_, refl, sym, ap, _∙_}
 use mathlib.Core.Bool.{Bool, true, false, _&&_}
 use mathlib.Core.List.{List}
@@ -14,63 +14,64 @@ use Rattle.resource.specs.Text.{resourceOk}
 use Rattle.steps.specs.Key.{isVerdict}
 use Rattle.image.specs.Layout.{idSize}
 use Rattle.octets.proofs.ListLaws.{lent-part}
-use Rattle.request.specs.Asked.{wellFormed, listedAmong, isListed}
+use Rattle.request.specs.Request.{Request, highestMode, wellFormed, listedAmong, isListed}
 
 -- ---- the arguments
 
-module _ (id fay terminal resource : List ℕ) (mode : ℕ) (revoked : List ℕ) (verdict : ℕ) where
+module _ (q : Request) where
   -- Another verdict is malformed.
-  pub no-verdict : 2 < verdict → false ≡ wellFormed id fay terminal resource mode revoked verdict
+  pub no-verdict : 2 < q .verdict → false ≡ wellFormed q
   unfolding wellFormed isVerdict
-  no-verdict h = sym (rw (lt-leb verdict 2 h))
+  no-verdict h = sym (rw (lt-leb (q .verdict) 2 h))
 
   -- So is another mode.
-  pub no-mode : verdict ≤ 2 → 3 < mode → false ≡ wellFormed id fay terminal resource mode revoked verdict
+  pub no-mode : q .verdict ≤ 2 → highestMode < q .mode → false ≡ wellFormed q
   unfolding wellFormed isVerdict
-  no-mode h k = sym (rw (le-leb verdict 2 h, lt-leb mode 3 k))
+  no-mode h k = sym (rw (le-leb (q .verdict) 2 h, lt-leb (q .mode) highestMode k))
 
-  -- So is an id that is not 16 bytes.
-  pub no-id : verdict ≤ 2 → mode ≤ 3 → (length id ≡ 16 → ⊥) → false ≡ wellFormed id fay terminal resource mode revoked verdict
+  -- So is an id of another size.
+  pub no-id : q .verdict ≤ 2 → q .mode ≤ highestMode → (length (q .id) ≡ idSize → ⊥) → false ≡ wellFormed q
   unfolding wellFormed isVerdict
-  no-id h k l = sym (rw (le-leb verdict 2 h, le-leb mode 3 k, ne-eqb (length id) 16 l))
+  no-id h k l = sym (rw (le-leb (q .verdict) 2 h, le-leb (q .mode) highestMode k, ne-eqb (length (q .id)) idSize l))
 
-  module _ (h : verdict ≤ 2) (k : mode ≤ 3) (l : length id ≡ 16) where
+  module _ (h : q .verdict ≤ 2) (k : q .mode ≤ highestMode) (l : length (q .id) ≡ idSize) where
     -- Else the identifiers tell, and the length of the list.
-    texts-left : wellFormed id fay terminal resource mode revoked verdict
-        ≡ (isFay fay && (isTerminal terminal && (resourceOk resource && eqb (length revoked % 16) 0)))
+    texts-left : wellFormed q
+        ≡ (isFay (q .fay) && (isTerminal (q .terminal) && (resourceOk (q .resource) && eqb (length (q .revoked) % idSize) 0)))
     unfolding wellFormed isVerdict
-    texts-left = rw (le-leb verdict 2 h, le-leb mode 3 k, eq-eqb (length id) 16 l)
+    texts-left = rw (le-leb (q .verdict) 2 h, le-leb (q .mode) highestMode k, eq-eqb (length (q .id)) idSize l)
 
     -- A text that is no fay id is malformed.
-    pub no-fay : isFay fay ≡ false → false ≡ wellFormed id fay terminal resource mode revoked verdict
+    pub no-fay : isFay (q .fay) ≡ false → false ≡ wellFormed q
     no-fay e = sym (texts-left ∙ rw e)
 
-    -- So is one that is no terminal id.
-    pub no-terminal : isFay fay ≡ true → isTerminal terminal ≡ false → false ≡ wellFormed id fay terminal resource mode revoked verdict
-    no-terminal e f = sym (texts-left ∙ rw (e, f))
+    module _ (e : isFay (q .fay) ≡ true) where
+      -- So is one that is no terminal id.
+      pub no-terminal : isTerminal (q .terminal) ≡ false → false ≡ wellFormed q
+      no-terminal f = sym (texts-left ∙ rw (e, f))
 
-    -- So is one that is no resource id.
-    pub no-resource : isFay fay ≡ true → isTerminal terminal ≡ true → resourceOk resource ≡ false
-        → false ≡ wellFormed id fay terminal resource mode revoked verdict
-    no-resource e f g = sym (texts-left ∙ rw (e, f, g))
+      -- So is one that is no resource id.
+      pub no-resource : isTerminal (q .terminal) ≡ true → resourceOk (q .resource) ≡ false → false ≡ wellFormed q
+      no-resource f g = sym (texts-left ∙ rw (e, f, g))
 
-    -- Else the length of the list tells.
-    pub list-left : isFay fay ≡ true → isTerminal terminal ≡ true → resourceOk resource ≡ true
-        → eqb (length revoked % 16) 0 ≡ wellFormed id fay terminal resource mode revoked verdict
-    list-left e f g = sym (texts-left ∙ rw (e, f, g))
+      -- Else the length of the list tells.
+      pub list-left : isTerminal (q .terminal) ≡ true → resourceOk (q .resource) ≡ true → eqb (length (q .revoked) % idSize) 0 ≡ wellFormed q
+      list-left f g = sym (texts-left ∙ rw (e, f, g))
 
-  module _ (w : wellFormed id fay terminal resource mode revoked verdict ≡ true) where
-    -- The mode of well-formed arguments is at most 3.
-    pub formed-mode : mode ≤ 3
+  module _ (w : wellFormed q ≡ true) where
+    -- The mode of well-formed arguments is one of the four.
+    pub formed-mode : q .mode ≤ highestMode
     unfolding wellFormed
-    formed-mode = leb-true mode 3 (and-left (leb mode 3) _ (and-right (isVerdict verdict) _ w))
+    formed-mode = leb-true (q .mode) highestMode (and-left (leb (q .mode) highestMode) _ (and-right (isVerdict (q .verdict)) _ w))
 
     -- Their resource is a resource id.
-    pub formed-resource : resourceOk resource ≡ true
+    pub formed-resource : resourceOk (q .resource) ≡ true
     unfolding wellFormed
     formed-resource =
-        and-left (resourceOk resource) (eqb (length revoked % 16) 0)
-        (and-right (isTerminal terminal) _ (and-right (isFay fay) _ (and-right (eqb (length id) 16) _ (and-right (leb mode 3) _ (and-right (isVerdict verdict) _ w)))))
+        and-left (resourceOk (q .resource)) (eqb (length (q .revoked) % idSize) 0)
+        (and-right (isTerminal (q .terminal)) _
+        (and-right (isFay (q .fay)) _
+        (and-right (eqb (length (q .id)) idSize) _ (and-right (leb (q .mode) highestMode) _ (and-right (isVerdict (q .verdict)) _ w)))))
 
 -- ---- the list of ids
 

@@ -1,4 +1,4 @@
--- What a request asks, and which arguments are well formed. Document 01, "A request, in this order".
+-- A request's arguments, and which are well formed. Document 01, "A request, in this order".
 use mathlib.Core.Bool.{Bool, true, false, _&&_}
 use mathlib.Core.List.{List}
 use Prim.Native.Nat.{ℕ, zero, suc, _*_, _/_, _%_}
@@ -14,7 +14,7 @@ use Rattle.image.specs.Layout.{idSize}
 -- the arguments of a request but for the image: the descriptor's id, the fay, the terminal and the resource that ask; the mode; the
 -- clock and the host's session length, in seconds; the ids that are revoked, one after the other; the host's verdict on the signature,
 -- and the key's window
-pub record Asked : Type 0 where
+pub record Request : Type 0 where
   pub id : List ℕ
   pub fay : List ℕ
   pub terminal : List ℕ
@@ -27,8 +27,8 @@ pub record Asked : Type 0 where
   pub window : Window
 
 -- the same, from the arguments in the order of the call
-abbrev pub asked : List ℕ → List ℕ → List ℕ → List ℕ → ℕ → ℕ → ℕ → List ℕ → ℕ → Window → Asked
-asked id fay terminal resource mode clock session revoked verdict window =
+abbrev pub requestOf : List ℕ → List ℕ → List ℕ → List ℕ → ℕ → ℕ → ℕ → List ℕ → ℕ → Window → Request
+requestOf id fay terminal resource mode clock session revoked verdict window =
     record {
       id = id;
       fay = fay;
@@ -46,12 +46,13 @@ asked id fay terminal resource mode clock session revoked verdict window =
 abbrev pub highestMode : ℕ
 highestMode = 3
 
--- the arguments are well formed
-unfoldable pub wellFormed : List ℕ → List ℕ → List ℕ → List ℕ → ℕ → List ℕ → ℕ → Bool
-wellFormed id fay terminal resource mode revoked verdict =
-    isVerdict verdict
-    && (leb mode highestMode
-    && (eqb (length id) idSize && (isFay fay && (isTerminal terminal && (resourceOk resource && eqb (length revoked % idSize) 0)))))
+-- the arguments are well formed: the verdict, the mode, the id's size, the fay, terminal and resource ids, and the list's size
+unfoldable pub wellFormed : Request → Bool
+wellFormed q =
+    isVerdict (q .verdict)
+    && (leb (q .mode) highestMode
+    && (eqb (length (q .id)) idSize
+    && (isFay (q .fay) && (isTerminal (q .terminal) && (resourceOk (q .resource) && eqb (length (q .revoked) % idSize) 0)))))
 
 -- the id is one of the first n of the list
 unfoldable pub listedAmong : List ℕ → List ℕ → ℕ → Bool

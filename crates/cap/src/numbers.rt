@@ -50,7 +50,7 @@ pub(crate) fn of_item(item: Item) -> ItemNumbers
         Item::Text { start, len, next } => numbered(3, len as u64, start, len, next),
         Item::Array { count, next } => numbered(4, count, 0, 0, next),
         Item::Map { count, next } => numbered(5, count, 0, 0, next),
-        Item::Malformed => ItemNumbers {
+        Item::Structure => ItemNumbers {
             answer: 1,
             kind: 0,
             number: 0,

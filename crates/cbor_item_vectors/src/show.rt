@@ -69,7 +69,7 @@ fn item_at(s: &[u8], at: usize) -> usize {
             number(b"map of", count);
             end(next)
         }
-        Item::Malformed => {
+        Item::Structure => {
             io::write_all(1, b"refused, 1\n");
             s.len()
         }

@@ -14,7 +14,7 @@ use Rattle.octets.proofs.ScanLaws.{without-append, without-first, without-rest}
 use Rattle.octets.proofs.Tests.{by-cond}
 use Rattle.match_lines.specs.declared.Verdict.{Verdict}
 use Rattle.match_lines.specs.declared.Verdict.the-variants.{IsYes, IsNo, IsBad}
-use Rattle.match_lines.specs.Lines.{longestLine, word, verdict, lastLine, answersFrom}
+use Rattle.match_lines.specs.Lines.{longestLine, verdictLine, verdict, lastLine, answersFrom}
 use Rattle.match_lines.specs.Block.{Fed, verdictIf, keptOf, after, fedFrom, fed, ended}
 use Rattle.match_lines.specs.Promises.{concat, writtenFrom}
 
@@ -22,7 +22,7 @@ use Rattle.match_lines.specs.Promises.{concat, writtenFrom}
 
 -- a newline first: the line that has begun is answered
 pub fed-newline : (long : Bool) (begun : List ℕ) (b : ℕ) (bs : List ℕ) → eqb b 10 ≡ true
-    → fedFrom long begun (b ∷ bs) ≡ after (word (verdictIf long begun)) (fedFrom false [] bs)
+    → fedFrom long begun (b ∷ bs) ≡ after (verdictLine (verdictIf long begun)) (fedFrom false [] bs)
 unfolding fedFrom
 fed-newline long begun b bs e = rw (e, fedFrom)
 
@@ -34,7 +34,7 @@ fed-byte long begun b bs e = rw (e, fedFrom)
 
 -- the same of the answers to an input
 pub answers-newline : (begun : List ℕ) (b : ℕ) (bs : List ℕ) → eqb b 10 ≡ true
-    → answersFrom begun (b ∷ bs) ≡ word (verdict begun) ++ answersFrom [] bs
+    → answersFrom begun (b ∷ bs) ≡ verdictLine (verdict begun) ++ answersFrom [] bs
 unfolding answersFrom
 answers-newline begun b bs e = rw (e, answersFrom)
 
@@ -46,7 +46,7 @@ answers-byte begun b bs e = rw (e, answersFrom)
 -- what holds of an empty block, and of each other block if it holds of that block without its first byte, holds of all
 module _ (P : Bool → List ℕ → List ℕ → Fed → Type 0)
     (at-end : (long : Bool) (begun : List ℕ) → P long begun [] (keptOf long begun))
-    (at-newline : (long : Bool) (begun : List ℕ) (b : ℕ) (bs : List ℕ) (f : Fed) → eqb b 10 ≡ true → P false [] bs f → P long begun (b ∷ bs) (after (word (verdictIf long begun)) f))
+    (at-newline : (long : Bool) (begun : List ℕ) (b : ℕ) (bs : List ℕ) (f : Fed) → eqb b 10 ≡ true → P false [] bs f → P long begun (b ∷ bs) (after (verdictLine (verdictIf long begun)) f))
     (at-byte : (long : Bool) (begun : List ℕ) (b : ℕ) (bs : List ℕ) (f : Fed) → eqb b 10 ≡ false → P long (begun ++ (b ∷ [])) bs f → P long begun (b ∷ bs) f)
   where
     by-fed : (long : Bool) (begun s : List ℕ) → P long begun s (fedFrom long begun s)
@@ -102,8 +102,8 @@ pub kept-end : (long : Bool) (s : List ℕ) → (drop (length s - length (fed lo
     × (length (fed long s .kept) ≤ longestLine)
 kept-end long s = let r = fed-ends long [] s in (drop-end (r .0) (fed long s .kept) s (r .1), r .2)
 
--- a word has four bytes at most
-pub word-le : (v : Verdict) → length (word v) ≤ 4
+-- a verdict's line has four bytes at most
+pub word-le : (v : Verdict) → length (verdictLine v) ≤ 4
 word-le IsYes = omega arith
 word-le IsNo = omega arith
 word-le IsBad = omega arith
@@ -117,7 +117,7 @@ kept-out long begun = by-cond (λ (f : Fed). f .out ≡ []) (long || ltb longest
 pub out-four : (long : Bool) (begun s : List ℕ) → length (fedFrom long begun s .out) ≤ 4 * length s
 out-four =
     by-fed (λ long begun s f. length (f .out) ≤ 4 * length s) (λ long begun. rw kept-out (omega arith))
-    (λ long begun b bs f e r. omega (arith, length-append (word (verdictIf long begun)) (f .out), word-le (verdictIf long begun)))
+    (λ long begun b bs f e r. omega (arith, length-append (verdictLine (verdictIf long begun)) (f .out), word-le (verdictIf long begun)))
     (λ long begun b bs f e r. omega arith)
 
 -- ---- blocks and the whole input
@@ -163,9 +163,9 @@ stands-kept (whole l h) =
 stands-kept (tooLong p l h k) = tooLong [] l refl k
 
 -- a line too long is bad at the end of the input
-last-long : (line : List ℕ) → longestLine < length line → lastLine line ≡ word IsBad
+last-long : (line : List ℕ) → longestLine < length line → lastLine line ≡ verdictLine IsBad
 last-long [] h = absurd (omega arith)
-last-long (b ∷ bs) h = ap word (bad-long (b ∷ bs) h)
+last-long (b ∷ bs) h = ap verdictLine (bad-long (b ∷ bs) h)
 
 -- at the end of the input, what is written is the answer to the line
 stands-ended : {long : Bool} {part line : List ℕ} → Stands long part line → ended long part ≡ lastLine line

@@ -8,7 +8,7 @@ use lib.ListN.{length, take, drop}
 use lib.Seq.{append-snoc}
 use borrow.Author.Tests.{ne-eqb, lt-ltb, le-ltb}
 use Rattle.octets.specs.Write.{over}
-use Rattle.match_lines.specs.Lines.{word, verdict, lastLine, answersFrom}
+use Rattle.match_lines.specs.Lines.{verdictLine, verdict, lastLine, answersFrom}
 use Rattle.match_lines.specs.Block.{progressOf, outputOf, bufferOf, endProgress, endOutput}
 use Rattle.match_lines.specs.Promises.{NoNewline, EachLine, LastLine, BlockWritten, BlockKept, BlockRefused, EndWritten, EndRefused}
 use Rattle.match_lines.proofs.BlockLaws.{answers-newline, answers-byte}
@@ -18,7 +18,7 @@ use Rattle.match_lines.proofs.LineLaws.{begun-end}
 
 -- a line that has begun, its other bytes, a newline, and more
 begun-line : (begun line rest : List ℕ) → NoNewline line → answersFrom begun (line ++ (10 ∷ rest))
-    ≡ word (verdict (begun ++ line)) ++ answersFrom [] rest
+    ≡ verdictLine (verdict (begun ++ line)) ++ answersFrom [] rest
 begun-line begun [] rest h = answers-newline begun 10 rest refl ∙ rw append-nil
 begun-line begun (b ∷ bs) rest h =
     answers-byte begun b (bs ++ (10 ∷ rest)) (ne-eqb b 10 (h .0)) ∙ begun-line (begun ++ (b ∷ [])) bs rest (h .1)

@@ -17,7 +17,7 @@ use Rattle.match_lines.specs.declared.Progress.{Progress}
 use Rattle.match_lines.specs.declared.Progress.the-variants.{Done, NoRoom}
 use Rattle.octets.specs.Scan.{bytesBefore}
 use Rattle.octets.specs.Write.{over}
-use Rattle.match_lines.specs.Lines.{longestLine, word, verdictOf, beforeSpace, verdictAt, verdict, lastLine}
+use Rattle.match_lines.specs.Lines.{longestLine, verdictLine, verdictOf, beforeSpace, verdictAt, verdict, lastLine}
 use Rattle.match_lines.specs.Block.{Fed, verdictIf, keptOf, after, fedFrom, fed, ended, lineLength, endOf, progressOf, outputOf}
 use Rattle.match_lines.specs.Block.{bufferOf, endProgress, endOutput}
 use Rattle.octets.proofs.PartLaws.{part-to-end}
@@ -95,7 +95,7 @@ end-done long s from at =
 
 -- a line that ends in the block
 fed-line : (long : Bool) (begun s : List ℕ) → lineLength s < length s
-    → fedFrom long begun s ≡ after (word (verdictIf long (begun ++ take (lineLength s) s))) (fedFrom false [] (drop (suc (lineLength s)) s))
+    → fedFrom long begun s ≡ after (verdictLine (verdictIf long (begun ++ take (lineLength s) s))) (fedFrom false [] (drop (suc (lineLength s)) s))
 unfolding bytesBefore fedFrom
 fed-line long begun [] h = absurd (omega arith)
 fed-line long begun (b ∷ bs) h = go (eqb b 10) refl (fed-line long (begun ++ (b ∷ [])) bs)
@@ -103,9 +103,9 @@ fed-line long begun (b ∷ bs) h = go (eqb b 10) refl (fed-line long (begun ++ (
     go : (t : Bool) → eqb b 10 ≡ t
         → (lineLength bs < length bs
         → fedFrom long (begun ++ (b ∷ [])) bs
-        ≡ after (word (verdictIf long ((begun ++ (b ∷ [])) ++ take (lineLength bs) bs))) (fedFrom false [] (drop (suc (lineLength bs)) bs)))
+        ≡ after (verdictLine (verdictIf long ((begun ++ (b ∷ [])) ++ take (lineLength bs) bs))) (fedFrom false [] (drop (suc (lineLength bs)) bs)))
         → fedFrom long begun (b ∷ bs)
-        ≡ after (word (verdictIf long (begun ++ take (lineLength (b ∷ bs)) (b ∷ bs)))) (fedFrom false [] (drop (suc (lineLength (b ∷ bs))) (b ∷ bs)))
+        ≡ after (verdictLine (verdictIf long (begun ++ take (lineLength (b ∷ bs)) (b ∷ bs)))) (fedFrom false [] (drop (suc (lineLength (b ∷ bs))) (b ∷ bs)))
     go true e f = rw (e, fedFrom, bytesBefore, append-nil begun)
     go false e f =
         let k : lineLength (b ∷ bs) ≡ suc (lineLength bs) = before-other 10 b bs e in
@@ -139,9 +139,9 @@ left-all long s out = record { answer = refl; output = refl }
 module _ (long : Bool) (s out₀ out : List ℕ) (from at : ℕ) (too-long : Bool) (l : Left long s out₀ out from at too-long)
     (h : from ≤ length s)
     (stop : ℕ) (e : stop ≡ from + lineLength (drop from s)) where
-  -- a line that ends in the block: its word is written, and the next line begins
+  -- a line that ends in the block: its verdict is written, and the next line begins
   pub left-next : (stop ≡ length s → ⊥) → at + 4 ≤ length out → (v : Verdict) (next : ℕ) (d : List ℕ)
-      → v ≡ verdictIf too-long (take (stop - from) (drop from s)) → next ≡ at + length (word v) → d ≡ over out at (word v)
+      → v ≡ verdictIf too-long (take (stop - from) (drop from s)) → next ≡ at + length (verdictLine v) → d ≡ over out at (verdictLine v)
       → Left long s out₀ d (stop + 1) next false
   left-next n r v next d f placed written =
       let k : ℕ = lineLength (drop from s) in
@@ -149,13 +149,13 @@ module _ (long : Bool) (s out₀ out : List ℕ) (from at : ℕ) (too-long : Boo
       let past : from + suc k ≡ stop + 1 = omega arith in
       let rest : drop (suc k) (drop from s) ≡ drop (stop + 1) s = drop-drop (suc k) from s ∙ ap (λ (i : ℕ). drop i s) past in
       let g : Fed = fedFrom false [] (drop (stop + 1) s) in
-      let turn : fedFrom too-long [] (drop from s) ≡ after (word v) g =
+      let turn : fedFrom too-long [] (drop from s) ≡ after (verdictLine v) g =
       fed-line too-long [] (drop from s) (omega (arith, before-le 10 (drop from s), length-drop from s)) ∙ rw (f, size, rest) in
-      let sum : at + length (word v ++ g .out) ≡ (at + length (word v)) + length (g .out) = omega (arith, length-append (word v) (g .out)) in
+      let sum : at + length (verdictLine v ++ g .out) ≡ (at + length (verdictLine v)) + length (g .out) = omega (arith, length-append (verdictLine v) (g .out)) in
       rw (placed, written) (record {
         answer = l .answer ∙ ap (done at) turn ∙ ap (λ (i : ℕ). Done i (length (g .kept)) (g .long)) sum;
         output = l .output ∙ ap (λ (x : Fed). over out at (x .out)) turn
-            ∙ sym (over-append out at (word v) (g .out) (omega (arith, word-le v)));
+            ∙ sym (over-append out at (verdictLine v) (g .out) (omega (arith, word-le v)));
       })
 
   -- a line that does not: the block is answered
@@ -261,7 +261,7 @@ module _ (long : Bool) (s out : List ℕ) where
       rw (le-ltb (length out) 4 h, e) (ap (λ (i : ℕ). Done i 0 false) start, g)
 
 -- after a line too long there is one that is bad
-pub ended-long : (long : Bool) (s : List ℕ) → long ≡ true → ended long s ≡ word IsBad
+pub ended-long : (long : Bool) (s : List ℕ) → long ≡ true → ended long s ≡ verdictLine IsBad
 ended-long long s e = rw e
 
 -- nothing is written where nothing is left
@@ -270,7 +270,7 @@ empty-end [] h = refl
 empty-end (b ∷ bs) h = absurd (omega arith)
 
 -- a last line without newline is answered
-pub begun-end : (s : List ℕ) → 0 < length s → lastLine s ≡ word (verdict s)
+pub begun-end : (s : List ℕ) → 0 < length s → lastLine s ≡ verdictLine (verdict s)
 begun-end [] h = absurd (omega arith)
 begun-end (b ∷ bs) h = refl
 
@@ -281,5 +281,5 @@ module _ (long : Bool) (d : List ℕ) (n size : ℕ) (h : size ≤ length d) (sa
   ended-none e = rw (short, ← same) (empty-end (take size d) (omega (arith, length-take-le size d h)))
 
   -- one or more
-  pub ended-some : (size ≡ 0 → ⊥) → (v : Verdict) → v ≡ verdict (take size d) → ended long (take n d) ≡ word v
+  pub ended-some : (size ≡ 0 → ⊥) → (v : Verdict) → v ≡ verdict (take size d) → ended long (take n d) ≡ verdictLine v
   ended-some e v f = rw (short, ← same, f) (begun-end (take size d) (omega (arith, length-take-le size d h)))

@@ -7,7 +7,7 @@ use Rattle.octets.specs.Bytes.{same}
 use Rattle.octets.specs.Scan.{bytesBefore}
 use Rattle.resource.specs.Level.{isNameChar, allNameChars, levels, levelsOk}
 use Rattle.resource.specs.Text.{isResource, isPattern, resourceOk, patternOk, levelsOf, pathOf, patternOf, matching}
-use Rattle.match_lines.specs.Lines.{word, verdictAt, verdict, answersFrom}
+use Rattle.match_lines.specs.Lines.{verdictLine, verdictAt, verdict, answersFrom}
 use Rattle.match_lines.specs.Promises.{YesExactly, NoExactly, BadElse, LongBad, EachLine, LastLine, EmptyInput, WholeCase}
 use Rattle.match_lines.specs.Promises.{BlocksAgree, KeptLast, OutFits, BlockWritten, BlockKept, BlockRefused, EndWritten}
 use Rattle.match_lines.specs.Promises.{EndRefused}
@@ -27,7 +27,7 @@ pub bad-else : BadElse
 bad-else = verdicts.bad-exactly
 
 pub long-bad : LongBad
-long-bad line h = ap word (bad-long line h)
+long-bad line h = ap verdictLine (bad-long line h)
 
 -- ---- an input
 

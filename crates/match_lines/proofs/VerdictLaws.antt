@@ -1,4 +1,4 @@
--- Laws of the word for a line: yes or no where the line has a pattern, a space and a path, and bad for any other line. They stand on
+-- Laws of the verdict on a line: yes or no where the line has a pattern, a space and a path, and bad for any other line. They stand on
 -- what matching promises alone. Assumes nothing.
 use mathlib.Core.Path.{_≡_, refl, sym, ap, _∙_, subst, ap₂}
 use mathlib.Core.Logic.{_↔_, _⊎_, inl, inr, ⊎-elim}
@@ -24,7 +24,7 @@ use Rattle.resource.proofs.Laws.{pattern-spaceless}
 use Rattle.resource.proofs.Promises.{patterns-exact, resources-exact, matching-exact, malformed15}
 use Rattle.match_lines.specs.declared.Verdict.{Verdict}
 use Rattle.match_lines.specs.declared.Verdict.the-variants.{IsYes, IsNo, IsBad}
-use Rattle.match_lines.specs.Lines.{word, verdictOf, beforeSpace, verdictAt, verdict}
+use Rattle.match_lines.specs.Lines.{verdictLine, verdictOf, beforeSpace, verdictAt, verdict}
 use Rattle.match_lines.specs.Promises.{Asks, BadElse}
 
 -- ---- the first space of a line
@@ -147,25 +147,25 @@ bad-or-asks line =
 
 -- ---- the words
 
--- the first byte of a word
+-- the first byte of a verdict's line
 abbrev first : List ℕ → ℕ
 first [] = 0
 first (b ∷ bs) = b
 
--- the word of a line that asks
+-- what is written for a line that asks
 asks-word : (line : List ℕ) (p : Pattern) (x : Path) → Asks line p x
-    → word (verdict line) ≡ cond (admits p x) (codes "yes\n") (codes "no\n")
-asks-word line p x a = ap word (asks-verdict line p x a) ∙ go (admits p x)
+    → verdictLine (verdict line) ≡ cond (admits p x) (codes "yes\n") (codes "no\n")
+asks-word line p x a = ap verdictLine (asks-verdict line p x a) ∙ go (admits p x)
   where
-    go : (b : Bool) → word (verdictFor b) ≡ cond b (codes "yes\n") (codes "no\n")
+    go : (b : Bool) → verdictLine (verdictFor b) ≡ cond b (codes "yes\n") (codes "no\n")
     go true = refl
     go false = refl
 
--- each line has the word bad or asks
-word-or-asks : (line : List ℕ) → (word (verdict line) ≡ codes "bad\n") ⊎ Question line
-word-or-asks line = ⊎-elim (λ e. inl (ap word e)) (λ q. inr q) (bad-or-asks line)
+-- each line is answered bad or asks
+word-or-asks : (line : List ℕ) → (verdictLine (verdict line) ≡ codes "bad\n") ⊎ Question line
+word-or-asks line = ⊎-elim (λ e. inl (ap verdictLine e)) (λ q. inr q) (bad-or-asks line)
 
--- the word of a line says whether its pattern matches its path
+-- what is written for a line says whether its pattern matches its path
 word-says : (b c : Bool) → cond b (codes "yes\n") (codes "no\n") ≡ cond c (codes "yes\n") (codes "no\n") → b ≡ c
 word-says true true e = refl
 word-says true false e = absurd (omega (arith, ap first e))
@@ -177,9 +177,9 @@ bad-apart : (b : Bool) → codes "bad\n" ≡ cond b (codes "yes\n") (codes "no\n
 bad-apart true e = omega (arith, ap first e)
 bad-apart false e = omega (arith, ap first e)
 
--- a word of the two is written exactly for the lines with that answer
+-- each of the two is written exactly for the lines with that answer
 pub word-exactly : (b : Bool) (line : List ℕ)
-    → (word (verdict line) ≡ cond b (codes "yes\n") (codes "no\n")) ↔ ((p : Pattern) × (x : Path) × Asks line p x × (admits p x ≡ b))
+    → (verdictLine (verdict line) ≡ cond b (codes "yes\n") (codes "no\n")) ↔ ((p : Pattern) × (x : Path) × Asks line p x × (admits p x ≡ b))
 word-exactly b line = (
   λ e. ⊎-elim (λ f. absurd (bad-apart b (sym f ∙ e)))
       (λ q. (q .0, q .1, q .2, word-says (admits (q .0) (q .1)) b (sym (asks-word line (q .0) (q .1) (q .2)) ∙ e)))

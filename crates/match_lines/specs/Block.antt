@@ -12,7 +12,7 @@ use Rattle.match_lines.specs.declared.Verdict.{Verdict}
 use Rattle.match_lines.specs.declared.Verdict.the-variants.{IsBad}
 use Rattle.match_lines.specs.declared.Progress.{Progress}
 use Rattle.match_lines.specs.declared.Progress.the-variants.{Done, NoRoom}
-use Rattle.match_lines.specs.Lines.{longestLine, word, verdict, lastLine}
+use Rattle.match_lines.specs.Lines.{longestLine, verdictLine, verdict, lastLine}
 
 -- what comes of a block: what is written, the bytes that are kept of a line that has begun, and whether that line is too long
 pub record Fed : Type 0 where
@@ -38,7 +38,7 @@ after w f = record { out = w ++ f .out; kept = f .kept; long = f .long }
 unfoldable pub fedFrom : Bool → List ℕ → List ℕ → Fed
 fedFrom long begun [] = keptOf long begun
 fedFrom long begun (b ∷ bs) = elim (eqb b 10) [
-  | true ↦ after (word (verdictIf long begun)) (fedFrom false [] bs)
+  | true ↦ after (verdictLine (verdictIf long begun)) (fedFrom false [] bs)
   | false ↦ fedFrom long (begun ++ (b ∷ [])) bs
 ]
 
@@ -48,7 +48,7 @@ fed long s = fedFrom long [] s
 
 -- the end of the input
 abbrev pub ended : Bool → List ℕ → List ℕ
-ended true kept = word IsBad
+ended true kept = verdictLine IsBad
 ended false kept = lastLine kept
 
 -- ---- what the code answers

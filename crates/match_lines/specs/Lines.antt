@@ -1,4 +1,4 @@
--- What the matching tool answers. A reader of the promises does not need this page: they say for which lines each word is written. As
+-- What the matching tool answers. A reader of the promises does not need this page: they say for which lines each verdict is written. As
 -- document 01 has it ("Matching tool"), a line is `pattern resource` with one space, at most 600 bytes; yes, no or bad is written for
 -- each.
 use mathlib.Core.Bool.{true, false, cond}
@@ -18,10 +18,10 @@ abbrev pub longestLine : ℕ
 longestLine = 600
 
 -- "yes", "no" or "bad", and a newline
-abbrev pub word : Verdict → List ℕ
-word IsYes = 121 ∷ 101 ∷ 115 ∷ 10 ∷ []
-word IsNo = 110 ∷ 111 ∷ 10 ∷ []
-word IsBad = 98 ∷ 97 ∷ 100 ∷ 10 ∷ []
+abbrev pub verdictLine : Verdict → List ℕ
+verdictLine IsYes = 121 ∷ 101 ∷ 115 ∷ 10 ∷ []
+verdictLine IsNo = 110 ∷ 111 ∷ 10 ∷ []
+verdictLine IsBad = 98 ∷ 97 ∷ 100 ∷ 10 ∷ []
 
 -- bad is also for what matching answers with 15
 abbrev pub verdictOf : Matching → Verdict
@@ -44,13 +44,13 @@ verdict line = cond (leb (length line) longestLine) (verdictAt line (beforeSpace
 -- a last line without newline is answered; nothing is written where there is none
 abbrev pub lastLine : List ℕ → List ℕ
 lastLine [] = []
-lastLine (b ∷ bs) = word (verdict (b ∷ bs))
+lastLine (b ∷ bs) = verdictLine (verdict (b ∷ bs))
 
 -- what is written for an input whose first line has begun with the bytes `begun`
 unfoldable pub answersFrom : List ℕ → List ℕ → List ℕ
 answersFrom begun [] = lastLine begun
 answersFrom begun (b ∷ bs) = elim (eqb b 10) [
-  | true ↦ word (verdict begun) ++ answersFrom [] bs
+  | true ↦ verdictLine (verdict begun) ++ answersFrom [] bs
   | false ↦ answersFrom (begun ++ (b ∷ [])) bs
 ]
 

@@ -9,7 +9,7 @@ use lib.ListN.{length, take, drop}
 use Rattle.resource.specs.Characters.{codes}
 use Rattle.resource.specs.Pattern.{Path, IsPath, pathText, Pattern, IsPattern, patternText, admits}
 use Rattle.match_lines.specs.declared.Progress.the-variants.{Done, NoRoom}
-use Rattle.match_lines.specs.Lines.{word, verdict, answers}
+use Rattle.match_lines.specs.Lines.{verdictLine, verdict, answers}
 use Rattle.match_lines.specs.Block.{fed, ended, progressOf, outputOf, bufferOf, endProgress, endOutput}
 
 -- ---- a line
@@ -24,19 +24,19 @@ pub record Asks (line : List ℕ) (p : Pattern) (x : Path) : Type 0 where
 
 -- yes is written for a line exactly when it has a pattern and a path that the pattern matches
 abbrev pub YesExactly : Type 0
-YesExactly = (line : List ℕ) → (word (verdict line) ≡ codes "yes\n") ↔ ((p : Pattern) × (x : Path) × Asks line p x × (admits p x ≡ true))
+YesExactly = (line : List ℕ) → (verdictLine (verdict line) ≡ codes "yes\n") ↔ ((p : Pattern) × (x : Path) × Asks line p x × (admits p x ≡ true))
 
 -- no is written for a line exactly when it has a pattern and a path that the pattern does not match
 abbrev pub NoExactly : Type 0
-NoExactly = (line : List ℕ) → (word (verdict line) ≡ codes "no\n") ↔ ((p : Pattern) × (x : Path) × Asks line p x × (admits p x ≡ false))
+NoExactly = (line : List ℕ) → (verdictLine (verdict line) ≡ codes "no\n") ↔ ((p : Pattern) × (x : Path) × Asks line p x × (admits p x ≡ false))
 
 -- bad is written for any other line
 abbrev pub BadElse : Type 0
-BadElse = (line : List ℕ) → (word (verdict line) ≡ codes "bad\n") ↔ ((p : Pattern) (x : Path) → Asks line p x → ⊥)
+BadElse = (line : List ℕ) → (verdictLine (verdict line) ≡ codes "bad\n") ↔ ((p : Pattern) (x : Path) → Asks line p x → ⊥)
 
 -- bad is written for a line of more than 600 bytes
 abbrev pub LongBad : Type 0
-LongBad = (line : List ℕ) → 600 < length line → word (verdict line) ≡ codes "bad\n"
+LongBad = (line : List ℕ) → 600 < length line → verdictLine (verdict line) ≡ codes "bad\n"
 
 -- ---- an input
 
@@ -47,11 +47,11 @@ NoNewline (b ∷ bs) = (b ≡ 10 → ⊥) × NoNewline bs
 
 -- one answer is written for each line, in the order of the lines
 abbrev pub EachLine : Type 0
-EachLine = (line rest : List ℕ) → NoNewline line → answers (line ++ (codes "\n" ++ rest)) ≡ word (verdict line) ++ answers rest
+EachLine = (line rest : List ℕ) → NoNewline line → answers (line ++ (codes "\n" ++ rest)) ≡ verdictLine (verdict line) ++ answers rest
 
 -- a last line without newline is answered
 abbrev pub LastLine : Type 0
-LastLine = (line : List ℕ) → NoNewline line → 0 < length line → answers line ≡ word (verdict line)
+LastLine = (line : List ℕ) → NoNewline line → 0 < length line → answers line ≡ verdictLine (verdict line)
 
 -- empty input writes nothing
 abbrev pub EmptyInput : Type 0

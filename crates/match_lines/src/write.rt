@@ -6,14 +6,14 @@ ghost use mathlib.Core.Path.{_≡_};
 ghost use Prim.Native.Nat.{_+_, _≤_};
 ghost use lib.ListN.{length, take, drop};
 ghost use Rattle.octets.specs.Write.{over};
-ghost use Rattle.match_lines.specs.Lines.{word};
+ghost use Rattle.match_lines.specs.Lines.{verdictLine};
 ghost use Rattle.match_lines.specs.Block.{endOf, progressOf, outputOf, bufferOf, endProgress, endOutput};
 
-// Writes a verdict's word at a place of `out`, and answers the place after it.
+// Writes a verdict's line at a place of `out`, and answers the place after it.
 fn put(out: &mut [u8], at: usize, v: Verdict) -> usize
     requires { ⌜ at + 4 ≤ length (now out) ⌝ }
-    ensures place { λ r. ⌜ r ≡ at + length (word v) ⌝ }
-    ensures holds { λ r. ⌜ now (out .exit) ≡ over (now (out .entry)) at (word v) ⌝ }
+    ensures place { λ r. ⌜ r ≡ at + length (verdictLine v) ⌝ }
+    ensures holds { λ r. ⌜ now (out .exit) ≡ over (now (out .entry)) at (verdictLine v) ⌝ }
 {
     match v {
         Verdict::IsYes => {

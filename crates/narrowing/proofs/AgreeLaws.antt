@@ -25,14 +25,14 @@ use Rattle.narrowing.specs.declared.search.Found.the-variants.{At, Nothi
 use Rattle.narrowing.specs.Escape.{Rule, covered, canTake, escapesWith, deepest, choose, least, isSome, orZero, fewestNames}
 use Rattle.narrowing.specs.Escape.{lowestMode, ruleAt, firstRule}
 use Rattle.narrowing.specs.Range.{most}
-use Rattle.narrowing.specs.Scan.{below, notedAt, lacksAt, foundAt, lowestFrom, lowestIn, zeros, escapeIn, orNext, firstIn}
+use Rattle.narrowing.specs.Scan.{below, markedAt, lacksAt, foundAt, lowestFrom, lowestIn, zeros, escapeIn, orNext, firstIn}
 use Rattle.narrowing.specs.Narrow.{rulesIn, answerAt}
 use Rattle.narrowing.specs.Laws.{rulesOf}
 use Rattle.narrowing.proofs.RuleLaws.{ruleFor}
 use Rattle.narrowing.proofs.LeastLaws.{least-fails, least-same}
 use Rattle.narrowing.proofs.SearchLaws.{with-last}
 use Rattle.narrowing.proofs.ReadLaws.{turn-rules, turn-count, read-turn}
-use Rattle.narrowing.proofs.NotedLaws.{patternWith, pattern-seen, turn-few, zeros-lack, noted-covered, other-covered}
+use Rattle.narrowing.proofs.MarkedLaws.{patternWith, pattern-seen, turn-few, zeros-lack, marked-covered, other-covered}
 
 -- ---- searches
 
@@ -145,11 +145,11 @@ lowest-found qs g d from to m (suc n) h =
 abbrev ruleWith : ℕ → List ℕ → List ℕ → Rule
 ruleWith mask u p = record { mask = mask; pattern = patternWith u p }
 
--- where the terminal ids are the same, the masks noted tell; where they are not, the zeros do
-told : (s t u p : List ℕ) {n at : ℕ} {gs : List Grant} → InTurn s t n at gs → (own : Bool) → same t u ≡ own
-    → Told (rulesOf gs) (patternWith u p) (cond own (notedAt s p zeros n at) zeros)
+-- where the terminal ids are the same, the masks marked tell; where they are not, the zeros do
+told : (s t u p : List ℕ) {n at : ℕ} {gs : List Grant} → InTurn s t n at gs → (shared : Bool) → same t u ≡ shared
+    → Told (rulesOf gs) (patternWith u p) (cond shared (markedAt s p zeros n at) zeros)
 told s t u p {gs = gs} st true e m k c h =
-    noted-covered s t p st m k c h ∙ ap (λ (x : List ℕ). covered (rulesOf gs) m (patternWith x p) k) (same-equal t u e)
+    marked-covered s t p st m k c h ∙ ap (λ (x : List ℕ). covered (rulesOf gs) m (patternWith x p) k) (same-equal t u e)
 told s t u p st false e m k c h = zeros-lack m k ∙ sym (other-covered s t u p st e m k)
 
 -- masks that tell give the lowest mode with its fewest names
@@ -165,18 +165,18 @@ escape-found : (s t u p : List ℕ) (mask : ℕ) {n at : ℕ} {gs : List Grant} 
     → escapeIn s at n (same t u) p mask ≡ foundOf (rulesOf gs) (ruleWith mask u p) (lowestMode (rulesOf gs) (ruleWith mask u p))
 unfolding escapeIn lowestIn
 escape-found s t u p mask {n = n} {at = at} {gs = gs} st =
-    masks-found (rulesOf gs) (ruleWith mask u p) (cond (same t u) (notedAt s p zeros n at) zeros) (told s t u p st (same t u) refl)
+    masks-found (rulesOf gs) (ruleWith mask u p) (cond (same t u) (markedAt s p zeros n at) zeros) (told s t u p st (same t u) refl)
     (turn-few s t st)
     (endsDeep (levelsOf (levels p))) refl
 
 -- ---- the rules of the child
 
 -- one grant of the child that is read
-first-step : (s : List ℕ) (at count : ℕ) (own : Bool) (t : List ℕ) (i n from next : ℕ) (g : GrantSeen) → grantAt t from ≡ got g next
-    → firstIn s at count own t i (suc n) from
-    ≡ orNext i (escapeIn s at count own (below t (g .pattern)) (g .mask)) (firstIn s at count own t (suc i) n next)
+first-step : (s : List ℕ) (at count : ℕ) (shared : Bool) (t : List ℕ) (i n from next : ℕ) (g : GrantSeen) → grantAt t from ≡ got g next
+    → firstIn s at count shared t i (suc n) from
+    ≡ orNext i (escapeIn s at count shared (below t (g .pattern)) (g .mask)) (firstIn s at count shared t (suc i) n next)
 unfolding firstIn
-first-step s at count own t i n from next g e = rw (firstIn, e, add-one)
+first-step s at count shared t i n from next g e = rw (firstIn, e, add-one)
 
 -- an escape by a rule comes before those by the next rules
 answer-step : (qs cs : List Rule) (i : ℕ) (rest : Option ℕ)

@@ -20,7 +20,7 @@ use Rattle.narrowing.specs.declared.range.Range.{Range}
 use Rattle.narrowing.specs.declared.search.Found.the-variants.{Nothing}
 use Rattle.narrowing.specs.Escape.{least}
 use Rattle.narrowing.specs.Range.{inRange, most, textRange}
-use Rattle.narrowing.specs.Scan.{rowStart, rowEnd, rowMask, rowLevels, notedRows, lacksAt, lowestFrom, lowestIn, zeros, EscapeOf}
+use Rattle.narrowing.specs.Scan.{rowStart, rowEnd, rowMask, rowLevels, markedRows, lacksAt, lowestFrom, lowestIn, zeros, EscapeOf}
 use Rattle.narrowing.specs.Scan.{fullRange, rowCovers}
 use Rattle.narrowing.proofs.LeastLaws.{least-fails}
 use Rattle.narrowing.proofs.RangeLaws.{marked-at, or-mode}
@@ -49,7 +49,7 @@ pub low-high : (deep : Bool) → low deep ≤ high deep
 low-high true = omega arith
 low-high false = omega arith
 
--- no mask is noted for more
+-- no mask is marked for more
 pub high-most : (deep : Bool) → high deep ≤ most
 high-most true = omega arith
 high-most false = omega arith
@@ -90,35 +90,35 @@ pub joined : (x y m : ℕ) → hasMode y m ≡ true → hasMode (bitOr x y) m �
 joined x y m h = or-mode x y m ∙ ap (λ (c : Bool). hasMode x m || c) h ∙ or-true (hasMode x m)
 
 module _ (s t p d : List ℕ) (m k : ℕ) (l : k < length d) where
-  -- the mask at k, after one row more is noted
-  row-at : (n : ℕ) → (let x = getD (notedRows s t p d n) k 0 in
-      getD (notedRows s t p d (suc n)) k 0 ≡ cond (inRange (textRange (rowLevels s t n) p) k) (bitOr x (rowMask t n)) x)
-  unfolding notedRows
-  row-at n = marked-at (notedRows s t p d n) (textRange (rowLevels s t n) p) (rowMask t n) k (omega (arith, rows-length s t p d n))
+  -- the mask at k, after one row more is marked
+  row-at : (n : ℕ) → (let x = getD (markedRows s t p d n) k 0 in
+      getD (markedRows s t p d (suc n)) k 0 ≡ cond (inRange (textRange (rowLevels s t n) p) k) (bitOr x (rowMask t n)) x)
+  unfolding markedRows
+  row-at n = marked-at (markedRows s t p d n) (textRange (rowLevels s t n) p) (rowMask t n) k (omega (arith, rows-length s t p d n))
 
   -- it keeps its modes
-  row-keeps : (n : ℕ) → hasMode (getD (notedRows s t p d n) k 0) m ≡ true → hasMode (getD (notedRows s t p d (suc n)) k 0) m ≡ true
+  row-keeps : (n : ℕ) → hasMode (getD (markedRows s t p d n) k 0) m ≡ true → hasMode (getD (markedRows s t p d (suc n)) k 0) m ≡ true
   row-keeps n h =
-      ap (λ (y : ℕ). hasMode y m) (row-at n) ∙ kept (inRange (textRange (rowLevels s t n) p) k) (getD (notedRows s t p d n) k 0)
+      ap (λ (y : ℕ). hasMode y m) (row-at n) ∙ kept (inRange (textRange (rowLevels s t n) p) k) (getD (markedRows s t p d n) k 0)
       (rowMask t n) m h
 
   -- after n rows it has the modes that it had after i of them
-  pub rows-keep : (i : ℕ) → hasMode (getD (notedRows s t p d i) k 0) m ≡ true → (n : ℕ) → i ≤ n
-      → hasMode (getD (notedRows s t p d n) k 0) m ≡ true
-  rows-keep i h zero g = let this : i ≡ 0 = omega arith in subst (λ (j : ℕ). hasMode (getD (notedRows s t p d j) k 0) m ≡ true) this h
+  pub rows-keep : (i : ℕ) → hasMode (getD (markedRows s t p d i) k 0) m ≡ true → (n : ℕ) → i ≤ n
+      → hasMode (getD (markedRows s t p d n) k 0) m ≡ true
+  rows-keep i h zero g = let this : i ≡ 0 = omega arith in subst (λ (j : ℕ). hasMode (getD (markedRows s t p d j) k 0) m ≡ true) this h
   rows-keep i h (suc n) g = go (decLt i (suc n)) (λ e. row-keeps n (rows-keep i h n e))
     where
-      go : Dec (i < suc n) → (i ≤ n → hasMode (getD (notedRows s t p d (suc n)) k 0) m ≡ true)
-          → hasMode (getD (notedRows s t p d (suc n)) k 0) m ≡ true
+      go : Dec (i < suc n) → (i ≤ n → hasMode (getD (markedRows s t p d (suc n)) k 0) m ≡ true)
+          → hasMode (getD (markedRows s t p d (suc n)) k 0) m ≡ true
       go (yes e) f = f (omega arith)
-      go (no e) f = let this : i ≡ suc n = omega arith in subst (λ (j : ℕ). hasMode (getD (notedRows s t p d j) k 0) m ≡ true) this h
+      go (no e) f = let this : i ≡ suc n = omega arith in subst (λ (j : ℕ). hasMode (getD (markedRows s t p d j) k 0) m ≡ true) this h
 
   -- after n rows it has a mode of a row whose range has k
   rows-have : (i : ℕ) → hasMode (rowMask t i) m ≡ true → inRange (textRange (rowLevels s t i) p) k ≡ true
-      → (n : ℕ) → i < n → hasMode (getD (notedRows s t p d n) k 0) m ≡ true
+      → (n : ℕ) → i < n → hasMode (getD (markedRows s t p d n) k 0) m ≡ true
   rows-have i h r n g =
-      let x : ℕ = getD (notedRows s t p d i) k 0 in
-      let here : hasMode (getD (notedRows s t p d (suc i)) k 0) m ≡ true =
+      let x : ℕ = getD (markedRows s t p d i) k 0 in
+      let here : hasMode (getD (markedRows s t p d (suc i)) k 0) m ≡ true =
       ap (λ (y : ℕ). hasMode y m) (row-at i) ∙ ap (λ (b : Bool). hasMode (cond b (bitOr x (rowMask t i)) x) m) r
       ∙ joined x (rowMask t i) m h in
       rows-keep (suc i) here n g
@@ -148,7 +148,7 @@ full-all r false e = full-flat r e
 module _ (s t p : List ℕ) (i n mask : ℕ) (l : i < n) (e : bitOr (rowMask t i) mask ≡ rowMask t i) where
   -- the masks from a on and below b have each mode, where the range of the row has these numbers
   rows-full : (a b : ℕ) → b ≤ most → (textRange (rowLevels s t i) p .lo ≤ a) × (b ≤ textRange (rowLevels s t i) p .hi)
-      → (m : ℕ) → hasMode mask m ≡ true → Have (notedRows s t p zeros n) a b m
+      → (m : ℕ) → hasMode mask m ≡ true → Have (markedRows s t p zeros n) a b m
   rows-full a b h f m g k v w =
       let size : length zeros ≡ most = length-replicate {A = ℕ} most 0 in
       rows-have s t p zeros m k (omega arith) i (sym (ap (λ (x : ℕ). hasMode x m) e) ∙ joined (rowMask t i) mask m g)
@@ -156,22 +156,22 @@ module _ (s t p : List ℕ) (i n mask : ℕ) (l : i < n) (e : bitOr (rowMask t i
 
   -- nothing is lacking
   full-nothing : (deep : Bool) → fullRange (textRange (rowLevels s t i) p) deep ≡ true
-      → Nothing ≡ lowestIn deep (notedRows s t p zeros n) mask
+      → Nothing ≡ lowestIn deep (markedRows s t p zeros n) mask
   full-nothing deep f =
-      sym (lowest-in deep (notedRows s t p zeros n) mask
-      ∙ lowest-nothing (notedRows s t p zeros n) mask (low deep) (high deep) (low-high deep)
+      sym (lowest-in deep (markedRows s t p zeros n) mask
+      ∙ lowest-nothing (markedRows s t p zeros n) mask (low deep) (high deep) (low-high deep)
       (rows-full (low deep) (high deep) (high-most deep) (full-all (textRange (rowLevels s t i) p) deep f)) 0 4)
 
 -- no path escapes where a row covers alone
-pub covers-nothing : (s t p : List ℕ) (i n mask : ℕ) (own deep : Bool) → own ≡ true → deep ≡ endsDeep (levelsOf (levels p)) → i < n
-    → rowCovers s t i p mask deep ≡ true → EscapeOf s t n own p mask Nothing
+pub covers-nothing : (s t p : List ℕ) (i n mask : ℕ) (shared deep : Bool) → shared ≡ true → deep ≡ endsDeep (levelsOf (levels p)) → i < n
+    → rowCovers s t i p mask deep ≡ true → EscapeOf s t n shared p mask Nothing
 unfolding rowCovers
-covers-nothing s t p i n mask own deep o e l c = go (eqb (bitOr (rowMask t i) mask) (rowMask t i)) refl c
+covers-nothing s t p i n mask shared deep o e l c = go (eqb (bitOr (rowMask t i) mask) (rowMask t i)) refl c
   where
     go : (b : Bool) → eqb (bitOr (rowMask t i) mask) (rowMask t i) ≡ b
         → cond b (fullRange (textRange (rowLevels s t i) p) deep) false ≡ true
-        → EscapeOf s t n own p mask Nothing
-    go true q r = escape-nothing s t n own p mask deep o e (full-nothing s t p i n mask l (eqb-true (bitOr (rowMask t i) mask) (rowMask t i) q) deep r)
+        → EscapeOf s t n shared p mask Nothing
+    go true q r = escape-nothing s t n shared p mask deep o e (full-nothing s t p i n mask l (eqb-true (bitOr (rowMask t i) mask) (rowMask t i) q) deep r)
     go false q r = no-flag r
 
 -- ---- the code's tests

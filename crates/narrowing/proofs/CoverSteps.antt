@@ -8,8 +8,8 @@ use native.Mathlib.Omega.{arith}
 use lib.ListN.{length, getD, drop, take, length-drop}
 use lib.Dec.{eqb}
 use borrow.Author.Tests.{ne-eqb}
-use Rattle.resource.specs.declared.Step.{Step}
-use Rattle.resource.specs.declared.Step.the-variants.{Differ, Finish, Next}
+use Rattle.resource.specs.declared.LevelStep.{LevelStep}
+use Rattle.resource.specs.declared.LevelStep.the-variants.{Differ, Finish, Next}
 use Rattle.octets.specs.Bytes.{same}
 use Rattle.resource.specs.Level.{isStar, isDeep, levels}
 use Rattle.resource.specs.Pattern.{Levels, done, deep, name, star}
@@ -133,7 +133,7 @@ pub record Goes (q p : List ℕ) (i j : ℕ) : Type 0 where
   pub fewer : length (levels (drop (i + 1) q)) < length (levels q)
 
 -- what is told of two texts that are not "**" by the step of their first levels
-abbrev pub Stepped : List ℕ → List ℕ → Step → Type 0
+abbrev pub Stepped : List ℕ → List ℕ → LevelStep → Type 0
 Stepped q p Differ = textRange q p ≡ range 0 0
 Stepped q p Finish = textRange q p ≡ range 0 1
 Stepped q p (Next i j) = Goes q p i j
@@ -157,7 +157,7 @@ other-cover true (l ∷ ls) [] e = some-none l ls
 other-cover true (l ∷ ls) (k ∷ ks) e = no-flag (sym e)
 
 -- it holds by what the step says of the levels
-cover-told : (q p : List ℕ) (x : Step) → FirstLevels q p x → isDeep q ≡ false → isDeep p ≡ false → Stepped q p x
+cover-told : (q p : List ℕ) (x : LevelStep) → FirstLevels q p x → isDeep q ≡ false → isDeep p ≡ false → Stepped q p x
 unfolding levelsOf textRange
 cover-told q p Differ f d c = first-cover q p (f .0) (f .1) (f .2) (f .3) d c ∙ other-cover (f .2) (f .0) (f .1) (f .4)
 cover-told q p Finish f d c = first-cover q p [] [] true f d c
@@ -170,8 +170,8 @@ cover-told q p (Next i j) f d c =
     }
 
 -- it holds of each two texts
-pub step-told : (q p : List ℕ) → isDeep q ≡ false → isDeep p ≡ false → Stepped q p (stepOf q p)
-step-told q p d c = cover-told q p (stepOf q p) (step-levels q p) d c
+pub step-decides : (q p : List ℕ) → isDeep q ≡ false → isDeep p ≡ false → Stepped q p (stepOf q p)
+step-decides q p d c = cover-told q p (stepOf q p) (step-levels q p) d c
 
 -- the levels after the first, as the code hands them on
 module _ (q p : List ℕ) (i j : ℕ) (g : Goes q p i j) where
@@ -187,9 +187,9 @@ module _ (q p : List ℕ) (i j : ℕ) (g : Goes q p i j) where
 some-cover : (l : List ℕ) (ls : List (List ℕ)) → coverRange deep (levelsOf (l ∷ ls)) ≡ range 0 most
 some-cover = some-levels (λ q. coverRange deep q ≡ range 0 most) refl (λ q. refl) (λ n q. refl)
 
-pub deep-told : (q p : List ℕ) → isDeep q ≡ true → textRange q p ≡ range 0 most
+pub deep-matches : (q p : List ℕ) → isDeep q ≡ true → textRange q p ≡ range 0 most
 unfolding textRange levels levelsOf same
-deep-told q p e = let s = first-star p in rw (same-equal q (42 ∷ 42 ∷ []) e, s .2) (some-cover (s .0) (s .1))
+deep-matches q p e = let s = first-star p in rw (same-equal q (42 ∷ 42 ∷ []) e, s .2) (some-cover (s .0) (s .1))
 
 -- "**" is covered by what matches fresh names
 level-fresh : (t : Bool) (l : List ℕ) (q : Levels) → coverRange (withLevel t l q) (levelsOf (levels (42 ∷ 42 ∷ [])))

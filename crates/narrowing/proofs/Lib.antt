@@ -10,14 +10,14 @@ pub mod Promises
 pub mod Laws
 pub mod Cases
 pub mod RangeLaws
-pub mod NotedLaws
+pub mod MarkedLaws
 pub mod AgreeLaws
 pub mod MarkLaws
 pub mod CoverSteps
 pub mod SearchSteps
 pub mod TableLaws
 pub mod AloneLaws
-pub mod NotingLaws
+pub mod MarkingLaws
 pub mod DeepSteps
 pub mod NarrowSteps
 pub mod OrderLaws

@@ -1,4 +1,4 @@
--- Laws of the loops that note the masks of a range and that read how many fresh names a pattern matches (specs/Range.antt). Assumes
+-- Laws of the loops that mark the masks of a range and that read how many fresh names a pattern matches (specs/Range.antt). Assumes
 -- nothing.
 use mathlib.Core.Path.{_≡_, refl, sym, ap, _∙_}
 use mathlib.Core.Bool.{false, cond, and-false}
@@ -49,7 +49,7 @@ marked-low e (x ∷ d) lo hi mask h =
     rw (le-leb lo e h, le-leb e e (omega arith))
     (ap (λ (l : List ℕ). cond (ltb e hi) (bitOr x mask) x ∷ l) (marked-low (suc e) d lo hi mask (omega arith) ∙ sym (marked-low (suc e) d e hi mask (omega arith))))
 
--- one number of the range is noted, from a number on
+-- one number of the range is marked, from a number on
 marked-one : (e : ℕ) (d : List ℕ) (k hi mask : ℕ) → e + k < hi → k < length d
     → marked e d (range (e + k) hi) mask ≡ marked e (set d k (bitOr (getD d k 0) mask)) (range (suc (e + k)) hi) mask
 unfolding marked
@@ -62,7 +62,7 @@ marked-one e (x ∷ d) (suc k) hi mask h l =
     rw (i, lt-leb (suc e + k) e (omega arith), lt-leb (suc (suc e + k)) e (omega arith))
     (ap (λ (t : List ℕ). x ∷ t) (marked-one (suc e) d k hi mask (omega arith) (omega arith)))
 
--- one number of the range is noted
+-- one number of the range is marked
 pub marked-next : (d : List ℕ) (k hi mask : ℕ) → k < hi → k < length d
     → marked 0 d (range k hi) mask ≡ marked 0 (set d k (bitOr (getD d k 0) mask)) (range (k + 1) hi) mask
 marked-next d k hi mask h l = rw (add-one k) (rw (zero-add k) at (marked-one 0 d k hi mask (omega arith) l))

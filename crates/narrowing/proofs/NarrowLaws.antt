@@ -23,7 +23,7 @@ use Rattle.narrowing.specs.declared.Narrowing.the-variants.{Accepted, No
 use Rattle.narrowing.specs.Meaning.{grantAdmits, anyAdmits, Admits}
 use Rattle.narrowing.specs.Escape.{witnessPath}
 use Rattle.narrowing.specs.Narrow.{rulesIn, unconstrained, underParent, narrow}
-use Rattle.narrowing.specs.Promises.{Reads, PeriodInside, grantOf, FirstEscape, Inside}
+use Rattle.narrowing.specs.Promises.{ReadAs, PeriodInside, grantOf, FirstEscape, Inside}
 use Rattle.narrowing.specs.Laws.{rulesOf, Attained}
 use Rattle.narrowing.proofs.CoveredLaws.{contra, true-of, or-left, witness-path, witness-admitted}
 use Rattle.narrowing.proofs.RuleLaws.{pattern-of, admitting, admitted-by}
@@ -42,16 +42,16 @@ chosen false x y d e = absurd (d e)
 -- ---- what the bytes come to
 
 -- bytes of a descriptor are read as it
-seen-as : (s : List ℕ) (d : Descriptor) → Reads s d → readOf s ≡ read (descriptorView 0 d)
+seen-as : (s : List ℕ) (d : Descriptor) → ReadAs s d → readOf s ≡ read (descriptorView 0 d)
 seen-as s d r = read-as s d (r .bytes) (r .allowed) (r .encoded)
 
 -- the rules read from them are those of its grants
-rules-as : (s : List ℕ) (d : Descriptor) → Reads s d → rulesIn s (descriptorView 0 d) ≡ rulesOf (d .payload .grants)
+rules-as : (s : List ℕ) (d : Descriptor) → ReadAs s d → rulesIn s (descriptorView 0 d) ≡ rulesOf (d .payload .grants)
 rules-as s d r = ap (λ (u : List ℕ). rulesIn u (descriptorView 0 d)) (r .encoded)
     ∙ rules-in d (subst AreBytes (r .encoded) (r .bytes)) (r .allowed .formed)
 
 -- they have no pair
-plain-as : (s : List ℕ) (d : Descriptor) → Reads s d → unconstrained (descriptorView 0 d) ≡ true
+plain-as : (s : List ℕ) (d : Descriptor) → ReadAs s d → unconstrained (descriptorView 0 d) ≡ true
 plain-as s d r = pairs-none d (r .allowed .formed) .1 (r .plain)
 
 -- the period of the child lies within that of the parent
@@ -59,19 +59,19 @@ abbrev within : Descriptor → Descriptor → Bool
 within p c = leb (p .payload .notBefore) (c .payload .notBefore) && leb (c .payload .notAfter) (p .payload .notAfter)
 
 -- the answer for two descriptors
-narrow-as : (s t : List ℕ) (p c : Descriptor) → Reads s p → Reads t c → narrow s t ≡ cond (within p c) (byGrants p c) Period
+narrow-as : (s t : List ℕ) (p c : Descriptor) → ReadAs s p → ReadAs t c → narrow s t ≡ cond (within p c) (byGrants p c) Period
 narrow-as s t p c a b =
     both-as s t (descriptorView 0 p) (descriptorView 0 c) (seen-as s p a) (seen-as t c b)
     ∙ rw (plain-as s p a, plain-as t c b, rules-as s p a, rules-as t c b)
 
 -- a child that is accepted reads as a descriptor with no pair
-pub accepted-reads : (s t : List ℕ) (p : Descriptor) → Reads s p → AreBytes t → narrow s t ≡ Accepted → (d : Descriptor) × Reads t d
+pub accepted-reads : (s t : List ℕ) (p : Descriptor) → ReadAs s p → AreBytes t → narrow s t ≡ Accepted → (d : Descriptor) × ReadAs t d
 accepted-reads s t p a b e = go (readOf t) refl (sym (goes-on s t v (seen-as s p a)) ∙ e)
   where
     v : Seen
     v = descriptorView 0 p
 
-    go : (r : Answer) → readOf t ≡ r → underParent s v t r ≡ Accepted → (d : Descriptor) × Reads t d
+    go : (r : Answer) → readOf t ≡ r → underParent s v t r ≡ Accepted → (d : Descriptor) × ReadAs t d
     go (read w) q h =
         let r = reads-exactly t b w .0 q in
         let u : (unconstrained v && unconstrained w) ≡ true
@@ -166,11 +166,11 @@ test-inside p c e = (
 )
 
 -- within the parent's period the grants decide
-within-as : (s t : List ℕ) (p c : Descriptor) → Reads s p → Reads t c → PeriodInside p c → narrow s t ≡ byGrants p c
+within-as : (s t : List ℕ) (p c : Descriptor) → ReadAs s p → ReadAs t c → PeriodInside p c → narrow s t ≡ byGrants p c
 within-as s t p c a b i = narrow-as s t p c a b ∙ ap (λ (w : Bool). cond w (byGrants p c) Period) (inside-test p c i)
 
 -- an answer other than 18 is that of the grants, within the parent's period
-not-period : (s t : List ℕ) (p c : Descriptor) {n : Narrowing} → Reads s p → Reads t c → (Period ≡ n → ⊥) → narrow s t ≡ n
+not-period : (s t : List ℕ) (p c : Descriptor) {n : Narrowing} → ReadAs s p → ReadAs t c → (Period ≡ n → ⊥) → narrow s t ≡ n
     → PeriodInside p c × (byGrants p c ≡ n)
 not-period s t p c a b d h =
     let r = chosen (within p c) (byGrants p c) Period d (sym (narrow-as s t p c a b) ∙ h) in
@@ -179,7 +179,7 @@ not-period s t p c a b d h =
 -- ---- the promises, of the answers
 
 -- 18 exactly when the child's period does not lie within the parent's
-pub narrow-period : (s t : List ℕ) (p c : Descriptor) → Reads s p → Reads t c → (narrow s t ≡ Period) ↔ (PeriodInside p c → ⊥)
+pub narrow-period : (s t : List ℕ) (p c : Descriptor) → ReadAs s p → ReadAs t c → (narrow s t ≡ Period) ↔ (PeriodInside p c → ⊥)
 narrow-period s t p c a b = (
   λ h i. subst (Says p c) (sym (within-as s t p c a b i) ∙ h) (grants-say p c (a .allowed) (b .allowed)),
   λ f. go f (within p c) refl,
@@ -190,7 +190,7 @@ narrow-period s t p c a b = (
     go f false e = narrow-as s t p c a b ∙ ap (λ (w : Bool). cond w (byGrants p c) Period) e
 
 -- 20 exactly with the numbers of the first escape, within the parent's period
-pub narrow-escape : (s t : List ℕ) (p c : Descriptor) (i m k : ℕ) → Reads s p → Reads t c
+pub narrow-escape : (s t : List ℕ) (p c : Descriptor) (i m k : ℕ) → ReadAs s p → ReadAs t c
     → (narrow s t ≡ NotCovered i m k) ↔ (PeriodInside p c × FirstEscape p c i m k)
 narrow-escape s t p c i m k a b =
     let g = grants-escape p c i m k (a .allowed) (b .allowed) in (
@@ -199,13 +199,13 @@ narrow-escape s t p c i m k a b =
     )
 
 -- its numbers are those of the witness path
-pub narrow-attained : (s t : List ℕ) (p c : Descriptor) (i m k : ℕ) → Reads s p → Reads t c → narrow s t ≡ NotCovered i m k
+pub narrow-attained : (s t : List ℕ) (p c : Descriptor) (i m k : ℕ) → ReadAs s p → ReadAs t c → narrow s t ≡ NotCovered i m k
     → Attained p (grantOf c i) m k
 narrow-attained s t p c i m k a b h =
     subst (Says p c) (not-period s t p c a b (λ e. omega (arith, number e)) h .1) (grants-say p c (a .allowed) (b .allowed)) .1
 
 -- accepted exactly when the child is inside the parent
-pub narrow-accepted : (s t : List ℕ) (p c : Descriptor) → Reads s p → Reads t c → (narrow s t ≡ Accepted) ↔ Inside p c
+pub narrow-accepted : (s t : List ℕ) (p c : Descriptor) → ReadAs s p → ReadAs t c → (narrow s t ≡ Accepted) ↔ Inside p c
 narrow-accepted s t p c a b = (
   λ h. let r = not-period s t p c a b (λ e. omega (arith, number e)) h in accepted-inside p c (a .allowed) (b .allowed) (r .0) (r .1),
   λ i. within-as s t p c a b (inside-period p c (b .allowed) i) ∙ inside-accepted p c (a .allowed) (b .allowed) i,

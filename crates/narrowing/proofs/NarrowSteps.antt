@@ -176,9 +176,9 @@ module _ (s : List ℕ) (v : Fields) (t : List ℕ) (w : Fields) where
   unfolding comparedIn
   ends-late a b c d = rw (eq-eqb _ _ a, eq-eqb _ _ b, le-ltb _ _ c, lt-ltb _ _ d)
 
-  pub compared-first : {own : Bool} → v .constraints ≡ 0 → w .constraints ≡ 0 → v .before ≤ w .before → w .after ≤ v .after
-      → own ≡ cbor.same (part s (v .terminal) 45) (part t (w .terminal) 45)
-      → firstIn s (v .first) (v .grants) own t 0 (w .grants) (w .first) ≡ comparedIn s v t w
+  pub compared-first : {shared : Bool} → v .constraints ≡ 0 → w .constraints ≡ 0 → v .before ≤ w .before → w .after ≤ v .after
+      → shared ≡ cbor.same (part s (v .terminal) 45) (part t (w .terminal) 45)
+      → firstIn s (v .first) (v .grants) shared t 0 (w .grants) (w .first) ≡ comparedIn s v t w
   unfolding comparedIn
   compared-first a b c d e = rw (eq-eqb _ _ a, eq-eqb _ _ b, le-ltb _ _ c, le-ltb _ _ d, e)
 
@@ -193,42 +193,42 @@ lent-below : (s : List ℕ) (g : GrantSeen) → lent s g ≡ below s (g .pattern
 lent-below s g = lent-levels s (g .pattern .start) (g .pattern .len)
 
 -- the search from the first grant on
-pub first-begin : (s : List ℕ) (at count : ℕ) (own : Bool) (t : List ℕ) (n from : ℕ)
-    → firstIn s at count own t 0 (n - 0) from ≡ firstIn s at count own t 0 n from
-first-begin s at count own t n from = let e : n - 0 ≡ n = omega arith in ap (λ (k : ℕ). firstIn s at count own t 0 k from) e
+pub first-begin : (s : List ℕ) (at count : ℕ) (shared : Bool) (t : List ℕ) (n from : ℕ)
+    → firstIn s at count shared t 0 (n - 0) from ≡ firstIn s at count shared t 0 n from
+first-begin s at count shared t n from = let e : n - 0 ≡ n = omega arith in ap (λ (k : ℕ). firstIn s at count shared t 0 k from) e
 
-module _ (s : List ℕ) (at count : ℕ) (own : Bool) (t : List ℕ) (i n here : ℕ) where
+module _ (s : List ℕ) (at count : ℕ) (shared : Bool) (t : List ℕ) (i n here : ℕ) where
   -- one grant that was read
   first-one : {g : GrantSeen} {next : ℕ} → i < n → got g next ≡ grantAt t here
-      → orNext i (escapeIn s at count own (lent t g) (g .mask)) (firstIn s at count own t (i + 1) (n - (i + 1)) next)
-      ≡ firstIn s at count own t i (n - i) here
+      → orNext i (escapeIn s at count shared (lent t g) (g .mask)) (firstIn s at count shared t (i + 1) (n - (i + 1)) next)
+      ≡ firstIn s at count shared t i (n - i) here
   unfolding firstIn
   first-one {g} {next} h e =
       let l : n - i ≡ suc (n - (i + 1)) = omega arith in
-      ap (λ (p : List ℕ). orNext i (escapeIn s at count own p (g .mask)) (firstIn s at count own t (i + 1) (n - (i + 1)) next))
+      ap (λ (p : List ℕ). orNext i (escapeIn s at count shared p (g .mask)) (firstIn s at count shared t (i + 1) (n - (i + 1)) next))
       (lent-below t g)
       ∙ rw (l, firstIn, ← e)
 
   -- a grant by which a path escapes
   pub first-hit : {g : GrantSeen} {next m k : ℕ} → i < n → got g next ≡ grantAt t here
-      → At m k ≡ escapeIn s at count own (lent t g) (g .mask)
-      → NotCovered i m k ≡ firstIn s at count own t i (n - i) here
-  first-hit {next = next} h e f = ap (λ (r : Found). orNext i r (firstIn s at count own t (i + 1) (n - (i + 1)) next)) f ∙ first-one h e
+      → At m k ≡ escapeIn s at count shared (lent t g) (g .mask)
+      → NotCovered i m k ≡ firstIn s at count shared t i (n - i) here
+  first-hit {next = next} h e f = ap (λ (r : Found). orNext i r (firstIn s at count shared t (i + 1) (n - (i + 1)) next)) f ∙ first-one h e
 
   -- a grant by which none does
-  pub first-next : {g : GrantSeen} {next : ℕ} → i < n → got g next ≡ grantAt t here → Nothing ≡ escapeIn s at count own (lent t g) (g .mask)
-      → firstIn s at count own t (i + 1) (n - (i + 1)) next ≡ firstIn s at count own t i (n - i) here
-  first-next {next = next} h e f = ap (λ (r : Found). orNext i r (firstIn s at count own t (i + 1) (n - (i + 1)) next)) f ∙ first-one h e
+  pub first-next : {g : GrantSeen} {next : ℕ} → i < n → got g next ≡ grantAt t here → Nothing ≡ escapeIn s at count shared (lent t g) (g .mask)
+      → firstIn s at count shared t (i + 1) (n - (i + 1)) next ≡ firstIn s at count shared t i (n - i) here
+  first-next {next = next} h e f = ap (λ (r : Found). orNext i r (firstIn s at count shared t (i + 1) (n - (i + 1)) next)) f ∙ first-one h e
 
   -- no grant
-  pub first-none : i < n → refused ≡ grantAt t here → Accepted ≡ firstIn s at count own t i (n - i) here
+  pub first-none : i < n → refused ≡ grantAt t here → Accepted ≡ firstIn s at count shared t i (n - i) here
   unfolding firstIn
   first-none h e =
       let l : n - i ≡ suc (n - (i + 1)) = omega arith in
       rw (l, firstIn, ← e)
 
   -- the last was read
-  pub first-done : n ≤ i → Accepted ≡ firstIn s at count own t i (n - i) here
+  pub first-done : n ≤ i → Accepted ≡ firstIn s at count shared t i (n - i) here
   unfolding firstIn
   first-done h =
       let l : n - i ≡ 0 = omega arith in

@@ -1,4 +1,4 @@
--- Laws of the range of numbers of names for which one pattern covers another, and of the masks noted for each number
+-- Laws of the range of numbers of names for which one pattern covers another, and of the masks marked for each number
 -- (specs/Range.antt). Assumes nothing.
 use mathlib.Core.Path.{_≡_, refl, sym, ap, _∙_}
 use mathlib.Core.Bool.{Bool, true, false, cond, _&&_, _||_, and-false}

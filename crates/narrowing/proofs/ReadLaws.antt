@@ -49,11 +49,11 @@ read-turn s v b e =
     let r = reads-exactly s b v .0 e in
     let d : Descriptor = r .0 in
     let gs : List Grant = d .payload .grants in
-    let own : (x : List ℕ) (w : Seen) → Type 0 = λ x w. TurnIn x (part x (w .payload .closing .terminal) 45) w gs in
-    let here : own (encode d) (descriptorView 0 d)
+    let turn : (x : List ℕ) (w : Seen) → Type 0 = λ x w. TurnIn x (part x (w .payload .closing .terminal) 45) w gs in
+    let here : turn (encode d) (descriptorView 0 d)
     = subst (λ (t : List ℕ). TurnIn (encode d) t (descriptorView 0 d) gs) (sym (seen-handed d (r .1 .formed) .terminal))
     (grants-in-turn d (subst AreBytes (r .2) b) (r .1 .formed)) in
-    (gs, subst (own s) (sym (r .3)) (subst (λ (x : List ℕ). own x (descriptorView 0 d)) (sym (r .2)) here))
+    (gs, subst (turn s) (sym (r .3)) (subst (λ (x : List ℕ). turn x (descriptorView 0 d)) (sym (r .2)) here))
 
 -- ---- constraint pairs
 

@@ -9,7 +9,7 @@ use lib.ListN.{length, getD}
 use lib.Dec.{eqb, leb}
 use Rattle.exact.specs.Reads.{AllFrom}
 use Rattle.resource.specs.Pattern.{Path, Pattern, IsPattern, patternText, admits}
-use Rattle.resource.specs.Text.{isPattern, longest, patternOk, patternOf}
+use Rattle.resource.specs.Text.{isPattern, longestText, patternOk, patternOf}
 use Rattle.resource.proofs.Promises.{patterns-exact, patterns-once}
 use Rattle.octets.proofs.Tests.{and-left, and-right, or-elim, no-flag}
 use Rattle.descriptor.specs.Model.{Grant}
@@ -37,7 +37,7 @@ modes-known seen (m ∷ ms) k a e =
 pub pattern-of : (s : List ℕ) → patternOk s ≡ true → IsPattern (patternOf s)
 unfolding patternOk
 pattern-of s e =
-    let r : (p : Pattern) × IsPattern p × (s ≡ patternText p) = patterns-exact s .0 (and-right (leb (length s) longest) (isPattern s) e) in
+    let r : (p : Pattern) × IsPattern p × (s ≡ patternText p) = patterns-exact s .0 (and-right (leb (length s) longestText) (isPattern s) e) in
     subst IsPattern (sym (ap patternOf (r .2) ∙ patterns-once (r .0) (r .1))) (r .1)
 
 -- ---- the rules of grants

@@ -11,9 +11,9 @@ use borrow.Author.Tests.{not-true, not-false}
 use Rattle.exact.specs.Reads.{got, refused}
 use Rattle.descriptor.specs.Reader.{hasMode, GrantSeen, grantAt}
 use Rattle.narrowing.specs.declared.search.Found.the-variants.{At, Nothing}
-use Rattle.narrowing.specs.Escape.{least, orElse}
+use Rattle.narrowing.specs.Escape.{least, orLimit}
 use Rattle.narrowing.specs.Range.{textRange, marked}
-use Rattle.narrowing.specs.Scan.{below, notedAt, lacksAt, lowestFrom}
+use Rattle.narrowing.specs.Scan.{below, markedAt, lacksAt, lowestFrom}
 use Rattle.narrowing.proofs.LeastLaws.{least-some}
 
 -- ---- one mode
@@ -41,24 +41,24 @@ lacks-of {b} {h} e t = not-true h (sym e ∙ not-false b t)
 
 module _ (f : ℕ → Bool) (k to : ℕ) where
   -- k passes
-  pub least-hit : k < to → f k ≡ true → orElse (least f k (to - k)) to ≡ k
+  pub least-hit : k < to → f k ≡ true → orLimit (least f k (to - k)) to ≡ k
   least-hit h e = let n : to - k ≡ suc (to - (k + 1)) = omega arith in rw (n, e)
 
   -- k does not pass
-  pub least-miss : k < to → f k ≡ false → orElse (least f k (to - k)) to ≡ orElse (least f (k + 1) (to - (k + 1))) to
+  pub least-miss : k < to → f k ≡ false → orLimit (least f k (to - k)) to ≡ orLimit (least f (k + 1) (to - (k + 1))) to
   least-miss h e = let n : to - k ≡ suc (to - (k + 1)) = omega arith in rw (n, e, add-one)
 
   -- none is left
-  pub least-end : to ≤ k → orElse (least f k (to - k)) to ≡ to
+  pub least-end : to ≤ k → orLimit (least f k (to - k)) to ≡ to
   least-end h = let n : to - k ≡ 0 = omega arith in rw n
 
 -- an answer below `to` is a number that was found
-hit-some : (o : Option ℕ) (k to : ℕ) → k ≡ orElse o to → k < to → o ≡ some k
+hit-some : (o : Option ℕ) (k to : ℕ) → k ≡ orLimit o to → k < to → o ≡ some k
 hit-some none k to e h = absurd (omega arith)
 hit-some (some j) k to e h = ap some (sym e)
 
 -- an answer not below `to` is none, as a number that was found is below
-miss-none : (o : Option ℕ) (k to : ℕ) → k ≡ orElse o to → to ≤ k → ((j : ℕ) → o ≡ some j → j < to) → o ≡ none
+miss-none : (o : Option ℕ) (k to : ℕ) → k ≡ orLimit o to → to ≤ k → ((j : ℕ) → o ≡ some j → j < to) → o ≡ none
 miss-none none k to e h f = refl
 miss-none (some j) k to e h f = absurd (omega (arith, f j refl))
 
@@ -71,14 +71,14 @@ module _ (d : List ℕ) (mask from to m : ℕ) where
   lowest-skip h e = let n : 4 - m ≡ suc (4 - (m + 1)) = omega arith in rw (n, e, lowestFrom)
 
   -- a path escapes in the mode
-  pub lowest-hit : (k : ℕ) → m < 4 → hasMode mask m ≡ true → k ≡ orElse (least (lacksAt d m) from (to - from)) to → k < to
+  pub lowest-hit : (k : ℕ) → m < 4 → hasMode mask m ≡ true → k ≡ orLimit (least (lacksAt d m) from (to - from)) to → k < to
       → lowestFrom d mask from to m (4 - m) ≡ At m k
   unfolding lowestFrom
   lowest-hit k h e f l = let n : 4 - m ≡ suc (4 - (m + 1)) = omega arith in rw
       (n, e, hit-some (least (lacksAt d m) from (to - from)) k to f l, lowestFrom)
 
   -- none escapes in the mode
-  pub lowest-miss : (k : ℕ) → from ≤ to → m < 4 → hasMode mask m ≡ true → k ≡ orElse (least (lacksAt d m) from (to - from)) to → to ≤ k
+  pub lowest-miss : (k : ℕ) → from ≤ to → m < 4 → hasMode mask m ≡ true → k ≡ orLimit (least (lacksAt d m) from (to - from)) to → to ≤ k
       → lowestFrom d mask from to m (4 - m) ≡ lowestFrom d mask from to (m + 1) (4 - (m + 1))
   unfolding lowestFrom
   lowest-miss k b h e f l =
@@ -96,21 +96,21 @@ module _ (d : List ℕ) (mask from to m : ℕ) where
 -- ---- noting
 
 module _ (s p d : List ℕ) (left here : ℕ) where
-  -- one grant more was noted
-  pub noted-next : {g : GrantSeen} {next : ℕ} → 0 < left → got g next ≡ grantAt s here
-      → notedAt s p (marked 0 d (textRange (below s (g .pattern)) p) (g .mask)) (left - 1) next ≡ notedAt s p d left here
-  unfolding notedAt
-  noted-next {g} {next} h e =
+  -- one grant more was marked
+  pub marked-next : {g : GrantSeen} {next : ℕ} → 0 < left → got g next ≡ grantAt s here
+      → markedAt s p (marked 0 d (textRange (below s (g .pattern)) p) (g .mask)) (left - 1) next ≡ markedAt s p d left here
+  unfolding markedAt
+  marked-next {g} {next} h e =
       let n : suc (left - 1) ≡ left = omega arith in
-      let one : notedAt s p d (suc (left - 1)) here ≡ notedAt s p (marked 0 d (textRange (below s (g .pattern)) p) (g .mask)) (left - 1) next = rw (← e, notedAt) in
-      sym one ∙ ap (λ (k : ℕ). notedAt s p d k here) n
+      let one : markedAt s p d (suc (left - 1)) here ≡ markedAt s p (marked 0 d (textRange (below s (g .pattern)) p) (g .mask)) (left - 1) next = rw (← e, markedAt) in
+      sym one ∙ ap (λ (k : ℕ). markedAt s p d k here) n
 
   -- none could be read
-  pub noted-stop : 0 < left → refused ≡ grantAt s here → d ≡ notedAt s p d left here
-  unfolding notedAt
-  noted-stop h e = let n : left ≡ suc (left - 1) = omega arith in sym (rw (n, ← e, notedAt))
+  pub marked-stop : 0 < left → refused ≡ grantAt s here → d ≡ markedAt s p d left here
+  unfolding markedAt
+  marked-stop h e = let n : left ≡ suc (left - 1) = omega arith in sym (rw (n, ← e, markedAt))
 
   -- none is left
-  pub noted-done : left ≤ 0 → d ≡ notedAt s p d left here
-  unfolding notedAt
-  noted-done h = let n : left ≡ 0 = omega arith in sym (rw (n, notedAt))
+  pub marked-done : left ≤ 0 → d ≡ markedAt s p d left here
+  unfolding markedAt
+  marked-done h = let n : left ≡ 0 = omega arith in sym (rw (n, markedAt))

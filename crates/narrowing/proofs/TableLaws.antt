@@ -1,4 +1,4 @@
--- Laws of the table of the parent's grants (specs/Scan.antt): how it is filled, row by row, and how its rows are noted. Assumes nothing.
+-- Laws of the table of the parent's grants (specs/Scan.antt): how it is filled, row by row, and how its rows are marked. Assumes nothing.
 use mathlib.Core.Path.{_≡_, refl, ap, _∙_, subst}
 use mathlib.Core.Bool.{Bool, true, false, cond}
 use mathlib.Core.List.{List}
@@ -17,18 +17,18 @@ use Rattle.descriptor.specs.Reader.{GrantSeen, grantAt}
 use Rattle.descriptor.proofs.GrantBounds.{pattern-room}
 use Rattle.narrowing.specs.declared.search.Found.the-variants.{Nothing}
 use Rattle.narrowing.specs.Range.{textRange, marked}
-use Rattle.narrowing.specs.Scan.{notedAt, rowStart, rowEnd, rowMask, rowLevels, notedRows, InPlace, Filled, lowestFrom, lowestIn}
+use Rattle.narrowing.specs.Scan.{markedAt, rowStart, rowEnd, rowMask, rowLevels, markedRows, InPlace, Filled, lowestFrom, lowestIn}
 use Rattle.narrowing.specs.Scan.{zeros, escapeIn, EscapeOf}
 use Rattle.narrowing.proofs.RangeLaws.{marked-length}
-use Rattle.narrowing.proofs.SearchSteps.{noted-next, noted-stop, noted-done}
+use Rattle.narrowing.proofs.SearchSteps.{marked-next, marked-stop, marked-done}
 
--- ---- noting the rows
+-- ---- marking the rows
 
 -- noting keeps the number of masks
-pub rows-length : (s t p d : List ℕ) (n : ℕ) → length (notedRows s t p d n) ≡ length d
-unfolding notedRows
+pub rows-length : (s t p d : List ℕ) (n : ℕ) → length (markedRows s t p d n) ≡ length d
+unfolding markedRows
 rows-length s t p d zero = refl
-rows-length s t p d (suc i) = marked-length 0 (notedRows s t p d i) (textRange (rowLevels s t i) p) (rowMask t i) ∙ rows-length s t p d i
+rows-length s t p d (suc i) = marked-length 0 (markedRows s t p d i) (textRange (rowLevels s t i) p) (rowMask t i) ∙ rows-length s t p d i
 
 -- ---- one row more
 
@@ -73,8 +73,8 @@ module _ (t : List ℕ) (i a b m : ℕ) where
   written-mask h = getD-set-same (set (set t (3 * i) a) (3 * i + 1) b) (3 * i + 2) m 0 (third-room t i a b h)
 
 -- noting n rows looks at no more than these
-rows-kept : (s t u p d : List ℕ) (n : ℕ) → ((j : ℕ) → j < 3 * n → getD u j 0 ≡ getD t j 0) → notedRows s u p d n ≡ notedRows s t p d n
-unfolding notedRows
+rows-kept : (s t u p d : List ℕ) (n : ℕ) → ((j : ℕ) → j < 3 * n → getD u j 0 ≡ getD t j 0) → markedRows s u p d n ≡ markedRows s t p d n
+unfolding markedRows
 rows-kept s t u p d zero h = refl
 rows-kept s t u p d (suc i) h =
     rw (h (3 * i) (omega arith), h (3 * i + 1) (omega arith), h (3 * i + 2) (omega arith), rows-kept s t u p d i (λ j l. h j (omega arith)))
@@ -85,13 +85,13 @@ rows-kept s t u p d (suc i) h =
 pub record Begun (s t : List ℕ) (i left here count at : ℕ) : Type 0 where
   pub places : InPlace s t i
   pub free : 3 * (i + left) ≤ length t
-  pub noted : (p d : List ℕ) → notedAt s p (notedRows s t p d i) left here ≡ notedAt s p d count at
+  pub marks : (p d : List ℕ) → markedAt s p (markedRows s t p d i) left here ≡ markedAt s p d count at
 
 -- no row is filled at first
 pub begun-first : (s t : List ℕ) (count at : ℕ) → 3 * count ≤ length t → Begun s t 0 count at count at
-unfolding notedRows
+unfolding markedRows
 begun-first s t count at h =
-    record { places = record { room = omega arith; row = λ i l. absurd (omega arith) }; free = omega arith; noted = λ p d. refl }
+    record { places = record { room = omega arith; row = λ i l. absurd (omega arith) }; free = omega arith; marks = λ p d. refl }
 
 -- the rows that were in place and one that is are in place
 placed-next : (s t : List ℕ) (i a b m : ℕ) → InPlace s t i → 3 * i + 2 < length t → a ≤ b → b ≤ length s
@@ -109,11 +109,11 @@ placed-next s t i a b m h l f g = record { room = omega (arith, written-length t
         rw (this, written-start t i a b m (omega arith), written-end t i a b m (omega arith)) (f, g)
 
 -- after a row was written, noting it too is joining its mask
-written-noted : (s t p d : List ℕ) (i m start len : ℕ) → 3 * i + 2 < length t
-    → notedRows s (written t i (start + 46) (start + len) m) p d (i + 1)
-    ≡ marked 0 (notedRows s t p d i) (textRange (part s (start + 46) (len - 46)) p) m
-unfolding notedRows
-written-noted s t p d i m start len l =
+written-marked : (s t p d : List ℕ) (i m start len : ℕ) → 3 * i + 2 < length t
+    → markedRows s (written t i (start + 46) (start + len) m) p d (i + 1)
+    ≡ marked 0 (markedRows s t p d i) (textRange (part s (start + 46) (len - 46)) p) m
+unfolding markedRows
+written-marked s t p d i m start len l =
     let a : ℕ = start + 46 in
     let b : ℕ = start + len in
     let e : b - a ≡ len - 46 = omega arith in
@@ -138,53 +138,53 @@ module _ (s t : List ℕ) (i left here count at : ℕ) (b : Begun s t i left her
         places = placed-next s t i (g .pattern .start + 46) (g .pattern .start + g .pattern .len) (g .mask) (b .places) fits
             (omega (arith, room .0)) (room .1);
         free = omega (arith, size, b .free);
-        noted = λ p d. ap (λ (x : List ℕ). notedAt s p x (left - 1) next) (written-noted s t p d i (g .mask) (g .pattern .start) (g .pattern .len) fits)
-            ∙ noted-next s p (notedRows s t p d i) left here h e ∙ b .noted p d;
+        marks = λ p d. ap (λ (x : List ℕ). markedAt s p x (left - 1) next) (written-marked s t p d i (g .mask) (g .pattern .start) (g .pattern .len) fits)
+            ∙ marked-next s p (markedRows s t p d i) left here h e ∙ b .marks p d;
       }
 
   -- the next grant could not be read
   pub begun-stop : 0 < left → refused ≡ grantAt s here → Filled s t i count at
-  begun-stop h e = record { places = b .places; noted = λ p d. noted-stop s p (notedRows s t p d i) left here h e ∙ b .noted p d }
+  begun-stop h e = record { places = b .places; marks = λ p d. marked-stop s p (markedRows s t p d i) left here h e ∙ b .marks p d }
 
   -- none is left
   pub begun-done : left ≤ 0 → Filled s t i count at
-  begun-done h = record { places = b .places; noted = λ p d. noted-done s p (notedRows s t p d i) left here h ∙ b .noted p d }
+  begun-done h = record { places = b .places; marks = λ p d. marked-done s p (markedRows s t p d i) left here h ∙ b .marks p d }
 
 -- ---- an escape
 
--- nothing is lacking where the masks are noted
-pub escape-nothing : (s t : List ℕ) (n : ℕ) (own : Bool) (p : List ℕ) (mask : ℕ) (deep : Bool) → own ≡ true
+-- nothing is lacking where the masks are marked
+pub escape-nothing : (s t : List ℕ) (n : ℕ) (shared : Bool) (p : List ℕ) (mask : ℕ) (deep : Bool) → shared ≡ true
     → deep ≡ endsDeep (levelsOf (levels p))
-    → Nothing ≡ lowestIn deep (notedRows s t p zeros n) mask → EscapeOf s t n own p mask Nothing
+    → Nothing ≡ lowestIn deep (markedRows s t p zeros n) mask → EscapeOf s t n shared p mask Nothing
 unfolding escapeIn
-escape-nothing s t n own p mask deep o f e count at h = rw (o, ← f) (e ∙ ap (λ (x : List ℕ). lowestIn deep x mask) (h .noted p zeros))
+escape-nothing s t n shared p mask deep o f e count at h = rw (o, ← f) (e ∙ ap (λ (x : List ℕ). lowestIn deep x mask) (h .marks p zeros))
 
-module _ (s t : List ℕ) (n : ℕ) (own : Bool) (p : List ℕ) (mask : ℕ) (d : List ℕ) (deep : Bool) where
-  -- the terminal id is the parent's, and the masks x tell what those with all rows noted do
-  pub met-own : (x : List ℕ) → d ≡ x → own ≡ true → lowestIn deep x mask ≡ lowestIn deep (notedRows s t p zeros n) mask
-      → lowestIn deep d mask ≡ lowestIn deep (cond own (notedRows s t p zeros n) zeros) mask
-  met-own x e o f = rw (e, o) f
+module _ (s t : List ℕ) (n : ℕ) (shared : Bool) (p : List ℕ) (mask : ℕ) (d : List ℕ) (deep : Bool) where
+  -- the terminal id is the parent's, and the masks x tell what those with all rows marked do
+  pub met-shared : (x : List ℕ) → d ≡ x → shared ≡ true → lowestIn deep x mask ≡ lowestIn deep (markedRows s t p zeros n) mask
+      → lowestIn deep d mask ≡ lowestIn deep (cond shared (markedRows s t p zeros n) zeros) mask
+  met-shared x e o f = rw (e, o) f
 
   -- it is not
-  pub met-other : d ≡ zeros → own ≡ false → lowestIn deep d mask ≡ lowestIn deep (cond own (notedRows s t p zeros n) zeros) mask
+  pub met-other : d ≡ zeros → shared ≡ false → lowestIn deep d mask ≡ lowestIn deep (cond shared (markedRows s t p zeros n) zeros) mask
   met-other e o = rw (e, o)
 
-module _ (s t : List ℕ) (n : ℕ) (own : Bool) (p : List ℕ) (mask : ℕ) (d : List ℕ) (deep : Bool)
-    (e : lowestIn deep d mask ≡ lowestIn deep (cond own (notedRows s t p zeros n) zeros) mask)
+module _ (s t : List ℕ) (n : ℕ) (shared : Bool) (p : List ℕ) (mask : ℕ) (d : List ℕ) (deep : Bool)
+    (e : lowestIn deep d mask ≡ lowestIn deep (cond shared (markedRows s t p zeros n) zeros) mask)
     (f : deep ≡ endsDeep (levelsOf (levels p))) where
-  -- the masks d tell of an escape what those do that are noted where the terminal id is the parent's
-  escape-told : EscapeOf s t n own p mask (lowestIn deep d mask)
+  -- the masks d tell of an escape what those do that are marked where the terminal id is the parent's
+  escape-told : EscapeOf s t n shared p mask (lowestIn deep d mask)
   unfolding escapeIn
   escape-told count at h =
-      e ∙ ap (λ (x : List ℕ). lowestIn deep (cond own x zeros) mask) (h .noted p zeros)
-      ∙ ap (λ (b : Bool). lowestIn b (cond own (notedAt s p zeros count at) zeros) mask) f
+      e ∙ ap (λ (x : List ℕ). lowestIn deep (cond shared x zeros) mask) (h .marks p zeros)
+      ∙ ap (λ (b : Bool). lowestIn b (cond shared (markedAt s p zeros count at) zeros) mask) f
 
   -- "**" takes one name or more
-  pub escape-deep : deep ≡ true → EscapeOf s t n own p mask (lowestFrom d mask 1 128 0 4)
+  pub escape-deep : deep ≡ true → EscapeOf s t n shared p mask (lowestFrom d mask 1 128 0 4)
   unfolding lowestIn
-  escape-deep g = subst (λ (b : Bool). EscapeOf s t n own p mask (lowestIn b d mask)) g escape-told
+  escape-deep g = subst (λ (b : Bool). EscapeOf s t n shared p mask (lowestIn b d mask)) g escape-told
 
   -- without "**" there is none to take
-  pub escape-flat : deep ≡ false → EscapeOf s t n own p mask (lowestFrom d mask 0 1 0 4)
+  pub escape-flat : deep ≡ false → EscapeOf s t n shared p mask (lowestFrom d mask 0 1 0 4)
   unfolding lowestIn
-  escape-flat g = subst (λ (b : Bool). EscapeOf s t n own p mask (lowestIn b d mask)) g escape-told
+  escape-flat g = subst (λ (b : Bool). EscapeOf s t n shared p mask (lowestIn b d mask)) g escape-told

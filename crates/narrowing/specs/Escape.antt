@@ -6,7 +6,7 @@ use mathlib.Core.Option.{Option, none, some}
 use Prim.Native.Nat.{ℕ, zero, suc, _+_, max}
 use lib.ListN.{length, getD}
 use Rattle.octets.specs.Bytes.{same}
-use Rattle.resource.specs.Pattern.{Path, Levels, done, Pattern, before, endsDeep}
+use Rattle.resource.specs.Pattern.{Path, Levels, done, Pattern, levelsBefore, endsDeep}
 use Rattle.resource.specs.Cover.{covers, witness, longestName, zs}
 use Rattle.descriptor.specs.Reader.{hasMode}
 
@@ -36,7 +36,7 @@ escapesWith qs g m k = hasMode (g .mask) m && (canTake (g .pattern .below) k && 
 -- the most levels before "**" of a parent's pattern
 abbrev pub deepest : List Rule → ℕ
 deepest [] = 0
-deepest (q ∷ qs) = max (before (q .pattern .below)) (deepest qs)
+deepest (q ∷ qs) = max (levelsBefore (q .pattern .below)) (deepest qs)
 
 -- one of two by a test
 abbrev pub choose : Bool → Option ℕ → Option ℕ → Option ℕ
@@ -57,9 +57,9 @@ orZero none = 0
 orZero (some k) = k
 
 -- a number, or another where there is none
-abbrev pub orElse : Option ℕ → ℕ → ℕ
-orElse none n = n
-orElse (some k) n = k
+abbrev pub orLimit : Option ℕ → ℕ → ℕ
+orLimit none n = n
+orLimit (some k) n = k
 
 -- the fewest names of "**" in a path that escapes by the rule in the mode; past one more than the deepest pattern nothing changes
 unfoldable pub fewestNames : List Rule → Rule → ℕ → Option ℕ

@@ -9,7 +9,7 @@ use Rattle.descriptor.specs.View.{maskOf}
 use Rattle.narrowing.specs.Meaning.{Escapes, takenBy}
 use Rattle.narrowing.specs.Escape.{Rule, witnessPath}
 use Rattle.narrowing.specs.Narrow.{narrow, numbersOf}
-use Rattle.narrowing.specs.Promises.{Reads, grantOf}
+use Rattle.narrowing.specs.Promises.{ReadAs, grantOf}
 
 -- grants as rules
 abbrev pub rulesOf : List Grant → List Rule
@@ -29,5 +29,5 @@ pub record Attained (parent : Descriptor) (g : Grant) (m k : ℕ) : Type 0 where
 -- the numbers of an answer 20 are those of the witness path
 abbrev pub WitnessAttained : Type 0
 WitnessAttained =
-    (s t : List ℕ) (parent child : Descriptor) (i m k : ℕ) → Reads s parent → Reads t child
+    (s t : List ℕ) (parent child : Descriptor) (i m k : ℕ) → ReadAs s parent → ReadAs t child
     → numbersOf (narrow s t) ≡ record { answer = 20; grant = i; mode = m; levels = k } → Attained parent (grantOf child i) m k

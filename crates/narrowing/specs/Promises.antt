@@ -52,7 +52,7 @@ ConstrainedExactly =
     → (numbersOf (narrow s t) ≡ answerOnly 19) ↔ (NoPairs (parent .payload .grants) × NoPairs (child .payload .grants) → ⊥)
 
 -- a byte string that reads, as the descriptor d, with no constraint pair
-pub record Reads (s : List ℕ) (d : Descriptor) : Type 0 where
+pub record ReadAs (s : List ℕ) (d : Descriptor) : Type 0 where
   pub bytes : AreBytes s
   pub allowed : Allowed d
   pub encoded : s ≡ encode d
@@ -68,7 +68,7 @@ PeriodInside parent child = (parent .payload .notBefore ≤ child .payload .notB
 -- 18 exactly when the child's period does not lie within the parent's
 abbrev pub PeriodExactly : Type 0
 PeriodExactly =
-    (s t : List ℕ) (parent child : Descriptor) → Reads s parent → Reads t child → (numbersOf (narrow s t) ≡ answerOnly 18)
+    (s t : List ℕ) (parent child : Descriptor) → ReadAs s parent → ReadAs t child → (numbersOf (narrow s t) ≡ answerOnly 18)
     ↔ (PeriodInside parent child → ⊥)
 
 -- ---- 20: a path that escapes
@@ -95,7 +95,7 @@ pub record FirstEscape (parent child : Descriptor) (i m k : ℕ) : Type 0 where
 -- 20 with grant place, mode and levels exactly when the period lies within and these are the numbers of the first escape
 abbrev pub EscapeExactly : Type 0
 EscapeExactly =
-    (s t : List ℕ) (parent child : Descriptor) (i m k : ℕ) → Reads s parent → Reads t child
+    (s t : List ℕ) (parent child : Descriptor) (i m k : ℕ) → ReadAs s parent → ReadAs t child
     → (numbersOf (narrow s t) ≡ record { answer = 20; grant = i; mode = m; levels = k })
     ↔ (PeriodInside parent child × FirstEscape parent child i m k)
 
@@ -108,7 +108,7 @@ Inside parent child = (moment : ℕ) (x : Path) (m : ℕ) → IsPath x → Admit
 -- 0 exactly when the child is inside the parent
 abbrev pub AcceptedExactly : Type 0
 AcceptedExactly =
-    (s t : List ℕ) (parent child : Descriptor) → Reads s parent → Reads t child → (numbersOf (narrow s t) ≡ answerOnly 0)
+    (s t : List ℕ) (parent child : Descriptor) → ReadAs s parent → ReadAs t child → (numbersOf (narrow s t) ≡ answerOnly 0)
     ↔ Inside parent child
 
 -- a chain of acceptances from the bytes s to the bytes t
@@ -118,4 +118,4 @@ pub data Chain : List ℕ → List ℕ → Type 0 where
 
 -- down a chain of acceptances the last admits nothing that the first doesn't
 abbrev pub ChainInside : Type 0
-ChainInside = (s t : List ℕ) (first last : Descriptor) → Reads s first → Reads t last → Chain s t → Inside first last
+ChainInside = (s t : List ℕ) (first last : Descriptor) → ReadAs s first → ReadAs t last → Chain s t → Inside first last

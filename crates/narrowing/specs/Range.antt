@@ -1,4 +1,4 @@
--- For which numbers of names one pattern covers another, as a range that the code reads off the two texts, and the masks that are noted
+-- For which numbers of names one pattern covers another, as a range that the code reads off the two texts, and the masks that are marked
 -- for each number. A reader of the promises does not need this page.
 use mathlib.Core.Bool.{Bool, true, false, cond, _&&_}
 use mathlib.Core.List.{List, [], _∷_}

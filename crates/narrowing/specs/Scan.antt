@@ -28,11 +28,11 @@ use Rattle.narrowing.specs.Range.{most, textRange, marked}
 abbrev pub below : List ℕ → Span → List ℕ
 below s c = part s (c .start + 46) (c .len - 46)
 
--- the masks after the n grants from a place of s on were noted
-unfoldable pub notedAt : List ℕ → List ℕ → List ℕ → ℕ → ℕ → List ℕ
-notedAt s p d zero at = d
-notedAt s p d (suc n) at =
-    elim (grantAt s at) [ got g next ↦ notedAt s p (marked 0 d (textRange (below s (g .pattern)) p) (g .mask)) n next | refused ↦ d ]
+-- the masks after the n grants from a place of s on were marked
+unfoldable pub markedAt : List ℕ → List ℕ → List ℕ → ℕ → ℕ → List ℕ
+markedAt s p d zero at = d
+markedAt s p d (suc n) at =
+    elim (grantAt s at) [ got g next ↦ markedAt s p (marked 0 d (textRange (below s (g .pattern)) p) (g .mask)) n next | refused ↦ d ]
 
 -- a table of grants has three numbers a row: where the grant's levels begin, where they end, and its mask
 abbrev pub rowStart : List ℕ → ℕ → ℕ
@@ -48,22 +48,22 @@ rowMask t i = getD t (3 * i + 2) 0
 abbrev pub rowLevels : List ℕ → List ℕ → ℕ → List ℕ
 rowLevels s t i = part s (rowStart t i) (rowEnd t i - rowStart t i)
 
--- the masks after the first n rows were noted
-unfoldable pub notedRows : List ℕ → List ℕ → List ℕ → List ℕ → ℕ → List ℕ
-notedRows s t p d zero = d
-notedRows s t p d (suc i) = marked 0 (notedRows s t p d i) (textRange (rowLevels s t i) p) (rowMask t i)
+-- the masks after the first n rows were marked
+unfoldable pub markedRows : List ℕ → List ℕ → List ℕ → List ℕ → ℕ → List ℕ
+markedRows s t p d zero = d
+markedRows s t p d (suc i) = marked 0 (markedRows s t p d i) (textRange (rowLevels s t i) p) (rowMask t i)
 
 -- the table t has n rows, each of levels that lie in s
 pub record InPlace (s t : List ℕ) (n : ℕ) : Type 0 where
   pub room : 3 * n ≤ length t
   pub row : (i : ℕ) → i < n → (rowStart t i ≤ rowEnd t i) × (rowEnd t i ≤ length s)
 
--- noting the n rows of t is noting the `count` grants from a place of s on
+-- marking the n rows of t is marking the `count` grants from a place of s on
 pub record Filled (s t : List ℕ) (n count at : ℕ) : Type 0 where
   pub places : InPlace s t n
-  pub noted : (p d : List ℕ) → notedRows s t p d n ≡ notedAt s p d count at
+  pub marks : (p d : List ℕ) → markedRows s t p d n ≡ markedAt s p d count at
 
--- the mask noted for k names lacks the mode
+-- the mask marked for k names lacks the mode
 abbrev pub lacksAt : List ℕ → ℕ → ℕ → Bool
 lacksAt d m k = not (hasMode (getD d k 0) m)
 
@@ -85,18 +85,18 @@ lowestFrom d mask from to m (suc n) =
 unfoldable pub lowestIn : Bool → List ℕ → ℕ → Found
 lowestIn deep d mask = cond deep (lowestFrom d mask 1 most 0 4) (lowestFrom d mask 0 1 0 4)
 
--- no mode is noted
+-- no mode is marked
 abbrev pub zeros : List ℕ
 zeros = replicate most 0
 
--- how a path escapes by a grant with the levels p and the mask, under the `count` grants from a place of s on; `own` where the terminal
+-- how a path escapes by a grant with the levels p and the mask, under the `count` grants from a place of s on; `shared` where the terminal
 -- id is theirs
 unfoldable pub escapeIn : List ℕ → ℕ → ℕ → Bool → List ℕ → ℕ → Found
-escapeIn s at count own p mask = lowestIn (endsDeep (levelsOf (levels p))) (cond own (notedAt s p zeros count at) zeros) mask
+escapeIn s at count shared p mask = lowestIn (endsDeep (levelsOf (levels p))) (cond shared (markedAt s p zeros count at) zeros) mask
 
 -- r is how a path escapes under the grants, any number from any place of s on, of which t has the n rows
 abbrev pub EscapeOf : List ℕ → List ℕ → ℕ → Bool → List ℕ → ℕ → Found → Type 0
-EscapeOf s t n own p mask r = (count at : ℕ) → Filled s t n count at → r ≡ escapeIn s at count own p mask
+EscapeOf s t n shared p mask r = (count at : ℕ) → Filled s t n count at → r ≡ escapeIn s at count shared p mask
 
 -- a range has every number of names that "**" can take; without "**" it has 0
 abbrev pub fullRange : Range → Bool → Bool
@@ -111,9 +111,9 @@ rowCovers s t i p mask deep = cond (eqb (bitOr (rowMask t i) mask) (rowMask t i)
 abbrev pub AloneOf : List ℕ → List ℕ → ℕ → List ℕ → ℕ → Bool → ℕ → Type 0
 AloneOf s t n p mask deep r = r < n → rowCovers s t r p mask deep ≡ true
 
--- the masks after row i was noted
-unfoldable pub rowNoted : List ℕ → List ℕ → ℕ → List ℕ → List ℕ → List ℕ
-rowNoted s t i p d = marked 0 d (textRange (rowLevels s t i) p) (rowMask t i)
+-- the masks after row i was marked
+unfoldable pub rowMarked : List ℕ → List ℕ → ℕ → List ℕ → List ℕ → List ℕ
+rowMarked s t i p d = marked 0 d (textRange (rowLevels s t i) p) (rowMask t i)
 
 -- the modes of row i, where its grant covers the levels p with each number of names, else none
 unfoldable pub fullModes : List ℕ → List ℕ → ℕ → List ℕ → Bool → ℕ
@@ -121,11 +121,11 @@ fullModes s t i p deep = cond (fullRange (textRange (rowLevels s t i) p) deep) (
 
 -- where r is one of the n rows, no path escapes by a grant with the levels p and the mask
 abbrev pub CoveredOf : List ℕ → List ℕ → ℕ → List ℕ → List ℕ → ℕ → Bool → ℕ → Type 0
-CoveredOf s t n p d mask deep r = r < n → Nothing ≡ lowestIn deep (notedRows s t p d n) mask
+CoveredOf s t n p d mask deep r = r < n → Nothing ≡ lowestIn deep (markedRows s t p d n) mask
 
--- where r is no row, the masks e tell of an escape what the masks with all rows noted do
-abbrev pub NotedOf : List ℕ → List ℕ → ℕ → List ℕ → List ℕ → ℕ → Bool → ℕ → List ℕ → Type 0
-NotedOf s t n p d mask deep r e = n ≤ r → lowestIn deep e mask ≡ lowestIn deep (notedRows s t p d n) mask
+-- where r is no row, the masks e tell of an escape what the masks with all rows marked do
+abbrev pub MarkedOf : List ℕ → List ℕ → ℕ → List ℕ → List ℕ → ℕ → Bool → ℕ → List ℕ → Type 0
+MarkedOf s t n p d mask deep r e = n ≤ r → lowestIn deep e mask ≡ lowestIn deep (markedRows s t p d n) mask
 
 -- an escape by the grant at i, or what the next grants have
 abbrev pub orNext : ℕ → Found → Narrowing → Narrowing
@@ -134,16 +134,16 @@ orNext i Nothing rest = rest
 
 -- the first, of the n grants from a place of t on, of which i came before, by which a path escapes
 unfoldable pub firstIn : List ℕ → ℕ → ℕ → Bool → List ℕ → ℕ → ℕ → ℕ → Narrowing
-firstIn s at count own t i zero from = Accepted
-firstIn s at count own t i (suc n) from =
+firstIn s at count shared t i zero from = Accepted
+firstIn s at count shared t i (suc n) from =
     elim (grantAt t from) [
-      | got g next ↦ orNext i (escapeIn s at count own (below t (g .pattern)) (g .mask)) (firstIn s at count own t (i + 1) n next)
+      | got g next ↦ orNext i (escapeIn s at count shared (below t (g .pattern)) (g .mask)) (firstIn s at count shared t (i + 1) n next)
       | refused ↦ Accepted
     ]
 
 -- r is the answer under the grants, any number from any place of s on, of which t has the n rows
 abbrev pub FirstOf : List ℕ → List ℕ → ℕ → Bool → List ℕ → ℕ → ℕ → Narrowing → Type 0
-FirstOf s t n own u grants from r = (count at : ℕ) → Filled s t n count at → r ≡ firstIn s at count own u 0 grants from
+FirstOf s t n shared u grants from r = (count at : ℕ) → Filled s t n count at → r ≡ firstIn s at count shared u 0 grants from
 
 -- both read: 19, then 18, then 20, else 0
 unfoldable pub comparedIn : List ℕ → Fields → List ℕ → Fields → Narrowing

@@ -51,10 +51,10 @@ fn compared(s: &[u8], v: Fields, t: &[u8], w: Fields) -> Narrowing
     }
     let a = v.terminal;
     let b = w.terminal;
-    let own = octets::same_start(&s[a..], &t[b..], 45);
+    let shared = octets::same_start(&s[a..], &t[b..], 45);
     let mut table = [0usize; 768];
     let rows = search::fill(s, v.first, v.grants, &mut table);
-    search::first(s, &table, rows, own, t, w.first, w.grants)
+    search::first(s, &table, rows, shared, t, w.first, w.grants)
 }
 
 // Narrows the child under the parent.

@@ -1,5 +1,5 @@
 // For which numbers of names one pattern's levels cover another's.
-use resource::Step;
+use resource::LevelStep;
 use resource::is_deep;
 ghost use mathlib.Core.Path.{_≡_};
 ghost use Prim.Native.Nat.{_<_};
@@ -54,9 +54,9 @@ pub(crate) fn cover(q: &[u8], p: &[u8]) -> Range
         return fresh(q);
     }
     match resource::step_levels(q, p) {
-        Step::Differ => Range { lo: 0, hi: 0 },
-        Step::Finish => Range { lo: 0, hi: 1 },
-        Step::Next { p: i, r: j } => cover(&q[i + 1..], &p[j + 1..]),
+        LevelStep::Differ => Range { lo: 0, hi: 0 },
+        LevelStep::Finish => Range { lo: 0, hi: 1 },
+        LevelStep::Next { p: i, r: j } => cover(&q[i + 1..], &p[j + 1..]),
     }
 }
 

@@ -12,9 +12,9 @@ ghost use Rattle.resource.specs.Level.{levels};
 ghost use Rattle.resource.specs.Pattern.{endsDeep};
 ghost use Rattle.resource.specs.Text.{levelsOf};
 ghost use Rattle.descriptor.specs.Reader.{hasMode};
-ghost use Rattle.narrowing.specs.Escape.{least, orElse};
+ghost use Rattle.narrowing.specs.Escape.{least, orLimit};
 ghost use Rattle.narrowing.specs.Range.{range, most};
-ghost use Rattle.narrowing.specs.Scan.{rowStart, rowEnd, InPlace, Filled, lacksAt, lowestFrom, EscapeOf, fullRange, rowCovers, AloneOf, fullModes, rowNoted, CoveredOf, NotedOf, FirstOf};
+ghost use Rattle.narrowing.specs.Scan.{rowStart, rowEnd, InPlace, Filled, lacksAt, lowestFrom, EscapeOf, fullRange, rowCovers, AloneOf, fullModes, rowMarked, CoveredOf, MarkedOf, FirstOf};
 
 // A mode and a number of names.
 pub(crate) enum Found {
@@ -63,10 +63,10 @@ fn lacks(mask: u64, mode: u64) -> bool
     }
 }
 
-// The least number from `from` on and below `to` at which the mask noted lacks the mode; `to` where there is none.
+// The least number from `from` on and below `to` at which the mask marked lacks the mode; `to` where there is none.
 fn least_lacking(d: &[u64], mode: u64, from: usize, to: usize) -> usize
     requires { ⌜ (mode < 4) × (from ≤ to) × (to ≤ length (now d)) ⌝ }
-    ensures { λ r. ⌜ r ≡ orElse (least (lacksAt (now (d .entry)) mode) from (to - from)) to ⌝ }
+    ensures { λ r. ⌜ r ≡ orLimit (least (lacksAt (now (d .entry)) mode) from (to - from)) to ⌝ }
 {
     let mut k = from;
     while k < to {
@@ -182,10 +182,10 @@ fn alone(
 
 // Notes row i, for each number of names with which its grant covers the levels p. Answers its modes where it does so with every number,
 // else 0.
-fn note_row(parent: &[u8], table: &[usize], i: usize, p: &[u8], deep: bool, d: &mut [u64]) -> u64
+fn mark_row(parent: &[u8], table: &[usize], i: usize, p: &[u8], deep: bool, d: &mut [u64]) -> u64
     requires { ⌜ (3 * i + 2 < length (now table)) × (rowStart (now table) i ≤ rowEnd (now table) i) × (rowEnd (now table) i ≤ length (now parent)) ⌝ }
     ensures modes { λ r. ⌜ r ≡ fullModes (now (parent .entry)) (now (table .entry)) i (now (p .entry)) deep ⌝ }
-    ensures noted { λ r. ⌜ now (d .exit) ≡ rowNoted (now (parent .entry)) (now (table .entry)) i (now (p .entry)) (now (d .entry)) ⌝ }
+    ensures marks { λ r. ⌜ now (d .exit) ≡ rowMarked (now (parent .entry)) (now (table .entry)) i (now (p .entry)) (now (d .entry)) ⌝ }
 {
     let k = 3 * i;
     let start = table[k];
@@ -203,7 +203,7 @@ fn note_row(parent: &[u8], table: &[usize], i: usize, p: &[u8], deep: bool, d: &
 // Notes for each number of names the modes in which the grants of the table cover the levels p, and answers `rows`. A row that adds no
 // mode of the mask to those that the rows before it cover with every number is left out; where these are all modes of the mask, it
 // stops and answers the last of these rows.
-fn note(
+fn mark_rows(
     parent: &[u8],
     table: &[usize],
     rows: usize,
@@ -214,14 +214,14 @@ fn note(
 ) -> usize
     requires { ⌜ InPlace (now parent) (now table) rows × (length (now d) ≡ most) ⌝ }
     ensures covered { λ r. ⌜ CoveredOf (now (parent .entry)) (now (table .entry)) rows (now (p .entry)) (now (d .entry)) mask deep r ⌝ }
-    ensures noted { λ r. ⌜ NotedOf (now (parent .entry)) (now (table .entry)) rows (now (p .entry)) (now (d .entry)) mask deep r (now (d .exit)) ⌝ }
+    ensures marks { λ r. ⌜ MarkedOf (now (parent .entry)) (now (table .entry)) rows (now (p .entry)) (now (d .entry)) mask deep r (now (d .exit)) ⌝ }
 {
     let mut done: u64 = 0;
     let mut i = 0;
     while i < rows {
         let modes = table[3 * i + 2] as u64;
         if (modes & mask) | done != done {
-            done = done | note_row(parent, table, i, p, deep, d);
+            done = done | mark_row(parent, table, i, p, deep, d);
             if done | mask == done {
                 return i;
             }
@@ -231,24 +231,24 @@ fn note(
     rows
 }
 
-// How a path escapes by a grant with the levels p and the mask; `own` where its terminal id is the parent's. Where the rows up to one
+// How a path escapes by a grant with the levels p and the mask; `shared` where its terminal id is the parent's. Where the rows up to one
 // cover the grant, `near` becomes that row.
 fn escape(
     parent: &[u8],
     table: &[usize],
     rows: usize,
-    own: bool,
+    shared: bool,
     p: &[u8],
     mask: u64,
     near: &mut usize,
 ) -> Found
     requires { ⌜ InPlace (now parent) (now table) rows ⌝ }
-    ensures { λ r. ⌜ EscapeOf (now (parent .entry)) (now (table .entry)) rows own (now (p .entry)) mask r ⌝ }
+    ensures { λ r. ⌜ EscapeOf (now (parent .entry)) (now (table .entry)) rows shared (now (p .entry)) mask r ⌝ }
 {
     let mut d = [0u64; 128];
     let deep = ends_deep(p);
-    if own {
-        let row = note(parent, table, rows, p, mask, deep, &mut d);
+    if shared {
+        let row = mark_rows(parent, table, rows, p, mask, deep, &mut d);
         if row < rows {
             *near = row;
             return Found::Nothing;
@@ -265,22 +265,22 @@ fn escape_near(
     parent: &[u8],
     table: &[usize],
     rows: usize,
-    own: bool,
+    shared: bool,
     p: &[u8],
     mask: u64,
     near: &mut usize,
 ) -> Found
     requires { ⌜ InPlace (now parent) (now table) rows ⌝ }
-    ensures { λ r. ⌜ EscapeOf (now (parent .entry)) (now (table .entry)) rows own (now (p .entry)) mask r ⌝ }
+    ensures { λ r. ⌜ EscapeOf (now (parent .entry)) (now (table .entry)) rows shared (now (p .entry)) mask r ⌝ }
 {
-    if own {
+    if shared {
         let row = alone(parent, table, rows, *near, p, mask, ends_deep(p));
         if row < rows {
             *near = row;
             return Found::Nothing;
         }
     }
-    escape(parent, table, rows, own, p, mask, near)
+    escape(parent, table, rows, shared, p, mask, near)
 }
 
 // The first of the child's grants from `from` on by which a path escapes.
@@ -288,13 +288,13 @@ pub(crate) fn first(
     parent: &[u8],
     table: &[usize],
     rows: usize,
-    own: bool,
+    shared: bool,
     child: &[u8],
     from: usize,
     grants: u64,
 ) -> Narrowing
     requires { ⌜ InPlace (now parent) (now table) rows ⌝ }
-    ensures { λ r. ⌜ FirstOf (now (parent .entry)) (now (table .entry)) rows own (now (child .entry)) grants from r ⌝ }
+    ensures { λ r. ⌜ FirstOf (now (parent .entry)) (now (table .entry)) rows shared (now (child .entry)) grants from r ⌝ }
 {
     let mut i: u64 = 0;
     let mut here = from;
@@ -305,7 +305,7 @@ pub(crate) fn first(
         };
         let end = fields.pattern + fields.len;
         let p = &child[fields.pattern + 46..end];
-        let found = escape_near(parent, table, rows, own, p, fields.mask, &mut near);
+        let found = escape_near(parent, table, rows, shared, p, fields.mask, &mut near);
         if let Found::At { mode, levels } = found {
             return Narrowing::NotCovered {
                 grant: i,

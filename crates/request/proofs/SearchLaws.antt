@@ -9,13 +9,13 @@ use lib.Dec.{eqb}
 use borrow.Author.Tests.{eq-eqb, ne-eqb}
 use Rattle.octets.specs.Bytes.{part}
 use Rattle.exact.specs.Reads.{got, refused}
-use Rattle.resource.specs.declared.Step.{Step}
-use Rattle.resource.specs.declared.Step.the-variants.{Differ}
+use Rattle.resource.specs.declared.LevelStep.{LevelStep}
+use Rattle.resource.specs.declared.LevelStep.the-variants.{Differ}
 use Rattle.resource.specs.Level.{isDeep}
 use Rattle.resource.specs.Scan.{stepOf}
 use Rattle.resource.specs.Text.{levelsMatch}
 use Rattle.resource.specs.Laws.{Stepped}
-use Rattle.resource.proofs.Laws.{step-told}
+use Rattle.resource.proofs.Laws.{step-decides}
 use Rattle.descriptor.specs.Reader.{hasMode, GrantSeen, grantAt}
 use Rattle.descriptor.proofs.ValueSteps.{lent-levels}
 use Rattle.request.specs.declared.search.Matched.the-variants.{IsAt, Nothing}
@@ -49,8 +49,8 @@ serves-both s r mode g b t e m =
 -- ---- the levels of a grant, one after the other
 
 -- Where the first levels differ, the levels do not match.
-pub differ-told : (p q : List ℕ) {x : Step} → isDeep p ≡ false → x ≡ stepOf p q → x ≡ Differ → levelsMatch p q ≡ false
-differ-told p q d e f = subst (Stepped p q) (sym e ∙ f) (step-told p q d)
+pub differ-told : (p q : List ℕ) {x : LevelStep} → isDeep p ≡ false → x ≡ stepOf p q → x ≡ Differ → levelsMatch p q ≡ false
+differ-told p q d e f = subst (Stepped p q) (sym e ∙ f) (step-decides p q d)
 
 -- ---- the search
 

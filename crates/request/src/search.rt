@@ -1,7 +1,7 @@
 // The first grant that serves a request. Document 01: the search ends at the first grant that matches.
 use descriptor::GrantFields;
 use descriptor::GrantRead;
-use resource::Step;
+use resource::LevelStep;
 ghost use mathlib.Core.Path.{_≡_};
 ghost use Prim.Native.Nat.{_≤_};
 ghost use Rattle.request.specs.Decision.{firstFrom};
@@ -56,14 +56,14 @@ pub(crate) fn first_grant(s: &[u8], first: usize, count: u64, mode: u64, r: &[u8
                     };
                 }
                 match resource::step_levels(p, q) {
-                    Step::Differ => break 'levels,
-                    Step::Finish => {
+                    LevelStep::Differ => break 'levels,
+                    LevelStep::Finish => {
                         break 'grants Matched::IsAt {
                             grant: i,
                             mask: fields.mask,
                         };
                     }
-                    Step::Next { p: a, r: b } => {
+                    LevelStep::Next { p: a, r: b } => {
                         p = &p[a + 1..];
                         q = &q[b + 1..];
                     }

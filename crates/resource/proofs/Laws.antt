@@ -1,6 +1,6 @@
 -- The statements of specs/Laws.antt, each from its law. Assumes nothing.
 use Rattle.resource.specs.Laws.{TerminalLength, FayLength, PatternShort, ResourceShort, PatternTerminal, PatternLevels, AdmitsText}
-use Rattle.resource.specs.Laws.{PatternSpaceless, FirstStar, SpelledFirst, StepLevels, StepTold, DeepTold, NextSame, CoversExact, TakenCan}
+use Rattle.resource.specs.Laws.{PatternSpaceless, FirstStar, SpelledFirst, StepLevels, StepDecides, DeepMatches, NextSame, CoversExact, TakenCan}
 use Rattle.resource.specs.Laws.{CoversStay, WitnessMatched, WitnessDecides, WitnessNames, ZsFresh}
 use Rattle.resource.proofs.CoverLaws.{covers-exactly, taken-can-be, covers-stays, witness-is-matched, witness-covers}
 use Rattle.resource.proofs.CoverLaws.{witness-has-names, zs-are-fresh}
@@ -46,11 +46,11 @@ spelled-first = first-spelled
 pub step-levels : StepLevels
 step-levels = first-levels
 
-pub step-told : StepTold
-step-told = step-tells
+pub step-decides : StepDecides
+step-decides = step-tells
 
-pub deep-told : DeepTold
-deep-told = deep-tells
+pub deep-matches : DeepMatches
+deep-matches = deep-tells
 
 pub next-same : NextSame
 next-same = next-decides

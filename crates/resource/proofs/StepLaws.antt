@@ -11,15 +11,15 @@ use lib.ListN.{length, getD, drop, take, length-append, drop-of-length-le}
 use lib.Seq.{drop-cons}
 use lib.Dec.{eqb}
 use borrow.Author.Tests.{eq-eqb, ne-eqb}
-use Rattle.resource.specs.declared.Step.{Step}
-use Rattle.resource.specs.declared.Step.the-variants.{Differ, Finish, Next}
+use Rattle.resource.specs.declared.LevelStep.{LevelStep}
+use Rattle.resource.specs.declared.LevelStep.the-variants.{Differ, Finish, Next}
 use Rattle.octets.specs.Bytes.{same}
 use Rattle.octets.specs.Scan.{bytesBefore, without}
 use Rattle.resource.specs.Level.{isStar, isDeep, levels}
 use Rattle.resource.specs.Pattern.{Levels, done, deep, matches}
 use Rattle.resource.specs.Text.{withLevel, levelsOf, levelsMatch}
 use Rattle.resource.specs.Scan.{levelLength, nameStep, starFirst, starStep, stepOf}
-use Rattle.resource.specs.Laws.{alike, Firsts, FirstLevels, Goes, Stepped, StepLevels, FirstStar, StepTold, DeepTold}
+use Rattle.resource.specs.Laws.{alike, Firsts, FirstLevels, Goes, Stepped, StepLevels, FirstStar, StepDecides, DeepMatches}
 use Rattle.octets.proofs.Tests.{by-cond, no-flag}
 use Rattle.octets.proofs.SameLaws.{same-equal}
 use Rattle.octets.proofs.PartLaws.{part-to-end}
@@ -143,7 +143,7 @@ tailLevels [] = []
 tailLevels (b ∷ t) = levels t
 
 -- the step where the first levels match, by what follows them
-unfoldable pub tailStep : ℕ → ℕ → List ℕ → List ℕ → Step
+unfoldable pub tailStep : ℕ → ℕ → List ℕ → List ℕ → LevelStep
 tailStep i j [] [] = Finish
 tailStep i j [] (y ∷ b) = Differ
 tailStep i j (x ∷ a) [] = Differ
@@ -326,7 +326,7 @@ other-match true (l ∷ ls) [] e = none-left l ls
 other-match true (l ∷ ls) (k ∷ ks) e = no-flag (sym e)
 
 -- what is told of a pattern that is not "**" by the step of its first level
-match-told : (p r : List ℕ) (x : Step) → FirstLevels p r x → isDeep p ≡ false → Stepped p r x
+match-told : (p r : List ℕ) (x : LevelStep) → FirstLevels p r x → isDeep p ≡ false → Stepped p r x
 unfolding levelsOf levelsMatch
 match-told p r Differ f d = first-match p r (f .0) (f .1) (f .2) (f .3) d ∙ other-match (f .2) (f .0) (f .1) (f .4)
 match-told p r Finish f d = first-match p r [] [] true f d
@@ -339,7 +339,7 @@ match-told p r (Next i j) f d =
     }
 
 -- it holds of each two texts
-pub step-tells : StepTold
+pub step-tells : StepDecides
 step-tells p r d = match-told p r (stepOf p r) (first-levels p r) d
 
 -- the levels after the first, as the code hands them on
@@ -353,6 +353,6 @@ module _ (p r : List ℕ) (i j : ℕ) (g : Goes p r i j) where
   next-decides = rw (part-to-end p (i + 1), part-to-end r (j + 1)) (sym (g .decides))
 
 -- "**" matches whatever is left
-pub deep-tells : DeepTold
+pub deep-tells : DeepMatches
 unfolding levelsMatch levels levelsOf same
 deep-tells p r e = rw (same-equal p (42 ∷ 42 ∷ []) e, levels-some r .2)

@@ -7,12 +7,12 @@ use mathlib.Core.List.{List, [], _∷_}
 use Prim.Native.Nat.{ℕ, suc, _+_, _-_, _≤_, _<_}
 use lib.ListN.{length, take, drop}
 use Rattle.octets.specs.Bytes.{same}
-use Rattle.resource.specs.declared.Step.{Step}
-use Rattle.resource.specs.declared.Step.the-variants.{Differ, Finish, Next}
+use Rattle.resource.specs.declared.LevelStep.{LevelStep}
+use Rattle.resource.specs.declared.LevelStep.the-variants.{Differ, Finish, Next}
 use Rattle.resource.specs.Identifier.{isFay, isTerminal}
 use Rattle.resource.specs.Level.{isName, isStar, isDeep, levels}
 use Rattle.octets.specs.Scan.{without}
-use Rattle.resource.specs.Pattern.{Levels, Pattern, matches, admits, before, taken, AllNames, Some, NamesIn, spelled}
+use Rattle.resource.specs.Pattern.{Levels, Pattern, matches, admits, levelsBefore, taken, AllNames, Some, NamesIn, spelled}
 use Rattle.resource.specs.Pattern.{IsPattern, patternText}
 use Rattle.resource.specs.Text.{resourceOk, patternOk, pathOf, patternOf, withLevel, levelsOf, levelsMatch}
 use Rattle.resource.specs.Scan.{starFirst, stepOf}
@@ -83,7 +83,7 @@ alike (l ∷ ls) (k ∷ ks) = true
 
 -- what a step says: the first levels do not fit, or levels follow only one of them; they fit and are the last; or they fit and "/"
 -- follows both
-abbrev pub FirstLevels : List ℕ → List ℕ → Step → Type 0
+abbrev pub FirstLevels : List ℕ → List ℕ → LevelStep → Type 0
 FirstLevels p r Differ = (ls : List (List ℕ)) × (ks : List (List ℕ)) × (t : Bool) × Firsts p r ls ks t × ((t && alike ls ks) ≡ false)
 FirstLevels p r Finish = Firsts p r [] [] true
 FirstLevels p r (Next i j) = (i < length p) × (j < length r) × Firsts p r (levels (drop (i + 1) p)) (levels (drop (j + 1) r)) true
@@ -100,18 +100,18 @@ pub record Goes (p r : List ℕ) (i j : ℕ) : Type 0 where
   pub fewer : length (levels (drop (i + 1) p)) < length (levels p)
 
 -- what is told of the matching of two texts by the step of their first levels
-abbrev pub Stepped : List ℕ → List ℕ → Step → Type 0
+abbrev pub Stepped : List ℕ → List ℕ → LevelStep → Type 0
 Stepped p r Differ = levelsMatch p r ≡ false
 Stepped p r Finish = levelsMatch p r ≡ true
 Stepped p r (Next i j) = Goes p r i j
 
 -- it holds where the pattern is not "**"
-abbrev pub StepTold : Type 0
-StepTold = (p r : List ℕ) → isDeep p ≡ false → Stepped p r (stepOf p r)
+abbrev pub StepDecides : Type 0
+StepDecides = (p r : List ℕ) → isDeep p ≡ false → Stepped p r (stepOf p r)
 
 -- "**" matches whatever is left
-abbrev pub DeepTold : Type 0
-DeepTold = (p r : List ℕ) → isDeep p ≡ true → levelsMatch p r ≡ true
+abbrev pub DeepMatches : Type 0
+DeepMatches = (p r : List ℕ) → isDeep p ≡ true → levelsMatch p r ≡ true
 
 -- the levels after the first, as slices that go to the end, decide
 abbrev pub NextSame : Type 0
@@ -131,7 +131,7 @@ TakenCan = (p : Levels) (xs : List (List ℕ)) → matches p xs ≡ true → Can
 
 -- from more names on than q has levels before its "**" nothing changes
 abbrev pub CoversStay : Type 0
-CoversStay = (q p : Levels) (k : ℕ) → before q < k → covers q p (suc k) ≡ covers q p k
+CoversStay = (q p : Levels) (k : ℕ) → levelsBefore q < k → covers q p (suc k) ≡ covers q p k
 
 -- the witness path is matched by p, with k names for its "**"
 abbrev pub WitnessMatched : Type 0

@@ -26,7 +26,7 @@ pub struct MatchingNumbers {
 
 // The first levels of a pattern and of a path: they do not match; they match and are the last; or they match, and "/" follows the
 // p bytes of the one and the r bytes of the other.
-pub enum Step {
+pub enum LevelStep {
     Differ,
     Finish,
     Next { p: usize, r: usize },
@@ -69,7 +69,7 @@ pub fn is_deep(p: &[u8]) -> bool
 
 // The first level of a pattern's levels p against the first level of r: a name against the same bytes, "*" against any. Where r is a
 // pattern's levels too, its wildcards stand for names that p does not have.
-pub fn step_levels(p: &[u8], r: &[u8]) -> Step
+pub fn step_levels(p: &[u8], r: &[u8]) -> LevelStep
     ensures { λ o. ⌜ o ≡ stepOf (now (p .entry)) (now (r .entry)) ⌝ }
 {
     matcher::first_step(p, r)

@@ -1,6 +1,6 @@
 // Matching a pattern against a path, level by level from the left.
+use crate::LevelStep;
 use crate::Matching;
-use crate::Step;
 use crate::levels::pattern;
 use crate::levels::resource;
 ghost use mathlib.Core.Path.{_≡_};
@@ -9,26 +9,26 @@ ghost use Rattle.resource.specs.Text.{levelsMatch, matching};
 ghost use Rattle.resource.specs.Scan.{levelLength, nameStep, starFirst, starStep, stepOf};
 
 // A name of p against a name of r.
-fn name_step(p: &[u8], r: &[u8]) -> Step
+fn name_step(p: &[u8], r: &[u8]) -> LevelStep
     ensures { λ o. ⌜ o ≡ nameStep 0 (now (p .entry)) (now (r .entry)) ⌝ }
 {
     let mut i = 0;
     while i < p.len() {
         if r.len() <= i {
-            return Step::Differ;
+            return LevelStep::Differ;
         }
         if p[i] != r[i] {
-            return Step::Differ;
+            return LevelStep::Differ;
         }
         if p[i] == b'/' {
-            return Step::Next { p: i, r: i };
+            return LevelStep::Next { p: i, r: i };
         }
         i += 1;
     }
     if i < r.len() {
-        return Step::Differ;
+        return LevelStep::Differ;
     }
-    Step::Finish
+    LevelStep::Finish
 }
 
 // Whether the first level of p is "*".
@@ -45,24 +45,24 @@ fn star_first(p: &[u8]) -> bool
 }
 
 // "*" against the first level of r.
-fn star_step(p: &[u8], r: &[u8]) -> Step
+fn star_step(p: &[u8], r: &[u8]) -> LevelStep
     ensures { λ o. ⌜ o ≡ starStep (now (p .entry)) (now (r .entry)) (levelLength (now (r .entry))) ⌝ }
 {
     let n = octets::until(r, 0, b'/');
     if p.len() == 1 {
         if n == r.len() {
-            return Step::Finish;
+            return LevelStep::Finish;
         }
-        return Step::Differ;
+        return LevelStep::Differ;
     }
     if n == r.len() {
-        return Step::Differ;
+        return LevelStep::Differ;
     }
-    Step::Next { p: 1, r: n }
+    LevelStep::Next { p: 1, r: n }
 }
 
 // The first level of p against the first level of r.
-pub(crate) fn first_step(p: &[u8], r: &[u8]) -> Step
+pub(crate) fn first_step(p: &[u8], r: &[u8]) -> LevelStep
     ensures { λ o. ⌜ o ≡ stepOf (now (p .entry)) (now (r .entry)) ⌝ }
 {
     if star_first(p) {
@@ -89,9 +89,9 @@ pub(crate) fn levels(p: &[u8], r: &[u8]) -> bool
         return true;
     }
     match first_step(p, r) {
-        Step::Differ => false,
-        Step::Finish => true,
-        Step::Next { p: i, r: j } => levels(&p[i + 1..], &r[j + 1..]),
+        LevelStep::Differ => false,
+        LevelStep::Finish => true,
+        LevelStep::Next { p: i, r: j } => levels(&p[i + 1..], &r[j + 1..]),
     }
 }
 

@@ -12,7 +12,7 @@ use borrow.Author.Tests.{leb-true, le-leb, eqb-false, ne-eqb}
 use Rattle.cbor_item.specs.Encoding.{head}
 use Rattle.exact.specs.Reads.{OptOk, AllFrom}
 use Rattle.octets.proofs.Tests.{by-cond, and-left, and-right, and-both}
-use Rattle.resource.specs.Text.{isPattern, longest, patternOk}
+use Rattle.resource.specs.Text.{isPattern, longestText, patternOk}
 use Rattle.descriptor.specs.Model.{Pair, Grant, Descriptor}
 use Rattle.octets.specs.Order.{before}
 use Rattle.descriptor.specs.Allowed.{TextOk, PairOk, keyOf, PairsOk, isIn, ModeOk, seenWith, ModesOk, GrantOk, All, Formed}
@@ -176,11 +176,11 @@ within-modes ms q = record { least = q .least; most = q .most; each = each-mode 
 pattern-within : (p : List ℕ) → patternOk p ≡ true → (isPattern p ≡ true) × (length p ≤ 256)
 unfolding patternOk
 pattern-within p e =
-    (and-right (leb (length p) longest) (isPattern p) e, leb-true (length p) longest (and-left (leb (length p) longest) (isPattern p) e))
+    (and-right (leb (length p) longestText) (isPattern p) e, leb-true (length p) longestText (and-left (leb (length p) longestText) (isPattern p) e))
 
 within-pattern : (p : List ℕ) → isPattern p ≡ true → length p ≤ 256 → patternOk p ≡ true
 unfolding patternOk
-within-pattern p e l = and-both (leb (length p) longest) (isPattern p) (le-leb (length p) longest l) e
+within-pattern p e l = and-both (leb (length p) longestText) (isPattern p) (le-leb (length p) longestText l) e
 
 pub grant-within : (t : List ℕ) (g : Grant) → GrantOk g → take 45 (g .pattern) ≡ t → GrantWithin t g
 grant-within t g q o =

@@ -9,7 +9,7 @@ use borrow.Fn.Kinds.{In}
 use borrow.Fn.PlainCycle.{Measures, is, falls, and}
 use Rattle.resource.specs.Level.{isDeep, levels}
 use Rattle.resource.proofs.step_levels.Reads as step-levels-reads
-use Rattle.narrowing.proofs.CoverSteps.{Goes, Stepped, step-told, next-fewer, next-same, deep-told, fresh-told}
+use Rattle.narrowing.proofs.CoverSteps.{Goes, Stepped, step-decides, next-fewer, next-same, deep-matches, fresh-told}
 use Rattle.narrowing.proofs.range.cover.Reads as cover
 use Rattle.narrowing.proofs.range.cover.Kinds as cover-kinds
 use Rattle.narrowing.proofs.range.+cover.Lts-cover as cover-lts
@@ -54,7 +54,7 @@ stepped t a =
     let e = a .before in
     let s = e .before .before .before .before .before .before .args in
     subst (Stepped (s .q .now) (s .p .now)) (sym (a .step-levels .ensures))
-    (step-told (s .q .now) (s .p .now) (q-not-deep t (e .before .before)) (sym (e .before .is-deep2 .ensures) ∙ e .if2 .left))
+    (step-decides (s .q .now) (s .p .now) (q-not-deep t (e .before .before)) (sym (e .before .is-deep2 .ensures) ∙ e .if2 .left))
 
 -- and where both have levels after them
 goes : (t : ℕ) (a : cover-lts.After-i (given t) (cover-at t) cover.Post)
@@ -66,7 +66,7 @@ goes t a = subst (Stepped _ _) (a .i .given .1) (stepped t (a .before .before))
 
 -- the needs at the measure t
 cover-returns : (t : ℕ) → cover-lts.Need-returns (given t) (cover-at t) cover.Post
-cover-returns t c = sym (deep-told _ _ (sym (c .before .is-deep .ensures) ∙ c .if1 .taken))
+cover-returns t c = sym (deep-matches _ _ (sym (c .before .is-deep .ensures) ∙ c .if1 .taken))
 
 cover-returns-2 : (t : ℕ) → cover-lts.Need-returns-2 (given t) (cover-at t) cover.Post
 cover-returns-2 t c = let e = c .before in c .fresh .ensures ∙ sym

@@ -6,18 +6,18 @@ use Prim.Native.Nat.{ℕ}
 use native.Mathlib.Omega.{arith}
 use lib.ListN.{length, length-replicate}
 use borrow.Author.Needs.{needs}
-use Rattle.narrowing.specs.Scan.{notedRows, lowestIn, zeros}
-use Rattle.narrowing.proofs.TableLaws.{escape-nothing, met-own, met-other, escape-deep, escape-flat}
+use Rattle.narrowing.specs.Scan.{markedRows, lowestIn, zeros}
+use Rattle.narrowing.proofs.TableLaws.{escape-nothing, met-shared, met-other, escape-deep, escape-flat}
 use Rattle.narrowing.proofs.search.escape.Statement.{statement}
 use Rattle.narrowing.proofs.search.escape.Tie as tie
 
--- where the two ways meet, the masks tell what those do that are noted where the terminal id is the parent's
-noted : (j : tie.Joined1)
+-- where the two ways meet, the masks tell what those do that are marked where the terminal id is the parent's
+masks-tell : (j : tie.Joined1)
     → (let a = j .before .before .before .before .before .args in
     lowestIn (j .before .ends-deep .result) (j .if1 .d) (a .mask)
-    ≡ lowestIn (j .before .ends-deep .result) (cond (a .own) (notedRows (a .parent .now) (a .table .now) (a .p .now) zeros (a .rows)) zeros) (a .mask))
-noted j =
-    ⊎-elim (λ w. met-own _ _ _ _ _ _ _ _ _ (w .5) (w .0 .taken) (w .2 .ensures .1 (w .4 .left))) (λ w. met-other _ _ _ _ _ _ _ _ (w .1) (w .0 .left))
+    ≡ lowestIn (j .before .ends-deep .result) (cond (a .shared) (markedRows (a .parent .now) (a .table .now) (a .p .now) zeros (a .rows)) zeros) (a .mask))
+masks-tell j =
+    ⊎-elim (λ w. met-shared _ _ _ _ _ _ _ _ _ (w .5) (w .0 .taken) (w .2 .ensures .1 (w .4 .left))) (λ w. met-other _ _ _ _ _ _ _ _ (w .1) (w .0 .left))
     (j .if1 .came)
 
 -- they are 128
@@ -29,7 +29,7 @@ returns : tie.Need-returns
 returns c =
     let n = c .before .before in
     let t = n .before .before in
-    escape-nothing _ _ _ _ _ _ _ (t .if1 .taken) (t .before .ends-deep .ensures) (n .note .ensures .0 (c .if2 .taken))
+    escape-nothing _ _ _ _ _ _ _ (t .if1 .taken) (t .before .ends-deep .ensures) (n .mark-rows .ensures .0 (c .if2 .taken))
 
 slice-aggregate-lowest : tie.Need-slice-aggregate-lowest
 slice-aggregate-lowest c = full (c .before .before)
@@ -41,7 +41,7 @@ returns-2 : tie.Need-returns-2
 returns-2 c =
     let t = c .before .before in
     let j = t .before in
-    λ count at f. c .lowest .ensures ∙ escape-deep _ _ _ _ _ _ _ _ (noted j) (j .before .ends-deep .ensures) (t .if3 .taken) count at f
+    λ count at f. c .lowest .ensures ∙ escape-deep _ _ _ _ _ _ _ _ (masks-tell j) (j .before .ends-deep .ensures) (t .if3 .taken) count at f
 
 slice-aggregate-lowest-2 : tie.Need-slice-aggregate-lowest-2
 slice-aggregate-lowest-2 c = full (c .before .before)
@@ -53,7 +53,7 @@ returns-3 : tie.Need-returns-3
 returns-3 c =
     let t = c .before .before in
     let j = t .before in
-    λ count at f. c .lowest2 .ensures ∙ escape-flat _ _ _ _ _ _ _ _ (noted j) (j .before .ends-deep .ensures) (t .if3 .left) count at f
+    λ count at f. c .lowest2 .ensures ∙ escape-flat _ _ _ _ _ _ _ _ (masks-tell j) (j .before .ends-deep .ensures) (t .if3 .left) count at f
 
 pub escape-spec : {M : Type 1} → statement M
 escape-spec =

@@ -14,12 +14,12 @@ use Rattle.narrowing.proofs.search.first.Statement.{statement}
 use Rattle.narrowing.proofs.search.first.Tie as tie
 
 abbrev Inv-loop : tie.InvT-loop
-Inv-loop parent table rows own child from grants i₀ here₀ near₀ i here near =
+Inv-loop parent table rows shared child from grants i₀ here₀ near₀ i here near =
     (i ≤ grants)
-    × ((count at : ℕ) → Filled parent table rows count at → firstIn parent at count own child i (grants - i) here ≡ firstIn parent at count own child 0 grants from)
+    × ((count at : ℕ) → Filled parent table rows count at → firstIn parent at count shared child i (grants - i) here ≡ firstIn parent at count shared child 0 grants from)
 
 abbrev μ-loop : tie.MeasureT-loop
-μ-loop parent table rows own child from grants i₀ here₀ near₀ i here near = grants - i
+μ-loop parent table rows shared child from grants i₀ here₀ near₀ i here near = grants - i
 
 -- the grant that was read
 seen : (k : tie.After-fields Inv-loop μ-loop)

@@ -4,14 +4,14 @@ use mathlib.Core.Path.{_≡_, refl, sym, _∙_}
 use Prim.Native.Nat.{_-_, _≤_}
 use native.Mathlib.Omega.{arith}
 use borrow.Author.Needs.{needs}
-use Rattle.narrowing.specs.Escape.{least, orElse}
+use Rattle.narrowing.specs.Escape.{least, orLimit}
 use Rattle.narrowing.specs.Scan.{lacksAt}
 use Rattle.narrowing.proofs.SearchSteps.{least-hit, least-miss, least-end}
 use Rattle.narrowing.proofs.search.least_lacking.Statement.{statement}
 use Rattle.narrowing.proofs.search.least_lacking.Tie as tie
 
 abbrev Inv-loop : tie.InvT-loop
-Inv-loop d mode from to k₀ k = (k ≤ to) × (orElse (least (lacksAt d mode) from (to - from)) to ≡ orElse (least (lacksAt d mode) k (to - k)) to)
+Inv-loop d mode from to k₀ k = (k ≤ to) × (orLimit (least (lacksAt d mode) from (to - from)) to ≡ orLimit (least (lacksAt d mode) k (to - k)) to)
 
 abbrev μ-loop : tie.MeasureT-loop
 μ-loop d mode from to k₀ k = to - k

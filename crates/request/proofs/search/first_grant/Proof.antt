@@ -11,7 +11,7 @@ use borrow.Author.Needs.{needs}
 use Rattle.resource.specs.Text.{levelsMatch}
 use Rattle.octets.proofs.PartLaws.{part-shorter}
 use Rattle.resource.specs.Laws.{Goes, Stepped}
-use Rattle.resource.proofs.Laws.{step-told, deep-told, next-same}
+use Rattle.resource.proofs.Laws.{step-decides, deep-matches, next-same}
 use Rattle.descriptor.specs.declared.GrantRead.the-variants.{IsGrant}
 use Rattle.descriptor.specs.Answer.{grantRead}
 use Rattle.descriptor.specs.Reader.{grantAt}
@@ -79,7 +79,7 @@ stepped x =
     let d = x .before .before in
     let l = d .before in
     subst (Stepped (l .levels .p .now) (l .levels .q .now)) (sym (x .step-levels .ensures))
-    (step-told (l .levels .p .now) (l .levels .q .now) (sym (d .is-deep .ensures) ∙ x .before .if3 .left))
+    (step-decides (l .levels .p .now) (l .levels .q .now) (sym (d .is-deep .ensures) ∙ x .before .if3 .left))
 
 -- where both have levels after the first
 goes : (x : tie.After-a Inv-levels μ-levels Inv-grants μ-grants)
@@ -180,7 +180,7 @@ returns-2 c =
     sym (g .grants .inv .1 ∙ first-stop _ _ _ _ _ _ (k .before .if1 .left) (sym (ap grantRead (c .enum-told .given .1)) ∙ k .read-grant .ensures))
 
 returns-3 : tie.Need-returns-3 Inv-levels μ-levels Inv-grants μ-grants
-returns-3 c = hit (c .before .before) (deep-told _ _ (sym (c .before .is-deep .ensures) ∙ c .if3 .taken))
+returns-3 c = hit (c .before .before) (deep-matches _ _ (sym (c .before .is-deep .ensures) ∙ c .if3 .taken))
 
 returns-4 : tie.Need-returns-4 Inv-levels μ-levels Inv-grants μ-grants
 returns-4 c = let x = c .before .before in hit (x .before .before .before) (subst (Stepped _ _) (c .enum-told3 .given .1) (stepped x))

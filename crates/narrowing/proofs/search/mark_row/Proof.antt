@@ -1,26 +1,26 @@
--- `note_row` meets its contract. Assumes nothing.
+-- `mark_row` meets its contract. Assumes nothing.
 use mathlib.Core.Path.{_∙_}
 use borrow.Author.Needs.{needs}
-use Rattle.narrowing.proofs.NotingLaws.{noted-row, modes-told}
-use Rattle.narrowing.proofs.search.note_row.Statement.{statement}
-use Rattle.narrowing.proofs.search.note_row.Tie as tie
+use Rattle.narrowing.proofs.MarkingLaws.{marked-row, modes-told}
+use Rattle.narrowing.proofs.search.mark_row.Statement.{statement}
+use Rattle.narrowing.proofs.search.mark_row.Tie as tie
 
 returns : tie.Need-returns
 returns c =
     let m = c .before .before .before in
     let f = m .before .before in
     let v = f .before in
-    (modes-told _ _ _ _ _ (v .cover .ensures) _ _ _ (f .full .ensures) (c .if1 .taken), m .mark .ensures ∙ noted-row _ _ _ _ _ (v .cover .ensures) _)
+    (modes-told _ _ _ _ _ (v .cover .ensures) _ _ _ (f .full .ensures) (c .if1 .taken), m .mark .ensures ∙ marked-row _ _ _ _ _ (v .cover .ensures) _)
 
 returns-2 : tie.Need-returns-2
 returns-2 c =
     let m = c .before .before .before in
     let f = m .before .before in
     let v = f .before in
-    (modes-told _ _ _ _ _ (v .cover .ensures) _ _ _ (f .full .ensures) (c .if1 .left), m .mark .ensures ∙ noted-row _ _ _ _ _ (v .cover .ensures) _)
+    (modes-told _ _ _ _ _ (v .cover .ensures) _ _ _ (f .full .ensures) (c .if1 .left), m .mark .ensures ∙ marked-row _ _ _ _ _ (v .cover .ensures) _)
 
-pub note-row-spec : {M : Type 1} → statement M
-note-row-spec =
+pub mark-row-spec : {M : Type 1} → statement M
+mark-row-spec =
     tie.close
     (tie.spec (λ c. search needs) (λ c. search needs) (λ c. search needs) (λ c. search needs) (λ c. search needs)
     (λ c. search needs) (λ c. search needs) (λ c. search needs) (λ c. search needs) (λ c. search needs)

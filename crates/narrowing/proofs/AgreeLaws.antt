@@ -9,6 +9,7 @@ use native.Mathlib.Numerals.{add-one}
 use native.Mathlib.Nat.{add-zero, zero-add}
 use native.Mathlib.Omega.{arith}
 use lib.ListN.{getD}
+use Rattle.resource.specs.Identifier.{terminalSize}
 use Rattle.octets.specs.Bytes as cbor
 use Rattle.octets.specs.Bytes.{AreBytes, part, same}
 use Rattle.exact.specs.Reads.{got}
@@ -203,7 +204,8 @@ first-from s t st c u cs (no-more from) i h = refl
 first-from s t {count = count} {at = at} {ps = ps} st c u cs (one-more n from next v g gs e f r) i h =
     let qs : List Rule = rulesOf ps in
     let here : ruleWith (v .mask) u (below c (v .pattern)) ≡ ruleAt cs i = rule-seen f ∙ sym (h 0) ∙ ap (ruleAt cs) (add-zero i) in
-    let later : (j : ℕ) → ruleAt cs (suc i + j) ≡ ruleAt (rulesOf gs) j = λ j. let k : suc i + j ≡ i + suc j = omega arith in ap (ruleAt cs) k ∙ h (suc j) in
+    let later : (j : ℕ) → ruleAt cs (suc i + j) ≡ ruleAt (rulesOf gs) j = λ j. let k : suc i + j ≡ i + suc j =
+    omega arith in ap (ruleAt cs) k ∙ h (suc j) in
     first-step s at count (same t u) c i n from next v e
     ∙ ap₂ (orNext i)
     (escape-found s t u (below c (v .pattern)) (v .mask) st ∙ ap (λ (x : Rule). foundOf qs x (lowestMode qs x)) here)
@@ -226,7 +228,7 @@ first-found s t {ps = ps} st c u {gs = gs} r =
 -- the search through the bytes of two descriptors that were read answers what the search through their rules does
 pub scan-agrees : (s t : List ℕ) (v w : Seen) → AreBytes s → AreBytes t → readOf s ≡ read v → readOf t ≡ read w
     → firstIn s (v .payload .opening .grants .start) (v .payload .opening .grants .count)
-    (cbor.same (part s (v .payload .closing .terminal) 45) (part t (w .payload .closing .terminal) 45)) t 0
+    (cbor.same (part s (v .payload .closing .terminal) terminalSize) (part t (w .payload .closing .terminal) terminalSize)) t 0
     (w .payload .opening .grants .count)
     (w .payload .opening .grants .start)
     ≡ answerAt (rulesIn s v) (rulesIn t w) (firstRule (rulesIn s v) (rulesIn t w))

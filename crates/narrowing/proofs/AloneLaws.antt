@@ -69,7 +69,8 @@ lowest-nothing d mask from to l h m (suc n) = go (hasMode mask m) refl (lowest-n
   where
     go : (b : Bool) → hasMode mask m ≡ b → lowestFrom d mask from to (m + 1) n ≡ Nothing → lowestFrom d mask from to m (suc n) ≡ Nothing
     go true e r =
-        let o : least (lacksAt d m) from (to - from) ≡ none = least-fails (lacksAt d m) from (to - from) (λ k f g. ap not (h m e k f (omega arith))) in
+        let o : least (lacksAt d m) from (to - from) ≡ none =
+        least-fails (lacksAt d m) from (to - from) (λ k f g. ap not (h m e k f (omega arith))) in
         rw (lowestFrom, e, o, r)
     go false e r = rw (lowestFrom, e, r)
 
@@ -131,8 +132,11 @@ between r a b k e f g = rw (le-leb (r .lo) k (omega (arith, e .0)), lt-ltb k (r 
 
 -- with "**" those that it can take
 full-deep : (r : Range) → fullRange r true ≡ true → (r .lo ≤ 1) × (most ≤ r .hi)
-full-deep r e =
-    (leb-true (r .lo) 1 (and-left (leb (r .lo) 1) (leb most (r .hi)) e), leb-true most (r .hi) (and-right (leb (r .lo) 1) (leb most (r .hi)) e))
+full-deep r e = (
+  leb-true (r .lo) 1 (and-left (leb (r .lo) 1) (leb most (r .hi)) e),
+  leb-true most (r .hi)
+      (and-right (leb (r .lo) 1) (leb most (r .hi)) e),
+)
 
 -- without "**" 0
 full-flat : (r : Range) → fullRange r false ≡ true → (r .lo ≤ 0) × (1 ≤ r .hi)
@@ -171,7 +175,8 @@ covers-nothing s t p i n mask shared deep o e l c = go (eqb (bitOr (rowMask t i)
     go : (b : Bool) → eqb (bitOr (rowMask t i) mask) (rowMask t i) ≡ b
         → cond b (fullRange (textRange (rowLevels s t i) p) deep) false ≡ true
         → EscapeOf s t n shared p mask Nothing
-    go true q r = escape-nothing s t n shared p mask deep o e (full-nothing s t p i n mask l (eqb-true (bitOr (rowMask t i) mask) (rowMask t i) q) deep r)
+    go true q r = escape-nothing s t n shared p mask deep o e
+        (full-nothing s t p i n mask l (eqb-true (bitOr (rowMask t i) mask) (rowMask t i) q) deep r)
     go false q r = no-flag r
 
 -- ---- the code's tests

@@ -144,7 +144,8 @@ first-cover : (q p : List ℕ) (ls ks : List (List ℕ)) (t : Bool) → Firsts q
 unfolding textRange
 first-cover q p ls ks t f d c =
     rw (f .of-p, f .of-r, spelled-first q (f .first-p) ls (f .of-p) d, spelled-first p (f .first-r) ks (f .of-r) c)
-    (level-cover (f .first-p) (f .first-r) (levelsOf ls) (levelsOf ks) ∙ ap (λ (b : Bool). cond b (coverRange (levelsOf ls) (levelsOf ks)) (range 0 0)) (f .fit))
+    (level-cover (f .first-p) (f .first-r) (levelsOf ls) (levelsOf ks)
+    ∙ ap (λ (b : Bool). cond b (coverRange (levelsOf ls) (levelsOf ks)) (range 0 0)) (f .fit))
 
 -- where the first do not fit, or levels follow only one of them
 other-cover : (t : Bool) (ls ks : List (List ℕ)) → (t && alike ls ks) ≡ false

@@ -82,8 +82,13 @@ ends-other b bs e = go (levels bs) refl
     go [] f = absurd (some-level bs f)
     go (l ∷ []) f =
         let whole : l ≡ bs = sym (ap joined f) ∙ levels-joined bs in
-        inl (ap ends (other-byte b bs e ∙ ap (prefixed b) f) ∙ ends-one (b ∷ l) ∙ ap (λ (x : List ℕ). isDeep (b ∷ x)) whole, ap ends f ∙ ends-one l ∙ ap isDeep whole)
-    go (l ∷ k ∷ ls) f = inr (ap ends (other-byte b bs e ∙ ap (prefixed b) f) ∙ ends-more (b ∷ l) k ls ∙ sym (ends-more l k ls) ∙ sym (ap ends f))
+        inl (
+          ap ends (other-byte b bs e ∙ ap (prefixed b) f) ∙ ends-one (b ∷ l) ∙ ap (λ (x : List ℕ). isDeep (b ∷ x)) whole,
+          ap ends f
+              ∙ ends-one l ∙ ap isDeep whole,
+        )
+    go (l ∷ k ∷ ls) f = inr
+        (ap ends (other-byte b bs e ∙ ap (prefixed b) f) ∙ ends-more (b ∷ l) k ls ∙ sym (ends-more l k ls) ∙ sym (ap ends f))
 
 -- three bytes or more are not "**"
 long-not-deep : (l : List ℕ) → 3 ≤ length l → isDeep l ≡ false
@@ -208,7 +213,10 @@ pair-ends (a ∷ b ∷ c ∷ p) h e = absurd (omega (arith, e))
 
 -- the last two bytes are not "**"
 pub other-ends : (p : List ℕ) (r : Bool) → 2 ≤ length p → r ≡ isDeep (lastTwo p) → not r ≡ true → false ≡ ends (levels p)
-other-ends p r h e f = ⊎-elim (λ (k : length p ≡ 2). sym (pair-ends p h (omega (arith, k)) ∙ no)) (λ (k : 2 < length p). sym (long-ends p (omega (arith, k)) ∙ ap (λ (t : Bool). t && eqb (getD p (length p - 2 - 1) 0) 47) no)) (two-or-more (length p) h)
+other-ends p r h e f =
+    ⊎-elim (λ (k : length p ≡ 2). sym (pair-ends p h (omega (arith, k)) ∙ no))
+    (λ (k : 2 < length p). sym (long-ends p (omega (arith, k)) ∙ ap (λ (t : Bool). t && eqb (getD p (length p - 2 - 1) 0) 47) no))
+    (two-or-more (length p) h)
   where
     no : isDeep (lastTwo p) ≡ false
     no = sym e ∙ not-true r f
@@ -220,4 +228,5 @@ deep-alone p r h e f k = sym (pair-ends p h k ∙ sym e ∙ not-false r f)
 -- they are, and the one before them tells
 pub deep-after : (p : List ℕ) (r : Bool) → 2 ≤ length p → r ≡ isDeep (lastTwo p) → not r ≡ false → (length p - 2 ≡ 0 → ⊥)
     → eqb (getD p (length p - 2 - 1) 0) 47 ≡ ends (levels p)
-deep-after p r h e f k = sym (long-ends p (more (length p) h k) ∙ ap (λ (t : Bool). t && eqb (getD p (length p - 2 - 1) 0) 47) (sym e ∙ not-false r f))
+deep-after p r h e f k =
+    sym (long-ends p (more (length p) h k) ∙ ap (λ (t : Bool). t && eqb (getD p (length p - 2 - 1) 0) 47) (sym e ∙ not-false r f))

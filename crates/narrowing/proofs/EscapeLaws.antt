@@ -73,7 +73,8 @@ first-escape p c i m k a b f =
       first = λ j l n. no-escape p c a b j (omega (arith, h)) n (λ o. f .first j l n o);
       lowest = λ n l. no-escape p c a b i h n (λ o. f .lowest .lowest n l);
       attained = (witnessOf p (grantOf c i) k, w .path, w .escapes, w .takes);
-      fewest = λ x j e. first-lowest p c i m k f .fewest .fewest x j (to-rule (p .payload .grants) (grantOf c i) m x (grants-ok p a) (grant-ok c i b h) (f .lowest .mode) e);
+      fewest = λ x j e. first-lowest p c i m k f .fewest .fewest x j
+          (to-rule (p .payload .grants) (grantOf c i) m x (grants-ok p a) (grant-ok c i b h) (f .lowest .mode) e);
     }
 
 -- ---- there is one alone
@@ -130,7 +131,9 @@ grants-say p c a b = go (firstRule qs cs) refl
 
     go : (o : Option ℕ) → firstRule qs cs ≡ o → Says p c (answerAt qs cs o)
     go none q =
-        λ i h n. no-escape p c a b i h n (first-none qs cs (rule-patterns (c .payload .grants) (grants-ok c b)) q i (omega (arith, h, rules-length (c .payload .grants))) n)
+        λ i h n. no-escape p c a b i h n
+        (first-none qs cs (rule-patterns (c .payload .grants) (grants-ok c b)) q i
+        (omega (arith, h, rules-length (c .payload .grants))) n)
     go (some i) q =
         let f = first-some qs cs i (rule-patterns (c .payload .grants) (grants-ok c b)) q in
         (first-escape p c i _ _ a b f, first-attained p c i _ _ a b f)
@@ -147,4 +150,5 @@ escape-said p c i m k f (NotCovered j n l) s = one-escape p c j n l i m k (s .0)
 
 -- the grants answer 20 exactly with the numbers of the first escape
 pub grants-escape : (p c : Descriptor) (i m k : ℕ) → Allowed p → Allowed c → (byGrants p c ≡ NotCovered i m k) ↔ FirstEscape p c i m k
-grants-escape p c i m k a b = (λ e. subst (Says p c) e (grants-say p c a b) .0, λ f. escape-said p c i m k f (byGrants p c) (grants-say p c a b))
+grants-escape p c i m k a b =
+    (λ e. subst (Says p c) e (grants-say p c a b) .0, λ f. escape-said p c i m k f (byGrants p c) (grants-say p c a b))

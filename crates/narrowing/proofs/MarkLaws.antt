@@ -23,7 +23,8 @@ marked-none : (e : ℕ) (d : List ℕ) (r : Range) (mask : ℕ) → ((k : ℕ) �
 unfolding marked
 marked-none e [] r mask h = refl
 marked-none e (x ∷ d) r mask h =
-    rw (h e (omega arith) (omega arith)) (ap (λ (l : List ℕ). x ∷ l) (marked-none (suc e) d r mask (λ k a b. h k (omega arith) (omega arith))))
+    rw (h e (omega arith) (omega arith))
+    (ap (λ (l : List ℕ). x ∷ l) (marked-none (suc e) d r mask (λ k a b. h k (omega arith) (omega arith))))
 
 -- a number is not in an empty range
 empty : (lo hi k : ℕ) → hi ≤ lo → inRange (range lo hi) k ≡ false
@@ -47,7 +48,8 @@ unfolding marked
 marked-low e [] lo hi mask h = refl
 marked-low e (x ∷ d) lo hi mask h =
     rw (le-leb lo e h, le-leb e e (omega arith))
-    (ap (λ (l : List ℕ). cond (ltb e hi) (bitOr x mask) x ∷ l) (marked-low (suc e) d lo hi mask (omega arith) ∙ sym (marked-low (suc e) d e hi mask (omega arith))))
+    (ap (λ (l : List ℕ). cond (ltb e hi) (bitOr x mask) x ∷ l)
+    (marked-low (suc e) d lo hi mask (omega arith) ∙ sym (marked-low (suc e) d e hi mask (omega arith))))
 
 -- one number of the range is marked, from a number on
 marked-one : (e : ℕ) (d : List ℕ) (k hi mask : ℕ) → e + k < hi → k < length d

@@ -58,12 +58,20 @@ spelled-long l (star p) i = omega (arith, length-append l (47 ∷ joined ((42 �
 pattern-few : (x : List ℕ) → patternOk x ≡ true → levelsBefore (patternOf x .below) ≤ 105
 unfolding patternOk
 pattern-few x e =
-    let r : (p : Pattern) × IsPattern p × (x ≡ patternText p) = patterns-exact x .0 (and-right (leb (length x) longestText) (isPattern x) e) in
+    let r : (p : Pattern) × IsPattern p × (x ≡ patternText p) =
+    patterns-exact x .0 (and-right (leb (length x) longestText) (isPattern x) e) in
     let p : Pattern = r .0 in
     let same-pattern : patternOf x ≡ p = ap patternOf (r .2) ∙ patterns-once p (r .1) in
     let size : length x ≡ length (patternText p) = ap length (r .2) in
     rw same-pattern
-    (omega (arith, size, pattern-short x e .1, terminal-length (p .terminal) (r .1 .terminal), spelled-long (p .terminal) (p .below) (r .1 .names)))
+    (omega (
+      arith,
+      size,
+      pattern-short x e .1,
+      terminal-length (p .terminal) (r .1 .terminal),
+      spelled-long (p .terminal) (p .below)
+          (r .1 .names),
+    ))
 
 -- the rules of grants that are read in turn have at most 105 levels before "**"
 pub turn-few : (s t : List ℕ) {n at : ℕ} {gs : List Grant} → InTurn s t n at gs → deepest (rulesOf gs) ≤ 105

@@ -66,7 +66,8 @@ module _ (s t p : List ℕ) (i : ℕ) (r : Range) (e : r ≡ textRange (take (ro
 module _ (s t p : List ℕ) where
   -- after row i is marked the mask at k has the modes that it had, and those of the row where its range has k
   row-marked : (i : ℕ) (x : List ℕ) (m k : ℕ) → k < length x
-      → hasMode (getD (rowMarked s t i p x) k 0) m ≡ (hasMode (getD x k 0) m || (hasMode (rowMask t i) m && inRange (textRange (rowLevels s t i) p) k))
+      → hasMode (getD (rowMarked s t i p x) k 0) m
+      ≡ (hasMode (getD x k 0) m || (hasMode (rowMask t i) m && inRange (textRange (rowLevels s t i) p) k))
   unfolding rowMarked
   row-marked i x m k l =
       let r : Range = textRange (rowLevels s t i) p in
@@ -136,7 +137,8 @@ module _ (s t p d : List ℕ) (mask : ℕ) (deep : Bool) (x : List ℕ) (done i 
           → hasMode (getD x k 0) m ≡ hasMode (getD (markedRows s t p d (i + 1)) k 0) m
       agree-next m k h a b =
           n .agree m k h a b ∙ go (hasMode (rowMask t i) m) refl
-          ∙ sym (ap (λ (z : List ℕ). hasMode (getD z k 0) m) (rows-more s t p d i) ∙ row-marked s t p i (markedRows s t p d i) m k (room k b .1))
+          ∙ sym (ap (λ (z : List ℕ). hasMode (getD z k 0) m) (rows-more s t p d i)
+          ∙ row-marked s t p i (markedRows s t p d i) m k (room k b .1))
         where
           q : Bool
           q = inRange (textRange (rowLevels s t i) p) k
@@ -146,7 +148,8 @@ module _ (s t p d : List ℕ) (mask : ℕ) (deep : Bool) (x : List ℕ) (done i 
 
           go : (c : Bool) → hasMode (rowMask t i) m ≡ c → before ≡ (before || (hasMode (rowMask t i) m && q))
           go true f =
-              let common : hasMode (bitAnd (rowMask t i) mask) m ≡ true = and-mode (rowMask t i) mask m ∙ ap₂ (λ (u v : Bool). u && v) f h in
+              let common : hasMode (bitAnd (rowMask t i) mask) m ≡ true =
+              and-mode (rowMask t i) mask m ∙ ap₂ (λ (u v : Bool). u && v) f h in
               let had : before ≡ true = sym (n .agree m k h a b) ∙ n .have m k (within (bitAnd (rowMask t i) mask) done m e common) a b in
               had ∙ sym (ap (λ (u : Bool). u || (hasMode (rowMask t i) m && q)) had)
           go false f = sym (ap (λ (u : Bool). before || (u && q)) f ∙ or-false before)
@@ -154,14 +157,16 @@ module _ (s t p d : List ℕ) (mask : ℕ) (deep : Bool) (x : List ℕ) (done i 
   -- it was marked
   pub marking-next : (y : List ℕ) (r : ℕ) → y ≡ rowMarked s t i p x → r ≡ fullModes s t i p deep
       → Noting s t p d mask deep y (bitOr done r) (i + 1)
-  marking-next y r e f = record { whole = n .whole; size = ap length e ∙ row-length s t p i x ∙ n .size; agree = agree-next; have = have-next }
+  marking-next y r e f =
+      record { whole = n .whole; size = ap length e ∙ row-length s t p i x ∙ n .size; agree = agree-next; have = have-next }
     where
       agree-next : (m k : ℕ) → hasMode mask m ≡ true → low deep ≤ k → k < high deep
           → hasMode (getD y k 0) m ≡ hasMode (getD (markedRows s t p d (i + 1)) k 0) m
       agree-next m k h a b =
           ap (λ (z : List ℕ). hasMode (getD z k 0) m) e ∙ row-marked s t p i x m k (room k b .0)
           ∙ ap (λ (u : Bool). u || (hasMode (rowMask t i) m && inRange (textRange (rowLevels s t i) p) k)) (n .agree m k h a b)
-          ∙ sym (ap (λ (z : List ℕ). hasMode (getD z k 0) m) (rows-more s t p d i) ∙ row-marked s t p i (markedRows s t p d i) m k (room k b .1))
+          ∙ sym (ap (λ (z : List ℕ). hasMode (getD z k 0) m) (rows-more s t p d i)
+          ∙ row-marked s t p i (markedRows s t p d i) m k (room k b .1))
 
       have-next : (m k : ℕ) → hasMode (bitOr done r) m ≡ true → low deep ≤ k → k < high deep → hasMode (getD y k 0) m ≡ true
       have-next m k h a b = ap (λ (z : List ℕ). hasMode (getD z k 0) m) e ∙ go (hasMode done m) refl
@@ -177,7 +182,8 @@ module _ (s t p d : List ℕ) (mask : ℕ) (deep : Bool) (x : List ℕ) (done i 
   -- the rows so far have all modes of the mask
   pub marking-covered : (rows : ℕ) → i ≤ rows → bitOr done mask ≡ done → Nothing ≡ lowestIn deep (markedRows s t p d rows) mask
   marking-covered rows l e =
-      sym (lowest-in deep (markedRows s t p d rows) mask ∙ lowest-nothing (markedRows s t p d rows) mask (low deep) (high deep) (low-high deep) all 0 4)
+      sym (lowest-in deep (markedRows s t p d rows) mask
+      ∙ lowest-nothing (markedRows s t p d rows) mask (low deep) (high deep) (low-high deep) all 0 4)
     where
       all : (m : ℕ) → hasMode mask m ≡ true → Have (markedRows s t p d rows) (low deep) (high deep) m
       all m h k a b =

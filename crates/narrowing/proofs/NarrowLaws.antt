@@ -75,7 +75,8 @@ accepted-reads s t p a b e = go (readOf t) refl (sym (goes-on s t v (seen-as s p
     go (read w) q h =
         let r = reads-exactly t b w .0 q in
         let u : (unconstrained v && unconstrained w) ≡ true
-        = chosen (unconstrained v && unconstrained w) _ Constrained (λ i. absurd (omega (arith, number i))) (sym (both-as s t v w (seen-as s p a) q) ∙ e) .0 in
+        = chosen (unconstrained v && unconstrained w) _ Constrained (λ i. absurd (omega (arith, number i)))
+        (sym (both-as s t v w (seen-as s p a) q) ∙ e) .0 in
         let n = subst (λ (x : Seen). unconstrained x ≡ true) (r .3) (and-right (unconstrained v) (unconstrained w) u) in
         (r .0, record { bytes = b; allowed = r .1; encoded = r .2; plain = pairs-none (r .0) (r .1 .formed) .0 n })
     go structure q h = absurd (omega (arith, number h))
@@ -86,7 +87,8 @@ accepted-reads s t p a b e = go (readOf t) refl (sym (goes-on s t v (seen-as s p
 -- where the period lies within and the grants answer 0, the child is inside the parent
 accepted-inside : (p c : Descriptor) → Allowed p → Allowed c → PeriodInside p c → byGrants p c ≡ Accepted → Inside p c
 accepted-inside p c a b w e moment x m j h =
-    let r : (i : ℕ) × (i < length (c .payload .grants)) × (grantAdmits (grantOf c i) m x ≡ true) = admitting (c .payload .grants) _ m x (h .granted) in
+    let r : (i : ℕ) × (i < length (c .payload .grants)) × (grantAdmits (grantOf c i) m x ≡ true) =
+    admitting (c .payload .grants) _ m x (h .granted) in
     record {
       begun = omega (arith, w .0, h .begun);
       lasting = omega (arith, w .1, h .lasting);

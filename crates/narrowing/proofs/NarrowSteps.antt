@@ -8,6 +8,7 @@ use native.Mathlib.Omega.{arith}
 use lib.ListN.{length, take, drop, length-take, length-drop}
 use lib.Dec.{eqb, ltb, leb}
 use borrow.Author.Tests.{leb-true, leb-false, lt-ltb, le-ltb, eq-eqb, ne-eqb}
+use Rattle.resource.specs.Identifier.{levelsPlace, terminalSize}
 use Rattle.octets.specs.Bytes as cbor
 use Rattle.octets.specs.Bytes.{AreBytes, part}
 use Rattle.exact.specs.Reads.{got, refused}
@@ -57,7 +58,7 @@ compared-agrees : (s t : List ℕ) (v w : Seen) → AreBytes s → AreBytes t �
 unfolding comparedIn compared
 compared-agrees s t v w bs bt e f =
     let g : Narrowing = firstIn s (v .payload .opening .grants .start) (v .payload .opening .grants .count)
-    (cbor.same (part s (v .payload .closing .terminal) 45) (part t (w .payload .closing .terminal) 45)) t 0
+    (cbor.same (part s (v .payload .closing .terminal) terminalSize) (part t (w .payload .closing .terminal) terminalSize)) t 0
     (w .payload .opening .grants .count)
     (w .payload .opening .grants .start) in
     ap₂ (λ (x y : Bool). cond (not (eqb (v .payload .opening .grants .sum .pairs) 0)) Constrained
@@ -103,10 +104,11 @@ fields-handed s v b e =
     (r .0, r .1, subst (λ (a : Reading). DescriptorHanded s (r .0) (numbersOf a)) (sym e) (hands-back s b (r .0) (r .1) (r .2)))
 
 -- the terminal id lies within s
-pub terminal-room : (s : List ℕ) (v : Fields) → AreBytes s → reading.Read v ≡ readingOf (readOf s) → v .terminal + 45 ≤ length s
+pub terminal-room : (s : List ℕ) (v : Fields) → AreBytes s → reading.Read v ≡ readingOf (readOf s) → v .terminal + terminalSize ≤ length s
 terminal-room s v b e =
     let r = fields-handed s v b e in
-    part-in s (v .terminal) 45 (omega arith) (ap length (r .2 .terminal) ∙ terminal-length (r .0 .payload .terminal) (r .1 .formed .payload .terminal))
+    part-in s (v .terminal) terminalSize (omega arith)
+    (ap length (r .2 .terminal) ∙ terminal-length (r .0 .payload .terminal) (r .1 .formed .payload .terminal))
 
 -- and there are at most 256 grants
 pub grants-few : (s : List ℕ) (v : Fields) → AreBytes s → reading.Read v ≡ readingOf (readOf s) → v .grants ≤ 256
@@ -177,7 +179,7 @@ module _ (s : List ℕ) (v : Fields) (t : List ℕ) (w : Fields) where
   ends-late a b c d = rw (eq-eqb _ _ a, eq-eqb _ _ b, le-ltb _ _ c, lt-ltb _ _ d)
 
   pub compared-first : {shared : Bool} → v .constraints ≡ 0 → w .constraints ≡ 0 → v .before ≤ w .before → w .after ≤ v .after
-      → shared ≡ cbor.same (part s (v .terminal) 45) (part t (w .terminal) 45)
+      → shared ≡ cbor.same (part s (v .terminal) terminalSize) (part t (w .terminal) terminalSize)
       → firstIn s (v .first) (v .grants) shared t 0 (w .grants) (w .first) ≡ comparedIn s v t w
   unfolding comparedIn
   compared-first a b c d e = rw (eq-eqb _ _ a, eq-eqb _ _ b, le-ltb _ _ c, le-ltb _ _ d, e)
@@ -186,7 +188,7 @@ module _ (s : List ℕ) (v : Fields) (t : List ℕ) (w : Fields) where
 
 -- the levels of a pattern, as the code lends them
 abbrev pub lent : List ℕ → GrantSeen → List ℕ
-lent s g = take (g .pattern .start + g .pattern .len - (g .pattern .start + 46)) (drop (g .pattern .start + 46) s)
+lent s g = take (g .pattern .start + g .pattern .len - (g .pattern .start + levelsPlace)) (drop (g .pattern .start + levelsPlace) s)
 
 -- they are those below the terminal id
 lent-below : (s : List ℕ) (g : GrantSeen) → lent s g ≡ below s (g .pattern)
@@ -216,7 +218,8 @@ module _ (s : List ℕ) (at count : ℕ) (shared : Bool) (t : List ℕ) (i n her
   first-hit {next = next} h e f = ap (λ (r : Found). orNext i r (firstIn s at count shared t (i + 1) (n - (i + 1)) next)) f ∙ first-one h e
 
   -- a grant by which none does
-  pub first-next : {g : GrantSeen} {next : ℕ} → i < n → got g next ≡ grantAt t here → Nothing ≡ escapeIn s at count shared (lent t g) (g .mask)
+  pub first-next : {g : GrantSeen} {next : ℕ} → i < n → got g next ≡ grantAt t here → Nothing
+      ≡ escapeIn s at count shared (lent t g) (g .mask)
       → firstIn s at count shared t (i + 1) (n - (i + 1)) next ≡ firstIn s at count shared t i (n - i) here
   first-next {next = next} h e f = ap (λ (r : Found). orNext i r (firstIn s at count shared t (i + 1) (n - (i + 1)) next)) f ∙ first-one h e
 

@@ -122,7 +122,8 @@ pub order-constrained : (s t : List ℕ) (p c : Descriptor) → AreBytes s → A
     → (narrow s t ≡ Constrained) ↔ (NoPairs (p .payload .grants) × NoPairs (c .payload .grants) → ⊥)
 order-constrained s t p c bs bt fp fc es et = (
   λ h n. subst Later
-      (sym (e ∙ ap (λ (b : Bool). cond b (after s v t w) Constrained) (and-both (unconstrained v) (unconstrained w) (pairs-none p (fp .formed) .1 (n .0)) (pairs-none c (fc .formed) .1 (n .1)))) ∙ h)
+      (sym (e ∙ ap (λ (b : Bool). cond b (after s v t w) Constrained)
+      (and-both (unconstrained v) (unconstrained w) (pairs-none p (fp .formed) .1 (n .0)) (pairs-none c (fc .formed) .1 (n .1)))) ∙ h)
       (after-later s v t w),
   λ f. e ∙ ap (λ (b : Bool). cond b (after s v t w) Constrained) (go f (unconstrained v && unconstrained w) refl),
 )
@@ -138,5 +139,10 @@ order-constrained s t p c bs bt fp fc es et = (
 
     go : (NoPairs (p .payload .grants) × NoPairs (c .payload .grants) → ⊥) → (b : Bool) → (unconstrained v && unconstrained w) ≡ b
         → (unconstrained v && unconstrained w) ≡ false
-    go f true q = absurd (f (pairs-none p (fp .formed) .0 (and-left (unconstrained v) (unconstrained w) q), pairs-none c (fc .formed) .0 (and-right (unconstrained v) (unconstrained w) q)))
+    go f true q = absurd
+        (f (
+          pairs-none p (fp .formed) .0 (and-left (unconstrained v) (unconstrained w) q),
+          pairs-none c (fc .formed) .0
+              (and-right (unconstrained v) (unconstrained w) q),
+        ))
     go f false q = q

@@ -11,7 +11,8 @@ use Rattle.narrowing.proofs.NarrowLaws.{narrow-period, narrow-escape, n
 pub no-parent-exactly : NoParentExactly
 no-parent-exactly s t =
     let r = order-parent s t in
-    by-numbers (narrow s t) NoParent (λ h z. let v = answers-told s .done .0 z in r .0 h (v .0) (v .1), λ f. r .1 (λ v e. f (answers-told s .done .1 (v, e))))
+    by-numbers (narrow s t) NoParent
+    (λ h z. let v = answers-told s .done .0 z in r .0 h (v .0) (v .1), λ f. r .1 (λ v e. f (answers-told s .done .1 (v, e))))
 
 pub child-exactly : ChildExactly
 child-exactly s t z =

@@ -9,6 +9,7 @@ use Prim.Native.Nat.{ℕ, suc}
 use native.Mathlib.Omega.{arith}
 use borrow.Author.Tests.{eqb-true, eq-eqb}
 use lib.ListN.{length}
+use Rattle.resource.specs.Identifier.{terminalSize}
 use Rattle.octets.specs.Bytes.{AreBytes, part}
 use Rattle.descriptor.specs.Model.{Pair, Grant, Descriptor, pairCount, encode}
 use Rattle.descriptor.specs.Allowed.{Formed}
@@ -44,12 +45,12 @@ TurnIn s t v gs = InTurn s t (v .payload .opening .grants .count) (v .payload .o
 
 -- there are such grants for the terminal id that stands there
 pub read-turn : (s : List ℕ) (v : Seen) → AreBytes s → readOf s ≡ read v
-    → (gs : List Grant) × TurnIn s (part s (v .payload .closing .terminal) 45) v gs
+    → (gs : List Grant) × TurnIn s (part s (v .payload .closing .terminal) terminalSize) v gs
 read-turn s v b e =
     let r = reads-exactly s b v .0 e in
     let d : Descriptor = r .0 in
     let gs : List Grant = d .payload .grants in
-    let turn : (x : List ℕ) (w : Seen) → Type 0 = λ x w. TurnIn x (part x (w .payload .closing .terminal) 45) w gs in
+    let turn : (x : List ℕ) (w : Seen) → Type 0 = λ x w. TurnIn x (part x (w .payload .closing .terminal) terminalSize) w gs in
     let here : turn (encode d) (descriptorView 0 d)
     = subst (λ (t : List ℕ). TurnIn (encode d) t (descriptorView 0 d) gs) (sym (seen-handed d (r .1 .formed) .terminal))
     (grants-in-turn d (subst AreBytes (r .2) b) (r .1 .formed)) in

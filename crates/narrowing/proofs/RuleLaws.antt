@@ -37,7 +37,8 @@ modes-known seen (m ∷ ms) k a e =
 pub pattern-of : (s : List ℕ) → patternOk s ≡ true → IsPattern (patternOf s)
 unfolding patternOk
 pattern-of s e =
-    let r : (p : Pattern) × IsPattern p × (s ≡ patternText p) = patterns-exact s .0 (and-right (leb (length s) longestText) (isPattern s) e) in
+    let r : (p : Pattern) × IsPattern p × (s ≡ patternText p) =
+    patterns-exact s .0 (and-right (leb (length s) longestText) (isPattern s) e) in
     subst IsPattern (sym (ap patternOf (r .2) ∙ patterns-once (r .0) (r .1))) (r .1)
 
 -- ---- the rules of grants
@@ -96,7 +97,8 @@ admitted-by (g ∷ gs) d m x (suc i) h e = or-right (grantAdmits g m x) (anyAdmi
 -- a path that escapes by a grant escapes by its rule
 pub to-rule : (ps : List Grant) (g : Grant) (m : ℕ) (x : Path) → All GrantOk ps → GrantOk g → m < 4
     → Escapes ps g m x → RuleEscape (rulesOf ps) (ruleFor g) m x
-to-rule ps g m x a o h e = record { admitted = sym (rule-admits g m x o h) ∙ e .admitted; outside = sym (rules-admit ps m x a h) ∙ e .outside }
+to-rule ps g m x a o h e =
+    record { admitted = sym (rule-admits g m x o h) ∙ e .admitted; outside = sym (rules-admit ps m x a h) ∙ e .outside }
 
 -- and the other way
 pub of-rule : (ps : List Grant) (g : Grant) (m : ℕ) (x : Path) → All GrantOk ps → GrantOk g → m < 4

@@ -51,7 +51,8 @@ escape-with qs g m x i j h =
     and-both (hasMode (g .mask) m) (canTake (p .below) k && not (covered qs m p k))
     (and-left (hasMode (g .mask) m) (admits p x) (h .admitted))
     (and-both (canTake (p .below) k) (not (covered qs m p k)) (can-take (p .below) k .1 (taken-can (p .below) (x .names) b))
-    (true-of (not (covered qs m p k)) (λ n. contra (rulesAdmit qs m x) (covered-admits qs m p x i j a (not-false (covered qs m p k) n)) (h .outside))))
+    (true-of (not (covered qs m p k))
+    (λ n. contra (rulesAdmit qs m x) (covered-admits qs m p x i j a (not-false (covered qs m p k) n)) (h .outside))))
 
 -- the witness path escapes with each number that passes the test
 with-escapes : (qs : List Rule) (g : Rule) (m k : ℕ) → escapesWith qs g m k ≡ true
@@ -59,7 +60,8 @@ with-escapes : (qs : List Rule) (g : Rule) (m k : ℕ) → escapesWith qs g m k 
 with-escapes qs g m k e =
     let p : Pattern = g .pattern in
     let o : hasMode (g .mask) m ≡ true = and-left (hasMode (g .mask) m) (canTake (p .below) k && not (covered qs m p k)) e in
-    let r : (canTake (p .below) k && not (covered qs m p k)) ≡ true = and-right (hasMode (g .mask) m) (canTake (p .below) k && not (covered qs m p k)) e in
+    let r : (canTake (p .below) k && not (covered qs m p k)) ≡ true =
+    and-right (hasMode (g .mask) m) (canTake (p .below) k && not (covered qs m p k)) e in
     let c : CanTake (p .below) k = can-take (p .below) k .0 (and-left (canTake (p .below) k) (not (covered qs m p k)) r) in (
       c,
       record {
@@ -112,7 +114,8 @@ fewest-some qs g m k i e =
     few x j h = go (decLt (takenIn (g .pattern) x) k)
       where
         go : Dec (takenIn (g .pattern) x < k) → k ≤ takenIn (g .pattern) x
-        go (yes b) = absurd (contra (escapesWith qs g m (takenIn (g .pattern) x)) (escape-with qs g m x i j h) (l .none-before (takenIn (g .pattern) x) zero-le b))
+        go (yes b) = absurd (contra (escapesWith qs g m (takenIn (g .pattern) x)) (escape-with qs g m x i j h)
+            (l .none-before (takenIn (g .pattern) x) zero-le b))
         go (no b) = omega arith
 
 -- ---- the modes of a rule
@@ -120,7 +123,8 @@ fewest-some qs g m k i e =
 -- where the search finds no mode, no path escapes by the rule
 lowest-none : (qs : List Rule) (g : Rule) → IsPattern (g .pattern) → lowestMode qs g ≡ none → (n : ℕ) → n < 4 → NoRuleEscape qs g n
 unfolding lowestMode
-lowest-none qs g i e n h = fewest-none qs g n i (none-of (fewestNames qs g n) (least-none (λ m. isSome (fewestNames qs g m)) 0 4 e n zero-le (omega arith)))
+lowest-none qs g i e n h =
+    fewest-none qs g n i (none-of (fewestNames qs g n) (least-none (λ m. isSome (fewestNames qs g m)) 0 4 e n zero-le (omega arith)))
 
 -- m is the lowest mode in which a path escapes by g, and k its fewest names
 pub record Lowest (qs : List Rule) (g : Rule) (m k : ℕ) : Type 0 where
@@ -167,7 +171,8 @@ unfolding firstRule
 first-some qs cs i a e =
     record {
       place = h;
-      first = λ j b. lowest-none qs (ruleAt cs j) (a j (omega (arith, h))) (none-of (lowestMode qs (ruleAt cs j)) (l .none-before j zero-le b));
+      first = λ j b. lowest-none qs (ruleAt cs j) (a j (omega (arith, h)))
+          (none-of (lowestMode qs (ruleAt cs j)) (l .none-before j zero-le b));
       lowest = lowest-some qs (ruleAt cs i) (orZero (lowestMode qs (ruleAt cs i))) (a i h)
           (some-of (lowestMode qs (ruleAt cs i)) (l .passes));
     }

@@ -102,7 +102,8 @@ module _ (s p d : List ℕ) (left here : ℕ) where
   unfolding markedAt
   marked-next {g} {next} h e =
       let n : suc (left - 1) ≡ left = omega arith in
-      let one : markedAt s p d (suc (left - 1)) here ≡ markedAt s p (marked 0 d (textRange (below s (g .pattern)) p) (g .mask)) (left - 1) next = rw (← e, markedAt) in
+      let one : markedAt s p d (suc (left - 1)) here
+      ≡ markedAt s p (marked 0 d (textRange (below s (g .pattern)) p) (g .mask)) (left - 1) next = rw (← e, markedAt) in
       sym one ∙ ap (λ (k : ℕ). markedAt s p d k here) n
 
   -- none could be read

@@ -8,6 +8,7 @@ use native.Mathlib.Decide.{decLt}
 use native.Mathlib.Omega.{arith}
 use lib.ListN.{length, getD, set, length-set}
 use lib.Seq.{getD-set-same, getD-set-other}
+use Rattle.resource.specs.Identifier.{levelsPlace}
 use Rattle.octets.specs.Bytes.{part}
 use Rattle.exact.specs.Reads.{got, refused}
 use Rattle.resource.specs.Level.{levels}
@@ -110,13 +111,13 @@ placed-next s t i a b m h l f g = record { room = omega (arith, written-length t
 
 -- after a row was written, noting it too is joining its mask
 written-marked : (s t p d : List ℕ) (i m start len : ℕ) → 3 * i + 2 < length t
-    → markedRows s (written t i (start + 46) (start + len) m) p d (i + 1)
-    ≡ marked 0 (markedRows s t p d i) (textRange (part s (start + 46) (len - 46)) p) m
+    → markedRows s (written t i (start + levelsPlace) (start + len) m) p d (i + 1)
+    ≡ marked 0 (markedRows s t p d i) (textRange (part s (start + levelsPlace) (len - levelsPlace)) p) m
 unfolding markedRows
 written-marked s t p d i m start len l =
-    let a : ℕ = start + 46 in
+    let a : ℕ = start + levelsPlace in
     let b : ℕ = start + len in
-    let e : b - a ≡ len - 46 = omega arith in
+    let e : b - a ≡ len - levelsPlace = omega arith in
     rw (
       add-one i,
       written-start t i a b m (omega arith),
@@ -129,16 +130,17 @@ written-marked s t p d i m start len l =
 module _ (s t : List ℕ) (i left here count at : ℕ) (b : Begun s t i left here count at) where
   -- one row more
   pub begun-next : {g : GrantSeen} {next : ℕ} → 0 < left → got g next ≡ grantAt s here
-      → Begun s (written t i (g .pattern .start + 46) (g .pattern .start + g .pattern .len) (g .mask)) (i + 1) (left - 1) next count at
+      → Begun s (written t i (g .pattern .start + levelsPlace) (g .pattern .start + g .pattern .len) (g .mask)) (i + 1) (left - 1) next count at
   begun-next {g} {next} h e =
-      let room : (46 ≤ g .pattern .len) × (g .pattern .start + g .pattern .len ≤ length s) = pattern-room s here e in
+      let room : (levelsPlace ≤ g .pattern .len) × (g .pattern .start + g .pattern .len ≤ length s) = pattern-room s here e in
       let fits : 3 * i + 2 < length t = omega (arith, b .free) in
-      let size = written-length t i (g .pattern .start + 46) (g .pattern .start + g .pattern .len) (g .mask) in
+      let size = written-length t i (g .pattern .start + levelsPlace) (g .pattern .start + g .pattern .len) (g .mask) in
       record {
-        places = placed-next s t i (g .pattern .start + 46) (g .pattern .start + g .pattern .len) (g .mask) (b .places) fits
+        places = placed-next s t i (g .pattern .start + levelsPlace) (g .pattern .start + g .pattern .len) (g .mask) (b .places) fits
             (omega (arith, room .0)) (room .1);
         free = omega (arith, size, b .free);
-        marks = λ p d. ap (λ (x : List ℕ). markedAt s p x (left - 1) next) (written-marked s t p d i (g .mask) (g .pattern .start) (g .pattern .len) fits)
+        marks = λ p d. ap (λ (x : List ℕ). markedAt s p x (left - 1) next)
+            (written-marked s t p d i (g .mask) (g .pattern .start) (g .pattern .len) fits)
             ∙ marked-next s p (markedRows s t p d i) left here h e ∙ b .marks p d;
       }
 

@@ -6,6 +6,7 @@ use mathlib.Core.List.{List}
 use mathlib.Core.Option.{Option, none, some}
 use Prim.Native.Nat.{ℕ, zero, suc, _+_, _*_, _-_, _≤_, _<_}
 use lib.ListN.{length, getD, replicate}
+use Rattle.resource.specs.Identifier.{levelsPlace, terminalSize}
 use Rattle.octets.specs.Bytes.{part, same}
 use lib.Dec.{eqb, leb, ltb}
 use lib.Bits.{bitOr}
@@ -26,7 +27,7 @@ use Rattle.narrowing.specs.Range.{most, textRange, marked}
 
 -- the levels of a pattern's part of s: what follows the terminal id and "/"
 abbrev pub below : List ℕ → Span → List ℕ
-below s c = part s (c .start + 46) (c .len - 46)
+below s c = part s (c .start + levelsPlace) (c .len - levelsPlace)
 
 -- the masks after the n grants from a place of s on were marked
 unfoldable pub markedAt : List ℕ → List ℕ → List ℕ → ℕ → ℕ → List ℕ
@@ -152,4 +153,4 @@ comparedIn s v t w =
     (cond (not (eqb (w .constraints) 0)) Constrained
     (cond (ltb (w .before) (v .before)) Period
     (cond (ltb (v .after) (w .after)) Period
-    (firstIn s (v .first) (v .grants) (same (part s (v .terminal) 45) (part t (w .terminal) 45)) t 0 (w .grants) (w .first)))))
+    (firstIn s (v .first) (v .grants) (same (part s (v .terminal) terminalSize) (part t (w .terminal) terminalSize)) t 0 (w .grants) (w .first)))))

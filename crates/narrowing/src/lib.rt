@@ -5,9 +5,11 @@ mod search;
 
 use descriptor::Fields;
 use descriptor::Reading;
+use resource::sizes::TERMINAL_SIZE;
 ghost use mathlib.Core.Path.{_≡_};
 ghost use Prim.Native.Nat.{_+_, _≤_};
 ghost use lib.ListN.{length};
+ghost use Rattle.resource.specs.Identifier.{terminalSize};
 ghost use Rattle.narrowing.specs.Narrow.{narrow as narrowed};
 ghost use Rattle.narrowing.specs.Scan.{comparedIn};
 
@@ -34,7 +36,7 @@ pub struct NarrowingNumbers {
 
 // Both read: 19, then 18, then 20, else 0.
 fn compared(s: &[u8], v: Fields, t: &[u8], w: Fields) -> Narrowing
-    requires { ⌜ (v .terminal + 45 ≤ length (now s)) × (w .terminal + 45 ≤ length (now t)) × (v .grants ≤ 256) ⌝ }
+    requires { ⌜ (v .terminal + terminalSize ≤ length (now s)) × (w .terminal + terminalSize ≤ length (now t)) × (v .grants ≤ 256) ⌝ }
     ensures { λ r. ⌜ r ≡ comparedIn (now (s .entry)) v (now (t .entry)) w ⌝ }
 {
     if v.constraints != 0 {
@@ -51,7 +53,7 @@ fn compared(s: &[u8], v: Fields, t: &[u8], w: Fields) -> Narrowing
     }
     let a = v.terminal;
     let b = w.terminal;
-    let shared = octets::same_start(&s[a..], &t[b..], 45);
+    let shared = octets::same_start(&s[a..], &t[b..], TERMINAL_SIZE);
     let mut table = [0usize; 768];
     let rows = search::fill(s, v.first, v.grants, &mut table);
     search::first(s, &table, rows, shared, t, w.first, w.grants)

@@ -4,6 +4,7 @@ use crate::range::cover;
 use crate::range::mark;
 use descriptor::GrantRead;
 use resource::is_deep;
+use resource::sizes::LEVELS_PLACE;
 ghost use mathlib.Core.Path.{_≡_};
 ghost use mathlib.Core.Bool.{not};
 ghost use Prim.Native.Nat.{_+_, _*_, _-_, _≤_, _<_};
@@ -37,7 +38,7 @@ pub(crate) fn fill(parent: &[u8], at: usize, count: u64, table: &mut [usize]) ->
             GrantRead::IsGrant { fields, next } => {
                 let start = fields.pattern;
                 let k = 3 * i;
-                table[k] = start + 46;
+                table[k] = start + LEVELS_PLACE;
                 table[k + 1] = start + fields.len;
                 table[k + 2] = fields.mask as usize;
                 i += 1;
@@ -304,7 +305,7 @@ pub(crate) fn first(
             return Narrowing::Accepted;
         };
         let end = fields.pattern + fields.len;
-        let p = &child[fields.pattern + 46..end];
+        let p = &child[fields.pattern + LEVELS_PLACE..end];
         let found = escape_near(parent, table, rows, shared, p, fields.mask, &mut near);
         if let Found::At { mode, levels } = found {
             return Narrowing::NotCovered {

@@ -31,7 +31,8 @@ or-bit a b m =
     let q : ℕ = b / 2 ^ m in
     let x : p % 2 < 2 = mod-lt p (zero-lt-suc 1) in
     let y : q % 2 < 2 = mod-lt q (zero-lt-suc 1) in
-    let odd : bitOr p q % 2 ≡ max (p % 2) (q % 2) = ap (λ (n : ℕ). n % 2) (or-step p q) ∙ digits-mod (bitOr (p / 2) (q / 2)) {m = 2} (omega arith) in
+    let odd : bitOr p q % 2 ≡ max (p % 2) (q % 2) =
+    ap (λ (n : ℕ). n % 2) (or-step p q) ∙ digits-mod (bitOr (p / 2) (q / 2)) {m = 2} (omega arith) in
     ap (λ (n : ℕ). eqb (n % 2) 1) (or-shr a b m) ∙ ap (λ (n : ℕ). eqb n 1) odd ∙ digit-by max _||_ refl refl refl refl (p % 2) (q % 2) x y
 
 -- what two numbers have in common has exactly the bits that both have
@@ -41,5 +42,6 @@ and-bit a b m =
     let q : ℕ = b / 2 ^ m in
     let x : p % 2 < 2 = mod-lt p (zero-lt-suc 1) in
     let y : q % 2 < 2 = mod-lt q (zero-lt-suc 1) in
-    let odd : bitAnd p q % 2 ≡ min (p % 2) (q % 2) = ap (λ (n : ℕ). n % 2) (and-step p q) ∙ digits-mod (bitAnd (p / 2) (q / 2)) {m = 2} (omega arith) in
+    let odd : bitAnd p q % 2 ≡ min (p % 2) (q % 2) =
+    ap (λ (n : ℕ). n % 2) (and-step p q) ∙ digits-mod (bitAnd (p / 2) (q / 2)) {m = 2} (omega arith) in
     ap (λ (n : ℕ). eqb (n % 2) 1) (and-shr a b m) ∙ ap (λ (n : ℕ). eqb n 1) odd ∙ digit-by min _&&_ refl refl refl refl (p % 2) (q % 2) x y

@@ -48,8 +48,11 @@ bytes-number s from zero n h l e = omega arith
 bytes-number s from (suc w) n h l e =
     let d = drop from s in
     let len = length-bigEndian w (n / 256) in
-    let heads : take w d ≡ bigEndian w (n / 256) = sym (take-take w (suc w) d (omega arith)) ∙ ap (take w) e ∙ take-at (bigEndian w (n / 256)) (n % 256 ∷ []) w len in
-    let last : getD s (from + w) 0 ≡ n % 256 = sym (getD-drop from s w 0) ∙ sym (getD-take (suc w) d w 0 (omega arith)) ∙ ap (λ (x : List ℕ). getD x w 0) e ∙ getD-at (bigEndian w (n / 256)) (n % 256) [] 0 w len in
+    let heads : take w d ≡ bigEndian w (n / 256) =
+    sym (take-take w (suc w) d (omega arith)) ∙ ap (take w) e ∙ take-at (bigEndian w (n / 256)) (n % 256 ∷ []) w len in
+    let last : getD s (from + w) 0 ≡ n % 256 =
+    sym (getD-drop from s w 0) ∙ sym (getD-take (suc w) d w 0 (omega arith)) ∙ ap (λ (x : List ℕ). getD x w 0) e
+    ∙ getD-at (bigEndian w (n / 256)) (n % 256) [] 0 w len in
     let above : n < 256 ^ w * 256 = rw pow-suc at h in
     omega (arith, bytes-number s from w (n / 256) (omega arith) (omega arith) heads, last)
 

@@ -13,7 +13,8 @@ use Rattle.octets.specs.Order.{before}
 
 -- one byte decides, or what follows it
 before-next : (x y : List ℕ) (i : ℕ) → i < length x → i < length y
-    → before (drop i x) (drop i y) ≡ (ltb (getD x i 0) (getD y i 0) || (eqb (getD x i 0) (getD y i 0) && before (drop (i + 1) x) (drop (i + 1) y)))
+    → before (drop i x) (drop i y)
+    ≡ (ltb (getD x i 0) (getD y i 0) || (eqb (getD x i 0) (getD y i 0) && before (drop (i + 1) x) (drop (i + 1) y)))
 unfolding before
 before-next x y i h k = rw (add-one, drop-cons x i 0 h, drop-cons y i 0 k)
 

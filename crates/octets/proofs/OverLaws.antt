@@ -41,7 +41,8 @@ unfolding over part
 over-before d at s p n h l =
     let e : p + (at - p) ≡ at = omega arith in
     let t : take at d ≡ take p d ++ take (at - p) (drop p d) = ap (λ (k : ℕ). take k d) (sym e) ∙ take-add p (at - p) d in
-    let u : drop p (take at d) ≡ take (at - p) (drop p d) = ap (drop p) t ∙ drop-at (take p d) (take (at - p) (drop p d)) p (length-take-le p d (omega arith)) in
+    let u : drop p (take at d) ≡ take (at - p) (drop p d) =
+    ap (drop p) t ∙ drop-at (take p d) (take (at - p) (drop p d)) p (length-take-le p d (omega arith)) in
     let v : length (drop p (take at d)) ≡ at - p = simp (length-drop, length-take) (omega arith) in
     ap (take n) (drop-append-le p (take at d) (s ++ drop (at + length s) d) (simp length-take (omega arith)))
     ∙ take-append-le n (drop p (take at d)) (s ++ drop (at + length s) d) (omega arith)
@@ -56,7 +57,9 @@ over-after d at s p h l =
     let k : length (take at d ++ s) ≡ at + length s = simp (length-append, length-take) (omega arith) in
     ap (λ (m : ℕ). drop m (take at d ++ (s ++ drop (at + length s) d))) (sym e)
     ∙ sym (drop-drop (p - (at + length s)) (at + length s) (take at d ++ (s ++ drop (at + length s) d)))
-    ∙ ap (drop (p - (at + length s))) (ap (drop (at + length s)) (sym (append-assoc (take at d) s (drop (at + length s) d))) ∙ drop-at (take at d ++ s) (drop (at + length s) d) (at + length s) k)
+    ∙ ap (drop (p - (at + length s)))
+    (ap (drop (at + length s)) (sym (append-assoc (take at d) s (drop (at + length s) d)))
+    ∙ drop-at (take at d ++ s) (drop (at + length s) d) (at + length s) k)
     ∙ drop-drop (p - (at + length s)) (at + length s) d
     ∙ ap (λ (m : ℕ). drop m d) e
 
@@ -114,7 +117,8 @@ pub over-append : (d : List ℕ) (at : ℕ) (s t : List ℕ) → at + length s �
 over-append d at s t h =
     let e : length (take at d ++ s) ≡ at + length s = simp (length-append, length-take) (omega arith) in
     let front : take (at + length s) (over d at s) ≡ take at d ++ s = over-front d at s e in
-    let back : drop (at + length s + length t) (over d at s) ≡ drop (at + length s + length t) d = over-after d at s (at + length s + length t) (omega arith) (omega arith) in
+    let back : drop (at + length s + length t) (over d at s) ≡ drop (at + length s + length t) d =
+    over-after d at s (at + length s + length t) (omega arith) (omega arith) in
     let n : at + length s + length t ≡ at + length (s ++ t) = omega (arith, length-append s t) in
     over-open (over d at s) (at + length s) t
     ∙ ap₂ (λ (x y : List ℕ). x ++ (t ++ y)) front (back ∙ ap (λ (k : ℕ). drop k d) n)

@@ -35,7 +35,8 @@ part-later s a n k = sym (drop-take k n (drop a s) ∙ ap (take (n - k)) (drop-d
 pub start-parts : (s t : List ℕ) (a b n : ℕ) {r : Bool} → a + n ≤ length s → b + n ≤ length t
     → r
     ≡ (leb n (length (take (length s - a) (drop a s)))
-    && (leb n (length (take (length t - b) (drop b t))) && same (take n (take (length s - a) (drop a s))) (take n (take (length t - b) (drop b t)))))
+    && (leb n (length (take (length t - b) (drop b t))) && same (take n (take (length s - a) (drop a s)))
+    (take n (take (length t - b) (drop b t)))))
     → r ≡ same (part s a n) (part t b n)
 unfolding part
 start-parts s t a b n h k e =

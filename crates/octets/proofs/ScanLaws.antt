@@ -81,7 +81,8 @@ module _ (b x : ℕ) (xs : List ℕ) where
 -- Two texts without b, one after the other.
 pub without-append : (b : ℕ) (l r : List ℕ) → without b l ≡ true → without b r ≡ true → without b (l ++ r) ≡ true
 without-append b [] r e f = f
-without-append b (x ∷ xs) r e f = without-more b x (xs ++ r) (ap not (without-first b x xs e)) (without-append b xs r (without-rest b x xs e) f)
+without-append b (x ∷ xs) r e f =
+    without-more b x (xs ++ r) (ap not (without-first b x xs e)) (without-append b xs r (without-rest b x xs e) f)
 
 -- A text without b, then b: all of the text stands before it.
 pub before-all : (b : ℕ) (l r : List ℕ) → without b l ≡ true → bytesBefore b (l ++ (b ∷ r)) ≡ length l

@@ -54,13 +54,15 @@ module _ (p r : List ℕ) (i : ℕ) where
       → nameStep i (drop i p) (drop i r) ≡ nameStep (i + 1) (drop (i + 1) p) (drop (i + 1) r)
   name-next h k e f =
       rw (drop-cons p i 0 h, drop-cons r i 0 k, add-one i)
-      (name-equal i (getD p i 0) (getD r i 0) (drop (suc i) p) (drop (suc i) r) (eq-eqb (getD p i 0) (getD r i 0) e) (ne-eqb (getD p i 0) 47 f) ∙ rw add-one)
+      (name-equal i (getD p i 0) (getD r i 0) (drop (suc i) p) (drop (suc i) r) (eq-eqb (getD p i 0) (getD r i 0) e)
+      (ne-eqb (getD p i 0) 47 f) ∙ rw add-one)
 
   -- "/" at i in both
   pub name-slash : i < length p → i < length r → getD p i 0 ≡ getD r i 0 → getD p i 0 ≡ 47 → nameStep i (drop i p) (drop i r) ≡ Next i i
   name-slash h k e f =
       rw (drop-cons p i 0 h, drop-cons r i 0 k)
-      (name-both i (getD p i 0) (getD r i 0) (drop (suc i) p) (drop (suc i) r) (eq-eqb (getD p i 0) (getD r i 0) e) (eq-eqb (getD p i 0) 47 f))
+      (name-both i (getD p i 0) (getD r i 0) (drop (suc i) p) (drop (suc i) r) (eq-eqb (getD p i 0) (getD r i 0) e)
+      (eq-eqb (getD p i 0) 47 f))
 
   -- different bytes at i
   pub name-differ : i < length p → i < length r → (getD p i 0 ≡ getD r i 0 → ⊥) → nameStep i (drop i p) (drop i r) ≡ Differ
@@ -205,14 +207,16 @@ unfolding same
 front-name i [] [] h g e f = rw (add-zero i) (name-tail i e f)
 front-name i [] (y ∷ k) {a} {b} h g e f = name-from-end i y (k ++ b) (without-first 47 y k g) e
 front-name i (x ∷ l) [] {a} {b} h g e f = name-to-end i x (l ++ a) (without-first 47 x l h) f
-front-name i (x ∷ l) (y ∷ k) {a} {b} h g e f = go (eqb x y) refl (front-name (i + 1) l k (without-rest 47 x l h) (without-rest 47 y k g) e f)
+front-name i (x ∷ l) (y ∷ k) {a} {b} h g e f =
+    go (eqb x y) refl (front-name (i + 1) l k (without-rest 47 x l h) (without-rest 47 y k g) e f)
   where
     sum : i + suc (length l) ≡ (i + 1) + length l
     sum = omega arith
 
     go : (t : Bool) → eqb x y ≡ t → nameStep (i + 1) (l ++ a) (k ++ b)
         ≡ cond (same l k) (tailStep ((i + 1) + length l) ((i + 1) + length l) a b) Differ
-        → nameStep i (x ∷ (l ++ a)) (y ∷ (k ++ b)) ≡ cond (eqb x y && same l k) (tailStep (i + suc (length l)) (i + suc (length l)) a b) Differ
+        → nameStep i (x ∷ (l ++ a)) (y ∷ (k ++ b))
+        ≡ cond (eqb x y && same l k) (tailStep (i + suc (length l)) (i + suc (length l)) a b) Differ
     go true q r = name-equal i x y (l ++ a) (k ++ b) q (without-first 47 x l h) ∙ r ∙ sym (rw (q, sum))
     go false q r = name-other i x y (l ++ a) (k ++ b) q ∙ sym (rw q)
 
@@ -224,7 +228,11 @@ star-tail k at-end (at-slash u) = rw (ne-eqb (length k) (length (k ++ (47 ∷ u)
 star-tail k (at-slash t) at-end =
     rw (append-nil k, eq-eqb (length k) (length k) refl, ne-eqb (suc (suc (length t))) 1 (λ q. omega arith))
 star-tail k (at-slash t) (at-slash u) =
-    rw (ne-eqb (length k) (length (k ++ (47 ∷ u))) (λ q. omega (arith, length-append k (47 ∷ u))), ne-eqb (suc (suc (length t))) 1 (λ q. omega arith))
+    rw (
+      ne-eqb (length k) (length (k ++ (47 ∷ u))) (λ q. omega (arith, length-append k (47 ∷ u))),
+      ne-eqb (suc (suc (length t))) 1
+          (λ q. omega arith),
+    )
 
 -- names that are the same have the same length
 same-lengths : (l k a b : List ℕ) (t : Bool) → same l k ≡ t
@@ -247,7 +255,8 @@ front-step l k {a} {b} h g e f = rw (front-star l h e, front-length k g f) (go (
 -- ---- what the step says of the levels
 
 -- the first levels, and those after them
-front-firsts : (l k : List ℕ) {a b : List ℕ} (t : Bool) → without 47 l ≡ true → without 47 k ≡ true → Ends a → Ends b → (isStar l || same l k) ≡ t
+front-firsts : (l k : List ℕ) {a b : List ℕ} (t : Bool) → without 47 l ≡ true → without 47 k ≡ true → Ends a → Ends b
+    → (isStar l || same l k) ≡ t
     → Firsts (l ++ a) (k ++ b) (tailLevels a) (tailLevels b) t
 front-firsts l k t h g e f m = record { first-p = l; first-r = k; of-p = front-levels l h e; of-r = front-levels k g f; fit = m }
 

@@ -9,7 +9,7 @@ use lib.ListN.{length, take, drop}
 use Rattle.octets.specs.Bytes.{same}
 use Rattle.resource.specs.declared.LevelStep.{LevelStep}
 use Rattle.resource.specs.declared.LevelStep.the-variants.{Differ, Finish, Next}
-use Rattle.resource.specs.Identifier.{isFay, isTerminal}
+use Rattle.resource.specs.Identifier.{isFay, isTerminal, faySize, levelsPlace, terminalSize}
 use Rattle.resource.specs.Level.{isName, isStar, isDeep, levels}
 use Rattle.octets.specs.Scan.{without}
 use Rattle.resource.specs.Pattern.{Levels, Pattern, matches, admits, levelsBefore, taken, AllNames, Some, NamesIn, spelled}
@@ -22,32 +22,32 @@ use Rattle.resource.specs.Cover.{covers, witness, CanTake, Fresh, longes
 
 -- a terminal id has 45 bytes
 abbrev pub TerminalLength : Type 0
-TerminalLength = (c : List ℕ) → isTerminal c ≡ true → length c ≡ 45
+TerminalLength = (c : List ℕ) → isTerminal c ≡ true → length c ≡ terminalSize
 
 -- a fay id has 40 bytes
 abbrev pub FayLength : Type 0
-FayLength = (c : List ℕ) → isFay c ≡ true → length c ≡ 40
+FayLength = (c : List ℕ) → isFay c ≡ true → length c ≡ faySize
 
 -- a pattern that may enter has 46 to 256 bytes
 abbrev pub PatternShort : Type 0
-PatternShort = (p : List ℕ) → patternOk p ≡ true → (46 ≤ length p) × (length p ≤ 256)
+PatternShort = (p : List ℕ) → patternOk p ≡ true → (levelsPlace ≤ length p) × (length p ≤ 256)
 
 -- so has a resource id that may enter
 abbrev pub ResourceShort : Type 0
-ResourceShort = (r : List ℕ) → resourceOk r ≡ true → (46 ≤ length r) × (length r ≤ 256)
+ResourceShort = (r : List ℕ) → resourceOk r ≡ true → (levelsPlace ≤ length r) × (length r ≤ 256)
 
 -- the first 45 bytes of a pattern are a terminal id
 abbrev pub PatternTerminal : Type 0
-PatternTerminal = (p : List ℕ) → patternOk p ≡ true → isTerminal (take 45 p) ≡ true
+PatternTerminal = (p : List ℕ) → patternOk p ≡ true → isTerminal (take terminalSize p) ≡ true
 
 -- the levels of a pattern are its first 45 bytes and the levels of what follows the 46th
 abbrev pub PatternLevels : Type 0
-PatternLevels = (p : List ℕ) → patternOk p ≡ true → levels p ≡ take 45 p ∷ levels (drop 46 p)
+PatternLevels = (p : List ℕ) → patternOk p ≡ true → levels p ≡ take terminalSize p ∷ levels (drop levelsPlace p)
 
 -- a pattern matches a path exactly where the first 45 bytes of their texts are the same and the levels below match
 abbrev pub AdmitsText : Type 0
 AdmitsText = (p r : List ℕ) → patternOk p ≡ true → resourceOk r ≡ true
-    → admits (patternOf p) (pathOf r) ≡ (same (take 45 p) (take 45 r) && levelsMatch (drop 46 p) (drop 46 r))
+    → admits (patternOf p) (pathOf r) ≡ (same (take terminalSize p) (take terminalSize r) && levelsMatch (drop levelsPlace p) (drop levelsPlace r))
 
 -- the text of a pattern has no space
 abbrev pub PatternSpaceless : Type 0

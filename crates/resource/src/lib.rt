@@ -3,6 +3,7 @@
 mod ids;
 mod levels;
 mod matcher;
+pub mod sizes;
 
 ghost use mathlib.Core.Path.{_≡_};
 ghost use Rattle.resource.specs.Identifier.{isFay, isTerminal};

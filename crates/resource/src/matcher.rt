@@ -3,6 +3,8 @@ use crate::LevelStep;
 use crate::Matching;
 use crate::levels::pattern;
 use crate::levels::resource;
+use crate::sizes::LEVELS_PLACE;
+use crate::sizes::TERMINAL_SIZE;
 ghost use mathlib.Core.Path.{_≡_};
 ghost use Rattle.resource.specs.Level.{isDeep};
 ghost use Rattle.resource.specs.Text.{levelsMatch, matching};
@@ -105,10 +107,10 @@ pub(crate) fn texts(p: &[u8], r: &[u8]) -> Matching
     if !resource(r) {
         return Matching::Malformed;
     }
-    if !octets::same_start(p, r, 45) {
+    if !octets::same_start(p, r, TERMINAL_SIZE) {
         return Matching::No;
     }
-    if levels(&p[46..], &r[46..]) {
+    if levels(&p[LEVELS_PLACE..], &r[LEVELS_PLACE..]) {
         return Matching::Yes;
     }
     Matching::No

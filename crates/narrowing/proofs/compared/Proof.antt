@@ -1,5 +1,6 @@
 -- `compared` meets its contract. Assumes nothing.
 use mathlib.Core.Path.{_∙_}
+use Rattle.resource.specs.Identifier.{terminalSize}
 use Rattle.octets.proofs.PartLaws.{start-parts}
 use Rattle.narrowing.proofs.NarrowSteps.{parent-constrained, child-constrained, begins-early, ends-late, compared-first}
 use native.Mathlib.Omega.{arith}
@@ -41,7 +42,8 @@ returns-5 c =
     let x = b .before .before .before .before .before .before in
     c .first .ensures _ _ (f .fill .ensures .0)
     ∙ compared-first _ _ _ _ (b .before .before .if1 .left) (b .if2 .left) (d .if3 .left) (e .if4 .left)
-    (start-parts (x .args .s .now) (x .args .t .now) (x .args .v .terminal) (x .args .w .terminal) 45 (x .pre .0) (x .pre .1) (o .same-start .ensures))
+    (start-parts (x .args .s .now) (x .args .t .now) (x .args .v .terminal) (x .args .w .terminal) terminalSize (x .pre .0) (x .pre .1)
+    (o .same-start .ensures))
 
 pub compared-spec : {M : Type 1} → statement M
 compared-spec =

@@ -28,7 +28,8 @@ returns c =
     let b = x .before .before .before in
     let a = b .before .before .args in
     c .compared .ensures
-    ∙ narrow-both _ _ _ _ (are-bytes (a .parent .now) (b .before .shared-slice-known .given)) (are-bytes (a .child .now) (b .shared-slice-known2 .given)) (sym (x .v .given .1) ∙ x .before .before .read-descriptor .ensures)
+    ∙ narrow-both _ _ _ _ (are-bytes (a .parent .now) (b .before .shared-slice-known .given))
+    (are-bytes (a .child .now) (b .shared-slice-known2 .given)) (sym (x .v .given .1) ∙ x .before .before .read-descriptor .ensures)
     (sym (y .w .given .1) ∙ y .before .before .read-descriptor2 .ensures)
 
 returns-2 : tie.Need-returns-2

@@ -15,9 +15,11 @@ use Rattle.narrowing.proofs.search.escape.Tie as tie
 masks-tell : (j : tie.Joined1)
     → (let a = j .before .before .before .before .before .args in
     lowestIn (j .before .ends-deep .result) (j .if1 .d) (a .mask)
-    ≡ lowestIn (j .before .ends-deep .result) (cond (a .shared) (markedRows (a .parent .now) (a .table .now) (a .p .now) zeros (a .rows)) zeros) (a .mask))
+    ≡ lowestIn (j .before .ends-deep .result)
+    (cond (a .shared) (markedRows (a .parent .now) (a .table .now) (a .p .now) zeros (a .rows)) zeros) (a .mask))
 masks-tell j =
-    ⊎-elim (λ w. met-shared _ _ _ _ _ _ _ _ _ (w .5) (w .0 .taken) (w .2 .ensures .1 (w .4 .left))) (λ w. met-other _ _ _ _ _ _ _ _ (w .1) (w .0 .left))
+    ⊎-elim (λ w. met-shared _ _ _ _ _ _ _ _ _ (w .5) (w .0 .taken) (w .2 .ensures .1 (w .4 .left)))
+    (λ w. met-other _ _ _ _ _ _ _ _ (w .1) (w .0 .left))
     (j .if1 .came)
 
 -- they are 128

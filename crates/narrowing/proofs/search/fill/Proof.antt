@@ -5,6 +5,7 @@ use Prim.Native.Nat.{_+_, _*_, _≤_, _<_}
 use native.Mathlib.Omega.{arith}
 use lib.ListN.{length}
 use borrow.Author.Needs.{needs}
+use Rattle.resource.specs.Identifier.{levelsPlace}
 use Rattle.descriptor.specs.Answer.{grantRead}
 use Rattle.descriptor.proofs.GrantBounds.{pattern-room}
 use Rattle.narrowing.proofs.TableLaws.{Begun, written-length, second-room, third-room, begun-first, begun-next, begun-stop}
@@ -20,8 +21,9 @@ abbrev μ-loop : tie.MeasureT-loop
 
 -- the pattern that was read lies within the bytes
 room : (k : tie.After-fields Inv-loop μ-loop)
-    → (46 ≤ k .fields .given .0 .0 .len)
-    × (k .fields .given .0 .0 .pattern + k .fields .given .0 .0 .len ≤ length (k .before .before .before .before .before .before .before .args .parent .now))
+    → (levelsPlace ≤ k .fields .given .0 .0 .len)
+    × (k .fields .given .0 .0 .pattern + k .fields .given .0 .0 .len ≤ length
+    (k .before .before .before .before .before .before .before .args .parent .now))
 room k = pattern-room _ _ (sym (ap grantRead (k .fields .given .1)) ∙ k .before .before .read-grant .ensures)
 
 -- the table has the next row
@@ -57,7 +59,7 @@ slice-write-table-2 : tie.Need-slice-write-table-2 Inv-loop μ-loop
 slice-write-table-2 c =
     let k = c .before .before in
     let l = k .before .before .before .before .loop in
-    second-room (l .table) (l .i) (k .fields .given .0 .0 .pattern + 46) (free k)
+    second-room (l .table) (l .i) (k .fields .given .0 .0 .pattern + levelsPlace) (free k)
 
 add-table-4 : tie.Need-add-table-4 Inv-loop μ-loop
 add-table-4 c = omega (arith, free (c .before .before))
@@ -70,7 +72,7 @@ slice-write-table-3 c =
     let k = c .before .before in
     let l = k .before .before .before .before .loop in
     let f = k .fields .given .0 .0 in
-    third-room (l .table) (l .i) (f .pattern + 46) (f .pattern + f .len) (free k)
+    third-room (l .table) (l .i) (f .pattern + levelsPlace) (f .pattern + f .len) (free k)
 
 add-i : tie.Need-add-i Inv-loop μ-loop
 add-i c = omega (arith, free (c .before .before))

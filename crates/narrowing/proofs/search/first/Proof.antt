@@ -3,6 +3,7 @@ use mathlib.Core.Path.{_≡_, sym, ap, _∙_}
 use Prim.Native.Nat.{ℕ, _+_, _-_, _≤_}
 use native.Mathlib.Omega.{arith}
 use lib.ListN.{length}
+use Rattle.resource.specs.Identifier.{levelsPlace}
 use Rattle.descriptor.specs.declared.GrantRead.the-variants.{IsGrant}
 use Rattle.descriptor.specs.Answer.{grantRead}
 use Rattle.descriptor.specs.Reader.{grantAt}
@@ -16,7 +17,8 @@ use Rattle.narrowing.proofs.search.first.Tie as tie
 abbrev Inv-loop : tie.InvT-loop
 Inv-loop parent table rows shared child from grants i₀ here₀ near₀ i here near =
     (i ≤ grants)
-    × ((count at : ℕ) → Filled parent table rows count at → firstIn parent at count shared child i (grants - i) here ≡ firstIn parent at count shared child 0 grants from)
+    × ((count at : ℕ) → Filled parent table rows count at → firstIn parent at count shared child i (grants - i) here
+    ≡ firstIn parent at count shared child 0 grants from)
 
 abbrev μ-loop : tie.MeasureT-loop
 μ-loop parent table rows shared child from grants i₀ here₀ near₀ i here near = grants - i
@@ -24,13 +26,15 @@ abbrev μ-loop : tie.MeasureT-loop
 -- the grant that was read
 seen : (k : tie.After-fields Inv-loop μ-loop)
     → grantRead (IsGrant (k .fields .given .0 .0) (k .fields .given .0 .1 .0))
-    ≡ grantAt (k .before .before .before .before .before .before .before .before .args .child .now) (k .before .before .before .before .loop .here)
+    ≡ grantAt (k .before .before .before .before .before .before .before .before .args .child .now)
+    (k .before .before .before .before .loop .here)
 seen k = sym (ap grantRead (k .fields .given .1)) ∙ k .before .before .read-grant .ensures
 
 -- the grant that was read lies within the child's bytes
 inside : (k : tie.After-fields Inv-loop μ-loop)
-    → (46 ≤ k .fields .given .0 .0 .len)
-    × (k .fields .given .0 .0 .pattern + k .fields .given .0 .0 .len ≤ length (k .before .before .before .before .before .before .before .before .args .child .now))
+    → (levelsPlace ≤ k .fields .given .0 .0 .len)
+    × (k .fields .given .0 .0 .pattern + k .fields .given .0 .0 .len ≤ length
+    (k .before .before .before .before .before .before .before .before .args .child .now))
 inside k = pattern-room _ _ (seen k)
 
 loop-holds : tie.Need-loop-holds Inv-loop μ-loop
@@ -40,7 +44,8 @@ returns : tie.Need-returns Inv-loop μ-loop
 returns c =
     let r = c .before .before in
     let l = r .before in
-    λ count at f. first-none _ _ _ _ _ _ _ _ (l .loop-test .taken) (sym (ap grantRead (c .enum-told .given .1)) ∙ r .read-grant .ensures) ∙ l .before .loop .inv .1 count at f
+    λ count at f. first-none _ _ _ _ _ _ _ _ (l .loop-test .taken) (sym (ap grantRead (c .enum-told .given .1)) ∙ r .read-grant .ensures)
+    ∙ l .before .loop .inv .1 count at f
 
 add-end : tie.Need-add-end Inv-loop μ-loop
 add-end c = omega (arith, inside (c .before .before) .0, inside (c .before .before) .1)
@@ -63,7 +68,8 @@ returns-2 c =
     let e = m .before .before in
     let k = e .before .before .before .before .before .before in
     let l = k .before .before .before in
-    λ count at f. first-hit _ _ _ _ _ _ _ _ (l .loop-test .taken) (seen k) (sym (m .found .given .1) ∙ e .escape-near .ensures count at f) ∙ l .before .loop .inv .1 count at f
+    λ count at f. first-hit _ _ _ _ _ _ _ _ (l .loop-test .taken) (seen k) (sym (m .found .given .1) ∙ e .escape-near .ensures count at f)
+    ∙ l .before .loop .inv .1 count at f
 
 loop-again : tie.Need-loop-again Inv-loop μ-loop
 loop-again c =
@@ -71,7 +77,8 @@ loop-again c =
     let k = e .before .before .before .before .before .before in
     let l = k .before .before .before in (
       omega (arith, l .loop-test .taken),
-      λ count at f. first-next _ _ _ _ _ _ _ _ (l .loop-test .taken) (seen k) (sym (c .enum-told2 .given .1) ∙ e .escape-near .ensures count at f) ∙ l .before .loop .inv .1 count at f,
+      λ count at f. first-next _ _ _ _ _ _ _ _ (l .loop-test .taken) (seen k)
+          (sym (c .enum-told2 .given .1) ∙ e .escape-near .ensures count at f) ∙ l .before .loop .inv .1 count at f,
     )
 
 returns-3 : tie.Need-returns-3 Inv-loop μ-loop

@@ -11,7 +11,8 @@ use Rattle.narrowing.proofs.search.least_lacking.Statement.{statement}
 use Rattle.narrowing.proofs.search.least_lacking.Tie as tie
 
 abbrev Inv-loop : tie.InvT-loop
-Inv-loop d mode from to k₀ k = (k ≤ to) × (orLimit (least (lacksAt d mode) from (to - from)) to ≡ orLimit (least (lacksAt d mode) k (to - k)) to)
+Inv-loop d mode from to k₀ k = (k ≤ to)
+    × (orLimit (least (lacksAt d mode) from (to - from)) to ≡ orLimit (least (lacksAt d mode) k (to - k)) to)
 
 abbrev μ-loop : tie.MeasureT-loop
 μ-loop d mode from to k₀ k = to - k
@@ -26,8 +27,11 @@ returns c =
 
 loop-again : tie.Need-loop-again Inv-loop μ-loop
 loop-again c =
-    let l = c .before .before .before .before in
-    (omega arith, l .loop .inv .1 ∙ least-miss _ _ _ (c .before .before .before .loop-test .taken) (sym (c .before .lacks .ensures) ∙ c .if1 .left))
+    let l = c .before .before .before .before in (
+      omega arith,
+      l .loop .inv .1
+          ∙ least-miss _ _ _ (c .before .before .before .loop-test .taken) (sym (c .before .lacks .ensures) ∙ c .if1 .left),
+    )
 
 returns-2 : tie.Need-returns-2 Inv-loop μ-loop
 returns-2 c = sym (c .before .loop .inv .1 ∙ least-end _ _ _ (c .loop-test .left))

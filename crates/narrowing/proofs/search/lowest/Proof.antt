@@ -23,7 +23,9 @@ returns : tie.Need-returns Inv-loop μ-loop
 returns c =
     let i = c .before .before .before .before in
     let l = i .before in
-    sym (l .loop .inv .1 ∙ lowest-hit _ _ _ _ _ _ (i .loop-test .taken) (has-of (c .before .before .before .lacks .ensures) (c .before .before .if1 .taken)) (c .before .least-lacking .ensures) (c .if2 .taken))
+    sym (l .loop .inv .1
+    ∙ lowest-hit _ _ _ _ _ _ (i .loop-test .taken) (has-of (c .before .before .before .lacks .ensures) (c .before .before .if1 .taken))
+    (c .before .least-lacking .ensures) (c .if2 .taken))
 
 loop-again : tie.Need-loop-again Inv-loop μ-loop
 loop-again c =
@@ -32,7 +34,8 @@ loop-again c =
       omega arith,
       l .loop .inv .1 ∙
           ⊎-elim
-          (λ w. lowest-miss _ _ _ _ _ _ (l .before .before .pre .0) (i .loop-test .taken) (has-of (c .before .lacks .ensures) (w .0 .taken)) (w .1 .ensures) (w .2 .left))
+          (λ w. lowest-miss _ _ _ _ _ _ (l .before .before .pre .0) (i .loop-test .taken) (has-of (c .before .lacks .ensures) (w .0 .taken))
+          (w .1 .ensures) (w .2 .left))
           (λ w. lowest-skip _ _ _ _ _ (i .loop-test .taken) (lacks-of (c .before .lacks .ensures) (w .left)))
           (c .if1 .came),
     )

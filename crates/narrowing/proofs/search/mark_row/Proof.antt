@@ -9,15 +9,21 @@ returns : tie.Need-returns
 returns c =
     let m = c .before .before .before in
     let f = m .before .before in
-    let v = f .before in
-    (modes-told _ _ _ _ _ (v .cover .ensures) _ _ _ (f .full .ensures) (c .if1 .taken), m .mark .ensures ∙ marked-row _ _ _ _ _ (v .cover .ensures) _)
+    let v = f .before in (
+      modes-told _ _ _ _ _ (v .cover .ensures) _ _ _ (f .full .ensures) (c .if1 .taken),
+      m .mark .ensures
+          ∙ marked-row _ _ _ _ _ (v .cover .ensures) _,
+    )
 
 returns-2 : tie.Need-returns-2
 returns-2 c =
     let m = c .before .before .before in
     let f = m .before .before in
-    let v = f .before in
-    (modes-told _ _ _ _ _ (v .cover .ensures) _ _ _ (f .full .ensures) (c .if1 .left), m .mark .ensures ∙ marked-row _ _ _ _ _ (v .cover .ensures) _)
+    let v = f .before in (
+      modes-told _ _ _ _ _ (v .cover .ensures) _ _ _ (f .full .ensures) (c .if1 .left),
+      m .mark .ensures
+          ∙ marked-row _ _ _ _ _ (v .cover .ensures) _,
+    )
 
 pub mark-row-spec : {M : Type 1} → statement M
 mark-row-spec =

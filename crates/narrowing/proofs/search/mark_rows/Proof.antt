@@ -53,8 +53,11 @@ returns : tie.Need-returns Inv-loop μ-loop
 returns c =
     let v = c .before .before .before in
     let i = v .before .before .before .before in
-    let n = marking-next _ _ _ _ _ _ _ _ _ (i .before .loop .inv .1) _ _ (v .mark-row .ensures .1) (v .mark-row .ensures .0) in
-    (λ l. marking-covered _ _ _ _ _ _ _ _ _ n _ (omega (arith, i .loop-test .taken)) (c .if2 .taken), λ h. absurd (omega (arith, i .loop-test .taken)))
+    let n = marking-next _ _ _ _ _ _ _ _ _ (i .before .loop .inv .1) _ _ (v .mark-row .ensures .1) (v .mark-row .ensures .0) in (
+      λ l. marking-covered _ _ _ _ _ _ _ _ _ n _ (omega (arith, i .loop-test .taken)) (c .if2 .taken),
+      λ h. absurd
+          (omega (arith, i .loop-test .taken)),
+    )
 
 loop-again : tie.Need-loop-again Inv-loop μ-loop
 loop-again c =
@@ -62,7 +65,8 @@ loop-again c =
     let i = k .before in (
       omega (arith, i .loop-test .taken),
       ⊎-elim
-          (λ w. marking-met _ _ _ _ _ _ _ _ _ (marking-next _ _ _ _ _ _ _ _ _ (i .before .loop .inv .1) _ _ (w .2 .ensures .1) (w .2 .ensures .0)) _ _ (w .6) (w .7))
+          (λ w. marking-met _ _ _ _ _ _ _ _ _
+          (marking-next _ _ _ _ _ _ _ _ _ (i .before .loop .inv .1) _ _ (w .2 .ensures .1) (w .2 .ensures .0)) _ _ (w .6) (w .7))
           (λ w. marking-met _ _ _ _ _ _ _ _ _ (marking-skip _ _ _ _ _ _ _ _ _ (i .before .loop .inv .1) (w .0 .left)) _ _ (w .1) (w .2))
           (c .if1 .came),
     )

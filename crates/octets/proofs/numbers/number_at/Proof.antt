@@ -62,7 +62,11 @@ shared-slice-read-n : tie.Need-shared-slice-read-n Inv-loop μ-loop
 shared-slice-read-n c = omega arith
 
 cast-n : tie.Need-cast-n Inv-loop μ-loop
-cast-n c = omega (arith, c .shared-slice-known .given (c .before .before .before .before .before .before .args .at + c .before .before .loop .k))
+cast-n c = omega (
+  arith,
+  c .shared-slice-known .given
+      (c .before .before .before .before .before .before .args .at + c .before .before .loop .k),
+)
 
 add-n-2 : tie.Need-add-n-2 Inv-loop μ-loop
 add-n-2 c =

@@ -46,8 +46,12 @@ loop-again c =
     let f = c .before .before .before in
     let e = f .before .before .before in
     let l = e .before .before in
-    let a = l .before .args in
-    (omega arith, omega arith, l .loop .inv .2 ∙ before-same (a .x .now) (a .y .now) (l .loop .i) (e .if1 .left) (e .before .loop-test .taken) (f .if2 .left) (c .if3 .left))
+    let a = l .before .args in (
+      omega arith,
+      omega arith,
+      l .loop .inv .2
+          ∙ before-same (a .x .now) (a .y .now) (l .loop .i) (e .if1 .left) (e .before .loop-test .taken) (f .if2 .left) (c .if3 .left),
+    )
 
 returns-4 : tie.Need-returns-4 Inv-loop μ-loop
 returns-4 c =

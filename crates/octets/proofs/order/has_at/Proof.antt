@@ -36,8 +36,12 @@ returns-4 c =
 loop-again : tie.Need-loop-again Inv-loop μ-loop
 loop-again c =
     let l = c .before .before .before .before in
-    let a = l .before .before .before .before .args in
-    (omega arith, omega arith, hasAt-alike (a .s .now) (a .at) (a .k .now) (l .loop .i) (omega arith) (omega arith) (c .if4 .left) ∙ l .loop .inv .2)
+    let a = l .before .before .before .before .args in (
+      omega arith,
+      omega arith,
+      hasAt-alike (a .s .now) (a .at) (a .k .now) (l .loop .i) (omega arith) (omega arith) (c .if4 .left)
+          ∙ l .loop .inv .2,
+    )
 
 returns-5 : tie.Need-returns-5 Inv-loop μ-loop
 returns-5 c = sym (hasAt-done _ _ _ (c .before .loop .i) (omega arith)) ∙ c .before .loop .inv .2

@@ -75,13 +75,15 @@ levels-returns-2 : (t : ℕ) → levels-lts.Need-returns-2 (given t) (levels-at 
 levels-returns-2 t c =
     let f = c .before .before in
     let e = f .before in
-    sym (subst (Stepped _ _) (sym (f .first-step .ensures) ∙ c .enum-told .given .1) (step-tells _ _ (sym (e .before .is-deep .ensures) ∙ e .if1 .left)))
+    sym (subst (Stepped _ _) (sym (f .first-step .ensures) ∙ c .enum-told .given .1)
+    (step-tells _ _ (sym (e .before .is-deep .ensures) ∙ e .if1 .left)))
 
 levels-returns-3 : (t : ℕ) → levels-lts.Need-returns-3 (given t) (levels-at t) levels.Post
 levels-returns-3 t c =
     let f = c .before .before in
     let e = f .before in
-    sym (subst (Stepped _ _) (sym (f .first-step .ensures) ∙ c .enum-told2 .given .1) (step-tells _ _ (sym (e .before .is-deep .ensures) ∙ e .if1 .left)))
+    sym (subst (Stepped _ _) (sym (f .first-step .ensures) ∙ c .enum-told2 .given .1)
+    (step-tells _ _ (sym (e .before .is-deep .ensures) ∙ e .if1 .left)))
 
 levels-returns-4 : (t : ℕ) → levels-lts.Need-returns-4 (given t) (levels-at t) levels.Post
 levels-returns-4 t c = c .levels .ensures ∙ next-decides _ _ _ _ (goes t (c .before .before .before .before))

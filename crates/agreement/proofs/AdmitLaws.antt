@@ -8,7 +8,7 @@ use native.Mathlib.Omega.{arith}
 use lib.ListN.{length}
 use lib.Dec.{leb, eqb}
 use borrow.Author.Tests.{leb-true, le-leb, ltb-true, lt-ltb, eq-eqb}
-use Rattle.octets.proofs.Tests.{and-left, and-right}
+use Rattle.octets.proofs.Tests.{and-left, and-right, or-assoc}
 use Rattle.resource.specs.Identifier.{isFay, isTerminal}
 use Rattle.resource.specs.Pattern.{Path, IsPath, admits}
 use Rattle.resource.specs.Text.{isResource, pathOf, patternOf}
@@ -20,7 +20,6 @@ use Rattle.request.specs.Promises.{someServes, formed}
 use Rattle.narrowing.specs.Meaning.{anyAdmits}
 use Rattle.narrowing.specs.Promises.{NoPairs, Inside}
 use Rattle.narrowing.proofs.Promises.{constrained-exactly, accepted-exactly}
-use Rattle.octets.proofs.ListLaws.{or-assoc}
 use Rattle.resource.specs.Characters.{oneOf}
 use Rattle.steps.specs.Order.{Step, AllPass}
 use Rattle.request.specs.declared.DecisionNumbers.{DecisionNumbers}

@@ -90,6 +90,19 @@ pub has-same : (s : List ℕ) (at : ℕ) (a b : List ℕ) → length a ≡ lengt
 unfolding Has part
 has-same s at a b e p q = sym p ∙ ap (λ (n : ℕ). take n (drop at s)) e ∙ q
 
+-- what a list begins with stands at its front
+pub front-has : (s a rest : List ℕ) → s ≡ a ++ rest → Has s 0 a
+unfolding Has part
+front-has s a rest e = ap (take (length a)) e ∙ take-at a rest (length a) refl
+
+-- what stands after n bytes
+pub has-after : (s : List ℕ) (r n p : ℕ) (a b : List ℕ) → length a ≡ n → r + n ≡ p → Has s r (a ++ b) → Has s p b
+has-after s r n p a b e f h = subst (λ (q : ℕ). Has s q b) (ap (λ (k : ℕ). r + k) e ∙ f) (has-right s r a b h)
+
+-- what stands after n bytes, with them
+pub has-both : (s : List ℕ) (r n p : ℕ) (a b : List ℕ) → length a ≡ n → r + n ≡ p → Has s r a → Has s p b → Has s r (a ++ b)
+has-both s r n p a b e f h k = has-join s r a b h (subst (λ (q : ℕ). Has s q b) (sym (ap (λ (m : ℕ). r + m) e ∙ f)) k)
+
 -- ---- tests
 
 pub same-eq : (xs ys : List ℕ) → T (same xs ys) → xs ≡ ys

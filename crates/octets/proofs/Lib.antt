@@ -1,4 +1,5 @@
 pub mod Tests
+pub mod OptionLaws
 pub mod TruthLaws
 pub mod BytesLaws
 pub mod SpanLaws
@@ -7,6 +8,5 @@ pub mod OrderLaws
 pub mod OverLaws
 pub mod NumberLaws
 pub mod BitLaws
-pub mod ListLaws
 pub mod PartLaws
 pub mod ScanLaws

@@ -1,14 +1,14 @@
 -- Laws of parts that go to the end of a list, as a slice `&s[a..]` is handed on, and of parts of parts. Assumes nothing.
-use mathlib.Core.Path.{_≡_, sym, ap, _∙_}
+use mathlib.Core.Path.{_≡_, refl, sym, ap, _∙_}
 use mathlib.Core.Bool.{Bool, _&&_}
 use mathlib.Core.List.{List, [], _∷_}
 use Prim.Native.Nat.{ℕ, zero, suc, _+_, _-_, _≤_, _<_}
-use native.Mathlib.Nat.{sub-zero, zero-sub, suc-sub-suc}
+use native.Mathlib.Nat.{sub-zero, zero-sub, suc-sub-suc, add-sub-cancel-left}
 use native.Mathlib.Omega.{arith}
 use lib.ListN.{length, take, drop, length-drop}
-use lib.Seq.{take-all, take-nil, drop-drop}
+use lib.Seq.{take-all, take-nil, take-take, drop-drop, getD-drop}
 use lib.Dec.{leb}
-use Rattle.octets.specs.Bytes.{part, same}
+use Rattle.octets.specs.Bytes.{AreBytes, part, same}
 use Rattle.octets.proofs.SameLaws.{start-answer}
 
 -- A part from a place to the end is what remains without the bytes before.
@@ -42,3 +42,32 @@ unfolding part
 start-parts s t a b n h k e =
     start-answer (drop a s) (drop b t) n (omega (arith, length-drop a s)) (omega (arith, length-drop b t))
     (rw (part-to-end s a, part-to-end t b) at e)
+
+-- The part that code lends, from a place up to n places on, is that part.
+pub lent-part : (s : List ℕ) (at n : ℕ) → take (at + n - at) (drop at s) ≡ part s at n
+unfolding part
+lent-part s at n = ap (λ (k : ℕ). take k (drop at s)) (add-sub-cancel-left at n)
+
+-- Bytes within the first n do not depend on what follows these.
+take-within : (p k n : ℕ) (l : List ℕ) → p + k ≤ n → take k (drop p (take n l)) ≡ take k (drop p l)
+take-within zero k n l h = take-take k n l (omega arith)
+take-within (suc p) k zero l h = absurd (omega arith)
+take-within (suc p) k (suc n) [] h = refl
+take-within (suc p) k (suc n) (x ∷ l) h = take-within p k n l (omega arith)
+
+-- A part of a part is a part.
+pub part-part : (s : List ℕ) (at n p k : ℕ) → p + k ≤ n → part (part s at n) p k ≡ part s (at + p) k
+unfolding part
+part-part s at n p k h = take-within p k n (drop at s) h ∙ ap (take k) (drop-drop p at s)
+
+-- The first of some bytes are bytes.
+take-bytes : (n : ℕ) (s : List ℕ) → AreBytes s → AreBytes (take n s)
+take-bytes zero s b i = omega arith
+take-bytes (suc n) [] b i = b i
+take-bytes (suc n) (x ∷ xs) b zero = b 0
+take-bytes (suc n) (x ∷ xs) b (suc i) = take-bytes n xs (λ j. b (suc j)) i
+
+-- A part of bytes is bytes.
+pub part-bytes : (s : List ℕ) (at n : ℕ) → AreBytes s → AreBytes (part s at n)
+unfolding part
+part-bytes s at n b = take-bytes n (drop at s) (λ i. rw getD-drop (b (at + i)))

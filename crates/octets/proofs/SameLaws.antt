@@ -26,6 +26,10 @@ same-self x = go (same x x) (same-refl x)
     go true h = refl
     go false h = absurd h
 
+-- Equal lists are the same.
+pub equal-same : (x y : List ℕ) → x ≡ y → same x y ≡ true
+equal-same x y e = rw e (same-self y)
+
 -- Lists that are not equal are not the same.
 pub not-same : (x y : List ℕ) → (x ≡ y → ⊥) → same x y ≡ false
 not-same x y n = go (same x y) refl

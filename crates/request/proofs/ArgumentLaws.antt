@@ -13,7 +13,7 @@ use Rattle.resource.specs.Identifier.{isFay, isTerminal}
 use Rattle.resource.specs.Text.{resourceOk}
 use Rattle.steps.specs.Key.{isVerdict}
 use Rattle.image.specs.Layout.{idSize}
-use Rattle.octets.proofs.ListLaws.{lent-part}
+use Rattle.octets.proofs.PartLaws.{lent-part}
 use Rattle.request.specs.Request.{Request, highestMode, wellFormed, listedAmong, isListed}
 
 -- ---- the arguments

@@ -6,7 +6,7 @@ use Prim.Native.Nat.{ℕ, _+_, _-_, min}
 use lib.ListN.{length, take, drop}
 use borrow.Author.Tests.{eq-eqb, ne-eqb}
 use Rattle.octets.specs.Bytes.{part, same}
-use Rattle.octets.proofs.PartLaws.{part-to-end}
+use Rattle.octets.proofs.PartLaws.{part-to-end, lent-part}
 use Rattle.descriptor.specs.declared.Fields.{Fields}
 use Rattle.steps.specs.Order.{orElse, inOrder}
 use Rattle.steps.specs.Key.{bad, noKey, isThat, keyOpen}
@@ -16,7 +16,6 @@ use Rattle.image.specs.declared.Held.the-variants.{Missing, Body}
 use Rattle.image.specs.declared.Survey.{Survey}
 use Rattle.image.specs.declared.Survey.the-variants.{Sound, Unsound}
 use Rattle.image.specs.Check.{surveyOf, isSound, isHeld}
-use Rattle.octets.proofs.ListLaws.{lent-part}
 use Rattle.request.specs.declared.Decision.{Decision}
 use Rattle.request.specs.declared.Decision.the-variants as answers
 use Rattle.request.specs.declared.Environment.{Environment}

@@ -4,7 +4,7 @@ use mathlib.Core.List.{List}
 use Prim.Native.Nat.{ℕ, _+_, _-_, _≤_}
 use lib.ListN.{length, take, drop}
 use Rattle.octets.specs.Bytes.{AreBytes, part}
-use Rattle.octets.proofs.ListLaws.{lent-part}
+use Rattle.octets.proofs.PartLaws.{lent-part}
 use Rattle.descriptor.specs.declared.Fields.{Fields}
 use Rattle.image.specs.declared.Held.the-variants.{Body}
 use Rattle.image.specs.declared.Survey.the-variants.{Sound}

@@ -6,7 +6,7 @@ use mathlib.Core.Option.{none, some}
 use Prim.Native.Nat.{ℕ}
 use lib.ListN.{length}
 use Rattle.octets.specs.Bytes.{part}
-use Rattle.octets.proofs.ListLaws.{some-same, none-some}
+use Rattle.octets.proofs.OptionLaws.{some-same, none-some}
 use Rattle.descriptor.specs.declared.Fields.{Fields}
 use Rattle.descriptor.specs.declared.Reading.the-variants.{Read}
 use Rattle.steps.specs.Order.{orElse, inOrder}

@@ -8,7 +8,7 @@ use native.Mathlib.Decide.{decLe}
 use lib.ListN.{length}
 use Rattle.octets.specs.Bytes.{part, same}
 use Rattle.image.specs.Layout.{idSize}
-use Rattle.octets.proofs.ListLaws.{same-true, true-same}
+use Rattle.octets.proofs.SameLaws.{same-equal, equal-same}
 use Rattle.request.specs.Request.{listedAmong, isListed}
 use Rattle.request.specs.Promises.{ListedExactly}
 
@@ -22,7 +22,7 @@ listed-is revoked id (suc n) e = go (same (part revoked (idSize * n) idSize) id)
         → elim t as (λ t. Bool) [ true ↦ true | false ↦ listedAmong revoked id n ] ≡ true
         → (listedAmong revoked id n ≡ true → (i : ℕ) × (i < n) × (part revoked (idSize * i) idSize ≡ id))
         → (i : ℕ) × (i < suc n) × (part revoked (idSize * i) idSize ≡ id)
-    go true t e k = (n, omega arith, same-true (part revoked (idSize * n) idSize) id t)
+    go true t e k = (n, omega arith, same-equal (part revoked (idSize * n) idSize) id t)
     go false t e k = let r = k e in (r .0, omega (arith, r .1), r .2)
 
 -- An id that is one of the first n is among them.
@@ -38,7 +38,7 @@ is-listed revoked id (suc n) i h e = go (same (part revoked (idSize * n) idSize)
     go false t k = elim (decLe n i) [
       | yes l ↦
           (let here : i ≡ n = omega arith in
-          absurd (false≢true (sym t ∙ true-same (part revoked (idSize * n) idSize) id (ap (λ (j : ℕ). part revoked (idSize * j) idSize) (sym here) ∙ e))))
+          absurd (false≢true (sym t ∙ equal-same (part revoked (idSize * n) idSize) id (ap (λ (j : ℕ). part revoked (idSize * j) idSize) (sym here) ∙ e))))
       | no l ↦ k (omega arith) e
     ]
 

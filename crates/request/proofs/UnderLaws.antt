@@ -15,7 +15,8 @@ use Rattle.image.specs.Image.{Holds, bodyWith, isRead, BodiesOk}
 use Rattle.image.specs.Check.{surveyOf, bodiesOf}
 use Rattle.image.specs.Laws.{HeldBody, HeldIs}
 use Rattle.image.proofs.Laws.{body-read, encoding-read, body-with-exactly, survey-tells, survey-says, survey-unsound}
-use Rattle.octets.proofs.ListLaws.{none-some, part-bytes}
+use Rattle.octets.proofs.PartLaws.{part-bytes}
+use Rattle.octets.proofs.OptionLaws.{none-some}
 use Rattle.request.specs.Promises.{Stored, badImage, notHeld, held, Among, Under, AllStored}
 
 -- The body with the id of a descriptor that is held is its encoding.

@@ -1,15 +1,12 @@
 -- The statements of specs/Laws.antt, each from its law. Assumes nothing.
-use mathlib.Core.List.{[]}
 use Rattle.image.specs.Laws.{ReadIn, ReadNamed, BodyRead, EncodingRead, BodyWithExactly, BodiesNamed, SurveyTells, SurveySays}
-use Rattle.image.specs.Laws.{SurveyUnsound, EditionsSurveyed, SurveyInside, Lengths, RowExactly, ImageStands, OneMore}
+use Rattle.image.specs.Laws.{SurveyUnsound, EditionsSurveyed, SurveyInside, BodyAdded, OneMore}
 use Rattle.image.proofs.BodyLaws as body
 use Rattle.image.proofs.ReadLaws as read
-use Rattle.image.proofs.ListLaws as list
 use Rattle.image.proofs.PlaceLaws as place
 use Rattle.image.proofs.SurveyLaws as survey
 use Rattle.image.proofs.RowLaws as row
-use Rattle.image.proofs.SoundLaws as sound
-use Rattle.image.proofs.MoreLaws as more
+use Rattle.image.proofs.GrowLaws as grow
 
 -- ---- a body that reads
 
@@ -50,24 +47,10 @@ editions-surveyed = survey.editions-surveyed
 pub survey-inside : SurveyInside
 survey-inside = survey.survey-inside
 
--- ---- the pieces of an image
-
-pub lengths : Lengths
-lengths = record {
-  of-header = row.header-length;
-  of-row = row.row-length;
-  of-rows = row.rows-length;
-  of-bodies = λ bs o. list.joined-short [] bs (o .each);
-  of-image = row.image-length;
-}
-
-pub row-exactly : RowExactly
-row-exactly s r at b = (row.row-parts s r at b, row.parts-row s r at b)
-
-pub image-stands : ImageStands
-image-stands = sound.image-stands
-
 -- ---- one body more
 
+pub body-added : BodyAdded
+body-added = grow.body-added
+
 pub one-more : OneMore
-one-more = more.one-more
+one-more = grow.one-more

@@ -13,6 +13,9 @@ pub mod LayoutLaws
 pub mod LookupLaws
 pub mod PlaceLaws
 pub mod MoreLaws
+pub mod RaiseLaws
+pub mod GrowCode
+pub mod GrowLaws
 pub mod Laws
 pub mod Promises
 pub mod CodeLaws

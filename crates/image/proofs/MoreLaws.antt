@@ -1,4 +1,4 @@
--- One body more in an image (specs/Laws.antt, `OneMore`). Assumes nothing.
+-- The image of one body more (specs/Image.antt). Assumes nothing.
 use mathlib.Core.Path.{_≡_, refl, sym, ap, subst}
 use mathlib.Core.Bool.{Bool, true, false, _||_}
 use mathlib.Core.List.{List, [], _∷_, _++_}
@@ -16,12 +16,12 @@ use Rattle.image.proofs.ListLaws.{each-snoc, with-new, with-other}
 use Rattle.image.proofs.SoundLaws.{run-whole}
 
 -- The image of one body more is longer by a row and the body.
-length-more : (bs : List (List ℕ)) (b : List ℕ) → length (imageOf (bs ++ (b ∷ []))) ≡ length (imageOf bs) + rowSize + length b
+pub length-more : (bs : List (List ℕ)) (b : List ℕ) → length (imageOf (bs ++ (b ∷ []))) ≡ length (imageOf bs) + rowSize + length b
 length-more bs b =
     omega (arith, image-length bs, image-length (bs ++ (b ∷ [])), length-append bs (b ∷ []), ap length (joined-snoc bs b), length-append (joined bs) b)
 
 -- Where the pieces of the larger image stand, it stands.
-pieces : (d : List ℕ) (bs : List (List ℕ)) (b : List ℕ) → Has d 0 (header (length bs + 1))
+pub pieces : (d : List ℕ) (bs : List (List ℕ)) (b : List ℕ) → Has d 0 (header (length bs + 1))
     → Has d headerSize (rowsOf (rowPlace (length bs) + rowSize) bs)
     → Has d (rowPlace (length bs)) (row (length (imageOf bs) + rowSize) b) → Has d (rowPlace (length bs) + rowSize) (joined bs)
     → Has d (length (imageOf bs) + rowSize) b
@@ -58,19 +58,9 @@ none-has id (b ∷ bs) e = go (same (idOf b) id) e (none-has id bs)
     go false e k = k e
 
 -- Fewer than 64 bodies and one more that reads, whose id none of them has, are allowed.
-bodies-more : (bs : List (List ℕ)) (b : List ℕ) → BodiesOk bs → length bs < mostRows → isRead (reading b) ≡ true
+pub bodies-more : (bs : List (List ℕ)) (b : List ℕ) → BodiesOk bs → length bs < mostRows → isRead (reading b) ≡ true
     → bodyWith (idOf b) bs ≡ none → BodiesOk (bs ++ (b ∷ []))
 bodies-more bs b o few reads new = record {
   few = omega (arith, length-append bs (b ∷ []));
   each = each-snoc [] bs b (o .each) (record { reads = reads; new = none-has (idOf b) bs new });
-}
-
--- `OneMore`.
-pub one-more : OneMore
-one-more = record {
-  of-image = length-more;
-  stands = pieces;
-  allowed = bodies-more;
-  mine = λ bs b e. with-new (idOf b) bs b e (true-same (idOf b) (idOf b) refl);
-  others = λ id bs b o. with-other id bs b (other-same (idOf b) id o);
 }

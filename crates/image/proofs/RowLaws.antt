@@ -17,7 +17,6 @@ use Rattle.image.specs.Layout.{idSize, rowPlace, headerSize, rowSize, of
 use Rattle.image.specs.Image.{reading, idIn, maskIn, idOf, modesOf, header, row, rowsOf, joined, imageOf}
 use Rattle.image.specs.Check.{rowId, rowOffset, rowLength}
 use Rattle.image.proofs.BodyLaws.{read-in}
-use Rattle.image.specs.Laws.{RowParts}
 
 -- ---- what reading says of a body
 
@@ -100,6 +99,14 @@ rows-snoc at (x ∷ bs) b =
     ∙ sym (append-assoc (row at x) (rowsOf (at + length x) bs) (row (at + length (x ++ joined bs)) b))
 
 -- ---- the fields of a row
+
+-- The five fields of a row stand at r one after the other.
+pub record RowParts (s : List ℕ) (r at : ℕ) (b : List ℕ) : Type 0 where
+  pub id : Has s r (idOf b)
+  pub offset : Has s (r + offsetPlace) (bigEndian 4 at)
+  pub size : Has s (r + lengthPlace) (bigEndian 4 (length b))
+  pub mask : Has s (r + maskPlace) (bigEndian 1 (modesOf b))
+  pub zeros : Has s (r + zeroPlace) (bigEndian 7 0)
 
 -- The five fields of a row stand one after the other.
 pub row-parts : (s : List ℕ) (r at : ℕ) (b : List ℕ) → Has s r (row at b) → RowParts s r at b

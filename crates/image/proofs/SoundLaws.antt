@@ -19,7 +19,6 @@ use Rattle.image.specs.declared.Held.the-variants.{Missing}
 use Rattle.image.specs.Layout.{imageEdition, modeEdition, headerSize, mostRows, rowPlace, countPlace}
 use Rattle.image.specs.Image.{header, rowsOf, joined, imageOf, BodiesOk, Holds}
 use Rattle.image.specs.Check.{rowCount, headerFits, rowsFrom, checked, bodiesFrom, bodiesOf}
-use Rattle.image.specs.Laws.{ImageParts, ImageStands}
 use Rattle.image.proofs.StepLaws.{guard-got}
 use Rattle.image.proofs.RowLaws.{header-length, rows-length, image-length}
 use Rattle.octets.proofs.ListLaws.{has-after, has-both, front-has}
@@ -113,8 +112,14 @@ has-holds s bs o h = record { bodies = o; rest = drop (length (imageOf bs)) s; w
 pub rows-end : (bs : List (List ℕ)) → headerSize + length (rowsOf (rowPlace (length bs)) bs) ≡ rowPlace (length bs)
 rows-end bs = omega (arith, rows-length (rowPlace (length bs)) bs)
 
--- `ImageStands`.
-pub image-stands : ImageStands
+-- The header, the rows and the bodies of an image stand one after the other.
+pub record ImageParts (s : List ℕ) (bs : List (List ℕ)) : Type 0 where
+  pub has-header : Has s 0 (header (length bs))
+  pub has-rows : Has s headerSize (rowsOf (rowPlace (length bs)) bs)
+  pub has-bodies : Has s (rowPlace (length bs)) (joined bs)
+
+-- They do so in a buffer that holds the bodies.
+pub image-stands : (s : List ℕ) (bs : List (List ℕ)) → Holds s bs → ImageParts s bs
 unfolding imageOf
 image-stands s bs h =
     let n : ℕ = length bs in

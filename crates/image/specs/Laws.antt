@@ -1,13 +1,13 @@
 -- What the crates above stand on, in the code's own answers. A reader of the promises does not need this page.
 use mathlib.Core.Path.{_≡_}
 use mathlib.Core.Logic.{_↔_, _⊎_}
-use mathlib.Core.Bool.{true}
+use mathlib.Core.Bool.{true, cond}
 use mathlib.Core.List.{List, [], _∷_, _++_}
 use mathlib.Core.Option.{none, some}
-use Prim.Native.Nat.{ℕ, _+_, _*_, _≤_, _<_}
+use Prim.Native.Nat.{ℕ, _+_, _≤_, _<_}
 use lib.ListN.{length, getD}
-use Rattle.octets.specs.Bytes.{AreBytes, part, Has}
-use Rattle.octets.specs.Number.{bigEndian, numberAt}
+use Rattle.octets.specs.Bytes.{AreBytes, part}
+use Rattle.octets.specs.Number.{numberAt}
 use Rattle.descriptor.specs.declared.Fields.{Fields}
 use Rattle.descriptor.specs.declared.Reading.the-variants.{Read}
 use Rattle.descriptor.specs.Model.{Descriptor, encode}
@@ -17,10 +17,11 @@ use Rattle.image.specs.declared.Held.{Held}
 use Rattle.image.specs.declared.Held.the-variants.{Missing, Body}
 use Rattle.image.specs.declared.Survey.{Survey}
 use Rattle.image.specs.declared.Survey.the-variants.{Sound, Unsound}
-use Rattle.image.specs.Layout.{imageEdition, modeEdition, headerSize, rowSize, idSize, mostRows, offsetPlace, lengthPlace}
-use Rattle.image.specs.Layout.{maskPlace, zeroPlace, rowPlace}
-use Rattle.image.specs.Image.{reading, isRead, idOf, modesOf, header, row, rowsOf, joined, imageOf, BodiesOk, Holds, bodyWith}
+use Rattle.image.specs.declared.Added.the-variants.{Done, Full}
+use Rattle.image.specs.Layout.{imageEdition, modeEdition, idSize}
+use Rattle.image.specs.Image.{reading, isRead, idOf, modesOf, imageOf, BodiesOk, Holds, bodyWith}
 use Rattle.image.specs.Check.{surveyOf, bodiesOf}
+use Rattle.image.specs.Grow.{addedOf, afterAdd, hasRoom, withBody}
 
 -- ---- a body that reads
 
@@ -113,54 +114,20 @@ SurveyFits s Unsound = Unit {0}
 abbrev pub SurveyInside : Type 0
 SurveyInside = (s id : List ℕ) → AreBytes s → SurveyFits s (surveyOf s id)
 
--- ---- the pieces of an image
-
--- how long a header, a row, rows, the bodies that are allowed, and an image are
-pub record Lengths : Type 0 where
-  pub of-header : (n : ℕ) → length (header n) ≡ headerSize
-  pub of-row : (at : ℕ) (b : List ℕ) → length (row at b) ≡ rowSize
-  pub of-rows : (at : ℕ) (bs : List (List ℕ)) → length (rowsOf at bs) ≡ rowSize * length bs
-  pub of-bodies : (bs : List (List ℕ)) → BodiesOk bs → length (joined bs) ≤ 32768 * length bs
-  pub of-image : (bs : List (List ℕ)) → length (imageOf bs) ≡ rowPlace (length bs) + length (joined bs)
-
--- the five fields of a row stand at r one after the other
-pub record RowParts (s : List ℕ) (r at : ℕ) (b : List ℕ) : Type 0 where
-  pub id : Has s r (idOf b)
-  pub offset : Has s (r + offsetPlace) (bigEndian 4 at)
-  pub size : Has s (r + lengthPlace) (bigEndian 4 (length b))
-  pub mask : Has s (r + maskPlace) (bigEndian 1 (modesOf b))
-  pub zeros : Has s (r + zeroPlace) (bigEndian 7 0)
-
--- the row of a body stands where its fields do
-abbrev pub RowExactly : Type 0
-RowExactly = (s : List ℕ) (r at : ℕ) (b : List ℕ) → Has s r (row at b) ↔ RowParts s r at b
-
--- the header, the rows and the bodies of an image stand one after the other
-pub record ImageParts (s : List ℕ) (bs : List (List ℕ)) : Type 0 where
-  pub has-header : Has s 0 (header (length bs))
-  pub has-rows : Has s headerSize (rowsOf (rowPlace (length bs)) bs)
-  pub has-bodies : Has s (rowPlace (length bs)) (joined bs)
-
--- they do so in a buffer that holds the bodies
-abbrev pub ImageStands : Type 0
-ImageStands = (s : List ℕ) (bs : List (List ℕ)) → Holds s bs → ImageParts s bs
-
 -- ---- one body more
 
--- with one body more an image is longer by a row and the body; it stands where its pieces do, the bodies a row higher and the new row
--- and body last; fewer than 64 bodies stay allowed with one that reads and whose id none of them has; that id then has the body, and
+-- A body that reads is added to a buffer that holds bodies exactly where there is room for it; the buffer is then the image of the bodies
+-- and the new one, and beyond it what stood there. Else no byte is changed.
+abbrev pub BodyAdded : Type 0
+BodyAdded = (d : List ℕ) (bs : List (List ℕ)) (b : List ℕ) (f : Fields) → Holds d bs → reading b ≡ Read f
+    → (addedOf d (length bs) (length (imageOf bs)) b (f .id) ≡ cond (hasRoom d bs b) Done Full)
+    × (afterAdd d (length bs) (length (imageOf bs)) b (f .id) (f .mask) ≡ cond (hasRoom d bs b) (withBody d bs b) d)
+
+-- where there is room, and none of the bodies has its id, the larger buffer holds the bodies and the new one; its id then has it, and
 -- any other id what it had
 pub record OneMore : Type 0 where
-  pub of-image : (bs : List (List ℕ)) (b : List ℕ) → length (imageOf (bs ++ (b ∷ []))) ≡ length (imageOf bs) + rowSize + length b
-  pub stands : (s : List ℕ) (bs : List (List ℕ)) (b : List ℕ)
-      → Has s 0 (header (length bs + 1))
-      → Has s headerSize (rowsOf (rowPlace (length bs) + rowSize) bs)
-      → Has s (rowPlace (length bs)) (row (length (imageOf bs) + rowSize) b)
-      → Has s (rowPlace (length bs) + rowSize) (joined bs)
-      → Has s (length (imageOf bs) + rowSize) b
-      → Has s 0 (imageOf (bs ++ (b ∷ [])))
-  pub allowed : (bs : List (List ℕ)) (b : List ℕ) → BodiesOk bs → length bs < mostRows → isRead (reading b) ≡ true
+  pub holds : (d : List ℕ) (bs : List (List ℕ)) (b : List ℕ) → Holds d bs → hasRoom d bs b ≡ true → isRead (reading b) ≡ true
       → bodyWith (idOf b) bs ≡ none
-      → BodiesOk (bs ++ (b ∷ []))
+      → Holds (withBody d bs b) (bs ++ (b ∷ []))
   pub mine : (bs : List (List ℕ)) (b : List ℕ) → bodyWith (idOf b) bs ≡ none → bodyWith (idOf b) (bs ++ (b ∷ [])) ≡ some b
   pub others : (id : List ℕ) (bs : List (List ℕ)) (b : List ℕ) → (idOf b ≡ id → ⊥) → bodyWith id (bs ++ (b ∷ [])) ≡ bodyWith id bs

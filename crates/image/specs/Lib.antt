@@ -2,5 +2,6 @@ pub mod Layout
 pub mod Image
 pub mod Check
 pub mod Fresh
+pub mod Grow
 pub mod Promises
 pub mod Laws

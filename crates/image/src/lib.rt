@@ -1,4 +1,5 @@
 // The stored image of document 01: a table of contents, then the bodies. What is promised is in specs/Promises.antt.
+mod grow;
 pub mod layout;
 mod rows;
 
@@ -7,6 +8,7 @@ ghost use mathlib.Core.Path.{_≡_};
 ghost use Rattle.octets.specs.Bytes.{PartOf};
 ghost use Rattle.image.specs.Check.{surveyOf, heldAt, findOf, bodySpan};
 ghost use Rattle.image.specs.Fresh.{madeOf, afterNew};
+ghost use Rattle.image.specs.Grow.{addedOf, afterAdd};
 
 // The body with an id: where it lies in the image, how long it is, and what was read of it; or there is none.
 pub enum Held {
@@ -45,6 +47,12 @@ pub struct StoredNumbers {
 pub enum Made {
     Done,
     TooShort,
+}
+
+// What adding a body answers: it was added, or there is no room for it.
+pub enum Added {
+    Done,
+    Full,
 }
 
 // Checks the image, and looks for the body with the id in the same pass.
@@ -102,4 +110,12 @@ pub fn new_image(image: &mut [u8]) -> Made
     }
     octets::put(image, 0, b"\x00\x01\x00\x01\x00\x00\x00\x00");
     Made::Done
+}
+
+// Adds the body last to an image of so many rows, whose bodies end at `end`; its id stands at `id` in it. Where it cannot be added nothing
+// is written.
+pub fn add_body(image: &mut [u8], rows: u64, end: usize, body: &[u8], id: usize, mask: u64) -> Added
+    ensures { λ r. ⌜ (r ≡ addedOf (now (image .entry)) rows end (now (body .entry)) id) × (now (image .exit) ≡ afterAdd (now (image .entry)) rows end (now (body .entry)) id mask) ⌝ }
+{
+    grow::add_body(image, rows, end, body, id, mask)
 }

@@ -1,15 +1,13 @@
 -- What the stages that only look answer is what the steps in order come to (specs/Stages.antt, specs/Submission.antt). Assumes nothing.
 use mathlib.Core.Path.{_≡_, refl, sym, ap}
 use mathlib.Core.Logic.{_⊎_, inl, inr, ⊎-elim}
-use mathlib.Core.Bool.{Bool, true, false, _&&_}
+use mathlib.Core.Bool.{Bool, true, false}
 use mathlib.Core.List.{List}
-use Prim.Native.Nat.{ℕ, _+_, _≤_, _<_}
+use Prim.Native.Nat.{ℕ, _+_, _<_}
 use native.Mathlib.Omega.{arith}
-use lib.ListN.{length}
-use lib.Dec.{leb, ltb}
-use borrow.Author.Tests.{ltb-true, leb-true}
+use lib.Dec.{leb}
 use Rattle.octets.specs.Bytes.{part, same}
-use Rattle.octets.proofs.Tests.{by-cond, and-left, and-right}
+use Rattle.octets.proofs.Tests.{by-cond}
 use Rattle.descriptor.specs.declared.Fields.{Fields}
 use Rattle.descriptor.specs.declared.Reading.{Reading}
 use Rattle.descriptor.specs.declared.Reading.the-variants.{Read, Structure, Validity}
@@ -22,9 +20,9 @@ use Rattle.image.specs.declared.Held.{Held}
 use Rattle.image.specs.declared.Held.the-variants.{Missing, Body}
 use Rattle.image.specs.declared.Survey.{Survey}
 use Rattle.image.specs.declared.Survey.the-variants.{Sound, Unsound}
-use Rattle.image.specs.Layout.{rowSize, mostRows}
 use Rattle.image.specs.Image.{reading, idOf}
-use Rattle.image.specs.Check.{surveyOf, isHeld}
+use Rattle.image.specs.Check.{surveyOf, isHeld, bodiesOf}
+use Rattle.image.specs.Grow.{hasRoom}
 use Rattle.submission.specs.declared.Submission.{Submission}
 use Rattle.submission.specs.declared.Submission.the-variants as answers
 use Rattle.submission.specs.declared.choose.Choice.{Choice}
@@ -56,18 +54,17 @@ refused-keeps d b held a other = ⊎-elim (λ e. e) (λ e. absurd (other e)) (ke
 
 -- ---- what a choice says
 
--- The body is to be stored: every step passes, the id is not held, and there is room.
+-- The body is to be stored: the id is not held, and every step but the last passes, which is whether there is room.
 pub record Storing (d b : List ℕ) (clock verdict : ℕ) (window : Window) (r : Reading) (v : Survey) (n end id mask : ℕ) : Type 0 where
-  pub done : answers.Done ≡ inOrder (stepsBy d b clock verdict window r v) answers.Done
+  pub done : hasRoom d (bodiesOf d) b ≡ true → answers.Done ≡ inOrder (stepsBy d b clock verdict window r v) answers.Done
+  pub full : hasRoom d (bodiesOf d) b ≡ false → answers.Full ≡ inOrder (stepsBy d b clock verdict window r v) answers.Done
   pub found : v ≡ Sound n end Missing
   pub fields : Fields
   pub reads : r ≡ Read fields
   pub named : id ≡ fields .id
   pub modes : mask ≡ fields .mask
-  pub few : n < mostRows
-  pub room : end + rowSize + length b ≤ length d
 
--- An answer is what the steps come to, and leaves the buffer as it was; a body that is to be stored has passed every step.
+-- An answer is what the steps come to, and leaves the buffer as it was; a body that is to be stored has passed all but the last.
 abbrev pub ChoiceIs : List ℕ → List ℕ → ℕ → ℕ → Window → Reading → Survey → Choice → Type 0
 ChoiceIs d b clock verdict window r v (Answer a) = (a ≡ inOrder (stepsBy d b clock verdict window r v) answers.Done)
     × (afterAnswer d b (isHeld v) a ≡ d)
@@ -101,18 +98,15 @@ module _ (d b : List ℕ) (clock verdict : ℕ) (window : Window) (known : isVer
         (λ e. refuses d b clock verdict window (Read f) v answers.Duplicate (omega arith) (rw (known, early, issuer, key, signed, e)))
     placed-is Missing =
         let v : Survey = Sound n end Missing in
-        by-cond (ChoiceIs d b clock verdict window (Read f) v) (ltb n mostRows && leb (end + rowSize + length b) (length d))
-        (λ e. record {
-          done = all-done d b clock verdict window (Read f) v (rw (known, early, issuer, key, signed, e));
+        record {
+          done = λ e. all-done d b clock verdict window (Read f) v (rw (known, early, issuer, key, signed, e));
+          full = λ e. refuses d b clock verdict window (Read f) v answers.Full (omega arith) (rw (known, early, issuer, key, signed, e)) .0;
           found = refl;
           fields = f;
           reads = refl;
           named = refl;
           modes = refl;
-          few = ltb-true n mostRows (and-left (ltb n mostRows) (leb (end + rowSize + length b) (length d)) e);
-          room = leb-true (end + rowSize + length b) (length d) (and-right (ltb n mostRows) (leb (end + rowSize + length b) (length d)) e);
-        })
-        (λ e. refuses d b clock verdict window (Read f) v answers.Full (omega arith) (rw (known, early, issuer, key, signed, e)))
+        }
 
   -- A body that reads, in an image that is sound: the steps from the beginning to the signature, and then the place.
   read-is : (n end : ℕ) (h : Held) (f : Fields)

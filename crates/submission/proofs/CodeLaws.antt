@@ -1,15 +1,12 @@
--- Laws that the proofs of the code apply: what the tests, calls and writes of the code say of the definitions of specs/Stages.antt.
+-- Laws that the proofs of the code apply: what the tests and calls of the code say of the definitions of specs/Stages.antt.
 -- Assumes nothing.
 use mathlib.Core.Path.{_≡_, sym, ap, _∙_, subst}
 use mathlib.Core.Bool.{Bool, true, false, not}
 use mathlib.Core.List.{List}
-use Prim.Native.Nat.{ℕ, suc, _+_, _-_, _≤_, _<_}
-use native.Mathlib.Omega.{arith}
+use Prim.Native.Nat.{ℕ, _+_, _-_, _≤_, _<_}
 use lib.ListN.{length, take, drop, replicate}
-use borrow.Author.Tests.{lt-ltb, le-ltb, le-leb, lt-leb, eq-eqb, ne-eqb, not-true, not-false}
+use borrow.Author.Tests.{le-leb, lt-leb, eq-eqb, ne-eqb, not-true, not-false}
 use Rattle.octets.specs.Bytes.{part, same}
-use Rattle.octets.specs.Number.{bigEndian, numberIn}
-use Rattle.octets.specs.Write.{putAt, movedUp}
 use Rattle.descriptor.specs.declared.Fields.{Fields}
 use Rattle.descriptor.specs.declared.Reading.{Reading}
 use Rattle.descriptor.specs.declared.Reading.the-variants.{Read, Structure, Validity}
@@ -25,7 +22,7 @@ use Rattle.image.specs.Image.{reading, idIn, idOf}
 use Rattle.image.specs.Check.{surveyOf}
 use Rattle.image.specs.Laws.{HeldFits}
 use Rattle.image.proofs.Laws.{read-in}
-use Rattle.image.specs.Layout.{rowSize, idSize, mostRows, countPlace, offsetPlace, lengthPlace, maskPlace, zeroPlace, rowPlace}
+use Rattle.image.specs.Layout.{idSize}
 use Rattle.octets.proofs.ListLaws.{lent-part}
 use Rattle.submission.specs.declared.Submission.{Submission}
 use Rattle.submission.specs.declared.Submission.the-variants as answers
@@ -34,8 +31,7 @@ use Rattle.submission.specs.declared.choose.Choice.the-variants.{Answer,
 use Rattle.submission.specs.declared.choose.Admission.{Admission}
 use Rattle.submission.specs.declared.choose.Admission.the-variants.{Refused, Admitted}
 use Rattle.submission.specs.Submission.{longestLead}
-use Rattle.submission.specs.Stages.{admitted, placed, whenAdmitted, chosenRead, chosenUnread, chosenBy, choiceOf, raised, withRow}
-use Rattle.submission.specs.Stages.{grown}
+use Rattle.submission.specs.Stages.{admitted, placed, whenAdmitted, chosenRead, chosenUnread, chosenBy, choiceOf}
 
 -- ---- the beginning, the issuer, the key and the signature
 
@@ -89,21 +85,10 @@ module _ (d b : List ℕ) (n end : ℕ) (h : Held) (f : Fields) where
     unfolding placed
     place-other u = sym (ap (λ (x : Held). placed d b n end x f) e ∙ rw (same-held ∙ u))
 
-  module _ (e : h ≡ Missing) where
-    -- There are 64 rows.
-    pub place-full : mostRows ≤ n → Answer answers.Full ≡ placed d b n end h f
-    unfolding placed
-    place-full l = sym (ap (λ (x : Held). placed d b n end x f) e ∙ rw (le-ltb n mostRows l))
-
-    -- The larger image would exceed the buffer.
-    pub place-long : n < mostRows → length d < end + rowSize + length b → Answer answers.Full ≡ placed d b n end h f
-    unfolding placed
-    place-long l m = sym (ap (λ (x : Held). placed d b n end x f) e ∙ rw (lt-ltb n mostRows l, lt-leb (end + rowSize + length b) (length d) m))
-
-    -- Else the body is to be stored.
-    pub place-store : n < mostRows → end + rowSize + length b ≤ length d → Store n end (f .id) (f .mask) ≡ placed d b n end h f
-    unfolding placed
-    place-store l m = sym (ap (λ (x : Held). placed d b n end x f) e ∙ rw (lt-ltb n mostRows l, le-leb (end + rowSize + length b) (length d) m))
+  -- No body has the id: it is to be stored.
+  pub place-store : h ≡ Missing → Store n end (f .id) (f .mask) ≡ placed d b n end h f
+  unfolding placed
+  place-store e = sym (ap (λ (x : Held). placed d b n end x f) e)
 
 -- ---- by the survey of the image
 
@@ -182,42 +167,3 @@ module _ (d b : List ℕ) (clock verdict : ℕ) (window : Window) (h : verdict �
   pub choice-validity : (r : Choice) → o ≡ Validity → r ≡ chosenUnread answers.Validity (surveyOf d (replicate idSize 0))
       → r ≡ choiceOf d b clock verdict window
   choice-validity r e p = p ∙ choice-by Validity e
-
--- ---- the offsets are raised
-
--- Before the first row all rows are left.
-pub raise-begin : (d : List ℕ) (n : ℕ) → raised d n 0 ≡ raised d (n - 0) 0
-raise-begin d n = let k : n ≡ n - 0 = omega arith in ap (λ (m : ℕ). raised d m 0) k
-
--- A row whose offset was raised leaves the rows after it.
-pub raise-next : (d d′ : List ℕ) (n i v : ℕ) → i < n → v ≡ numberIn d (rowPlace i + offsetPlace) 4
-    → d′ ≡ putAt d (rowPlace i + offsetPlace) (bigEndian 4 (v + rowSize))
-    → raised d (n - i) i ≡ raised d′ (n - (i + 1)) (i + 1)
-unfolding raised
-raise-next d d′ n i v l e p =
-    let k : n - i ≡ suc (n - (i + 1)) = omega arith in
-    ap (λ (m : ℕ). raised d m i) k
-    ∙ ap (λ (x : List ℕ). raised x (n - (i + 1)) (i + 1))
-    (ap (λ (w : ℕ). putAt d (rowPlace i + offsetPlace) (bigEndian 4 (w + rowSize))) (sym e) ∙ sym p)
-
--- After the last row nothing is left.
-pub raise-end : (d : List ℕ) (n i : ℕ) → n ≤ i → raised d (n - i) i ≡ d
-unfolding raised
-raise-end d n i l = let k : n - i ≡ 0 = omega arith in ap (λ (m : ℕ). raised d m i) k
-
--- ---- the row and the whole
-
--- The five writes of a row.
-pub row-done : (d d₁ d₂ d₃ d₄ d₅ : List ℕ) (r at : ℕ) (b : List ℕ) (id mask : ℕ)
-    → d₁ ≡ putAt d r (take (id + idSize - id) (drop id b)) → d₂ ≡ putAt d₁ (r + offsetPlace) (bigEndian 4 at)
-    → d₃ ≡ putAt d₂ (r + lengthPlace) (bigEndian 4 (length b))
-    → d₄ ≡ putAt d₃ (r + maskPlace) (bigEndian 1 mask) → d₅ ≡ putAt d₄ (r + zeroPlace) (bigEndian 7 0) → d₅ ≡ withRow d r at b id mask
-unfolding withRow
-row-done d d₁ d₂ d₃ d₄ d₅ r at b id mask e₁ e₂ e₃ e₄ e₅ = rw (e₅, e₄, e₃, e₂, e₁, lent-part b id idSize)
-
--- The five writes of one more row and body.
-pub grow-done : (d d₁ d₂ d₃ d₄ d₅ : List ℕ) (n end : ℕ) (b : List ℕ) (id mask : ℕ)
-    → d₁ ≡ movedUp d (rowPlace n) end rowSize → d₂ ≡ raised d₁ n 0 → d₃ ≡ withRow d₂ (rowPlace n) (end + rowSize) b id mask
-    → d₄ ≡ putAt d₃ (end + rowSize) b → d₅ ≡ putAt d₄ countPlace (bigEndian 2 (n + 1)) → d₅ ≡ grown d n end b id mask
-unfolding grown
-grow-done d d₁ d₂ d₃ d₄ d₅ n end b id mask e₁ e₂ e₃ e₄ e₅ = rw (e₅, e₄, e₃, e₂, e₁)

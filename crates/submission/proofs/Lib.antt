@@ -1,8 +1,6 @@
 pub mod CodeLaws
 pub mod ChoiceLaws
 pub mod StepLaws
-pub mod RaiseLaws
-pub mod GrowLaws
 pub mod StoredLaws
 pub mod SubmitLaws
 pub mod NumberLaws

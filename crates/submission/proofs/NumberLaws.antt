@@ -25,9 +25,10 @@ use Rattle.image.specs.declared.Survey.{Survey}
 use Rattle.image.specs.declared.Survey.the-variants.{Sound, Unsound}
 use Rattle.image.specs.Image.{reading, isRead, idOf, imageOf, Holds}
 use Rattle.image.specs.Check.{surveyOf, bodiesOf}
+use Rattle.image.specs.Grow.{hasRoom}
 use Rattle.image.specs.Promises.{answerOf}
 use Rattle.image.specs.Laws.{HeldIs}
-use Rattle.image.proofs.Laws.{body-read, encoding-read, survey-tells, survey-says, survey-unsound, one-more}
+use Rattle.image.proofs.Laws.{body-read, encoding-read, survey-tells, survey-says, survey-unsound, bodies-named}
 use Rattle.submission.specs.declared.Submission.the-variants as answers
 use Rattle.submission.specs.Submission.{stepsBy, steps, submitted, numberOf}
 use Rattle.submission.specs.Promises.{Stored, unsound, bodies, structure, validity, descriptor as encoding, IsStored, IsBody}
@@ -69,13 +70,13 @@ by-validity d b clock verdict window bs n end h = refl
 
 -- The encoding of a descriptor.
 by-descriptor : (d : List ℕ) (clock verdict : ℕ) (window : Window) (bs : List (List ℕ)) (c : Descriptor) (f : Fields) (h : Held)
-    → f .before ≡ c .payload .notBefore → HeldIs d (c .payload .id) bs h
+    → bodiesOf d ≡ bs → f .before ≡ c .payload .notBefore → HeldIs d (c .payload .id) bs h
     → numberBy d (encode c) clock verdict window (Read f) (Sound (length bs) (length (imageOf bs)) h)
     ≡ inOrder (stepsFor (bodies bs) (encoding c) (length d) clock verdict window) 0
-unfolding stepsBy isVerdict isThat keyOpen
-by-descriptor d clock verdict window bs c f Missing e k = ap (λ (l : List (Step ℕ)). inOrder l 0)
-    (rw (e, k, one-more .of-image bs (encode c)))
-by-descriptor d clock verdict window bs c f (Body at len g) e k = ap (λ (l : List (Step ℕ)). inOrder l 0) (rw (e, k .which))
+unfolding stepsBy isVerdict isThat keyOpen hasRoom
+by-descriptor d clock verdict window bs c f Missing q e k = ap (λ (l : List (Step ℕ)). inOrder l 0)
+    (rw (e, k, q))
+by-descriptor d clock verdict window bs c f (Body at len g) q e k = ap (λ (l : List (Step ℕ)). inOrder l 0) (rw (e, k .which))
 
 -- ---- the number of a descriptor
 
@@ -87,7 +88,7 @@ number-descriptor d clock verdict window bs c h bytes a =
     let r = encoding-read c bytes a in
     let w = survey-tells d (idOf (encode c)) bs h in
     number-by d (encode c) clock verdict window (Read (r .0)) (Sound (length bs) (length (imageOf bs)) (w .0)) (r .1) (w .1)
-    ∙ by-descriptor d clock verdict window bs c (r .0) (w .0) (r .2) (subst (λ (id : List ℕ). HeldIs d id bs (w .0)) (r .3) (w .2))
+    ∙ by-descriptor d clock verdict window bs c (r .0) (w .0) (bodies-named d bs h) (r .2) (subst (λ (id : List ℕ). HeldIs d id bs (w .0)) (r .3) (w .2))
 
 -- ---- every case
 

@@ -1,34 +1,33 @@
 -- What a submission leaves in an image, said of its bodies (specs/Laws.antt). Assumes nothing.
 use mathlib.Core.Path.{_≡_, refl, sym, ap, _∙_, subst}
-use mathlib.Core.Bool.{Bool, true, false, _&&_, _||_, false≢true}
+use mathlib.Core.Bool.{Bool, true, false, _||_, false≢true}
 use mathlib.Core.List.{List, [], _∷_, _++_}
 use mathlib.Core.Option.{Option, none, some}
-use Prim.Native.Nat.{ℕ, _+_, _<_}
+use Prim.Native.Nat.{ℕ}
 use native.Mathlib.Omega.{arith}
-use lib.ListN.{length, drop}
-use lib.Dec.{leb, ltb, eqb}
-use borrow.Author.Tests.{ltb-true, eqb-true, eqb-false}
+use lib.ListN.{length}
+use lib.Dec.{eqb}
+use borrow.Author.Tests.{eqb-true, eqb-false}
 use Rattle.octets.specs.Bytes.{part, same}
-use Rattle.octets.proofs.Tests.{and-left}
 use Rattle.descriptor.specs.declared.Fields.{Fields}
 use Rattle.steps.specs.declared.Window.{Window}
 use Rattle.image.specs.declared.Held.{Held}
 use Rattle.image.specs.declared.Held.the-variants.{Missing, Body}
 use Rattle.image.specs.declared.Survey.{Survey}
 use Rattle.image.specs.declared.Survey.the-variants.{Sound, Unsound}
-use Rattle.image.specs.Layout.{rowSize, mostRows}
 use Rattle.image.specs.Image.{idOf, imageOf, Holds, bodyWith}
 use Rattle.image.specs.Check.{surveyOf, isSound, isHeld, bodiesOf}
+use Rattle.image.specs.Grow.{hasRoom, withBody}
 use Rattle.octets.proofs.ListLaws.{same-true, some-same, none-some}
 use Rattle.image.specs.Laws.{HeldIs}
 use Rattle.image.proofs.Laws.{body-read, bodies-named, survey-tells, survey-says, editions-surveyed, one-more}
 use Rattle.submission.specs.declared.Submission.the-variants as answers
-use Rattle.submission.specs.Submission.{agrees, hasRoom, submitted, numberOf, afterOf}
+use Rattle.submission.specs.Submission.{agrees, submitted, numberOf, afterOf}
 use Rattle.submission.specs.Promises.{RefusalKeeps, RepeatKeeps, EditionsRefused}
 use Rattle.submission.specs.Laws.{DoneMeans, AfterHolds}
 use Rattle.submission.proofs.ChoiceLaws.{refused-keeps}
 use Rattle.submission.proofs.SubmitLaws.{after-held, after-new}
-use Rattle.submission.proofs.StepLaws.{number-is, done-passed, unsound-refused}
+use Rattle.submission.proofs.StepLaws.{number-is, Passed, done-passed, unsound-refused}
 
 -- ---- what the survey finds
 
@@ -103,31 +102,18 @@ module _ (d b : List ℕ) (clock verdict : ℕ) (window : Window) (bs : List (Li
       = subst (λ (v : Survey). agrees d b v ≡ true) (r .found) (done-passed d b clock verdict window done .same-bytes) in
       sym (r .body) ∙ same-true (part d (r .at) (r .len)) b s
 
-  module _ (new : bodyWith (idOf b) bs ≡ none) where
-    -- Under a new id, it says that fewer than 64 bodies are held.
-    few : length bs < mostRows
-    few =
-        let n : ℕ = length bs in
-        let end : ℕ = length (imageOf bs) in
-        let t : (ltb n mostRows && leb (end + rowSize + length b) (length d)) ≡ true
-        = subst (λ (v : Survey). (isHeld v || hasRoom d b v) ≡ true) (survey-new d (idOf b) bs h new) (done-passed d b clock verdict window done .room) in
-        ltb-true n mostRows (and-left (ltb n mostRows) (leb (end + rowSize + length b) (length d)) t)
-
-    -- It leaves the image of the bodies and the new one, and the old bytes beyond its end.
-    pub stored-last : Holds (afterOf d b clock verdict window) (bs ++ (b ∷ []))
-        × (afterOf d b clock verdict window ≡ imageOf (bs ++ (b ∷ [])) ++ drop (length (imageOf (bs ++ (b ∷ [])))) d)
-    stored-last =
-        let more : List (List ℕ) = bs ++ (b ∷ []) in
-        let whole : afterOf d b clock verdict window ≡ imageOf more ++ drop (length (imageOf more)) d
-        = after-new d b clock verdict window (ap isHeld (survey-new d (idOf b) bs h new)) done
-        ∙ ap (λ (l : List (List ℕ)). imageOf (l ++ (b ∷ [])) ++ drop (length (imageOf (l ++ (b ∷ [])))) d) (bodies-named d bs h) in (
-          record {
-            bodies = one-more .allowed bs b (h .bodies) few (done-passed d b clock verdict window done .reads) new;
-            rest = drop (length (imageOf more)) d;
-            whole = whole;
-          },
-          whole,
-        )
+  -- Under a new id, it says that there is room, and leaves the buffer with the body added last, which holds the bodies and the new one.
+  pub stored-last : bodyWith (idOf b) bs ≡ none
+      → Holds (afterOf d b clock verdict window) (bs ++ (b ∷ [])) × (afterOf d b clock verdict window ≡ withBody d bs b)
+  stored-last new =
+      let found : surveyOf d (idOf b) ≡ Sound (length bs) (length (imageOf bs)) Missing = survey-new d (idOf b) bs h new in
+      let p : Passed d b = done-passed d b clock verdict window done in
+      let room : hasRoom d bs b ≡ true
+      = ap (λ (l : List (List ℕ)). hasRoom d l b) (sym (bodies-named d bs h))
+      ∙ subst (λ (v : Survey). (isHeld v || hasRoom d (bodiesOf d) b) ≡ true) found (p .room) in
+      let whole : afterOf d b clock verdict window ≡ withBody d bs b
+      = after-new d b clock verdict window (ap isHeld found) done ∙ ap (λ (l : List (List ℕ)). withBody d l b) (bodies-named d bs h) in
+      (subst (λ (x : List ℕ). Holds x (bs ++ (b ∷ []))) (sym whole) (one-more .holds d bs b h room (p .reads) new), whole)
 
 -- ---- the bodies after
 

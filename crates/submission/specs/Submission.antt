@@ -1,9 +1,8 @@
 -- Submission: what the code answers, and the buffer after it. These definitions compute. A reader of the promises does not need this page.
-use mathlib.Core.Bool.{Bool, true, false, not, cond, _&&_, _||_}
-use mathlib.Core.List.{List, [], _∷_, _++_}
+use mathlib.Core.Bool.{Bool, true, false, not, _||_}
+use mathlib.Core.List.{List, [], _∷_}
 use Prim.Native.Nat.{ℕ, _+_}
-use lib.ListN.{length, drop}
-use lib.Dec.{leb, ltb}
+use lib.Dec.{leb}
 use Rattle.octets.specs.Bytes.{part, same}
 use Rattle.descriptor.specs.declared.Reading.{Reading}
 use Rattle.descriptor.specs.declared.Reading.the-variants.{Read, Structure, Validity}
@@ -14,9 +13,9 @@ use Rattle.image.specs.declared.Held.{Held}
 use Rattle.image.specs.declared.Held.the-variants.{Missing, Body}
 use Rattle.image.specs.declared.Survey.{Survey}
 use Rattle.image.specs.declared.Survey.the-variants.{Sound, Unsound}
-use Rattle.image.specs.Layout.{rowSize, mostRows}
-use Rattle.image.specs.Image.{reading, idOf, imageOf}
+use Rattle.image.specs.Image.{reading, idOf}
 use Rattle.image.specs.Check.{surveyOf, isSound, isHeld, bodiesOf}
+use Rattle.image.specs.Grow.{hasRoom, withBody}
 use Rattle.submission.specs.declared.Submission.{Submission}
 use Rattle.submission.specs.declared.Submission.the-variants as answers
 
@@ -50,11 +49,6 @@ agrees d b (Sound n end (Body at len f)) = same (part d at len) b
 agrees d b (Sound n end Missing) = true
 agrees d b Unsound = true
 
--- fewer than 64 rows are held, and the larger image does not exceed the buffer
-abbrev pub hasRoom : List ℕ → List ℕ → Survey → Bool
-hasRoom d b (Sound n end h) = ltb n mostRows && leb (end + rowSize + length b) (length d)
-hasRoom d b Unsound = false
-
 -- ---- the steps
 
 -- the steps, by what reading the body answered and what the survey of the image for its id found
@@ -69,7 +63,7 @@ stepsBy d b clock verdict window r v =
     ∷ step (keyOpen window clock) answers.KeyInvalid
     ∷ step (not (isThat verdict bad)) answers.BadSignature
     ∷ step (agrees d b v) answers.Duplicate
-    ∷ step (isHeld v || hasRoom d b v) answers.Full
+    ∷ step (isHeld v || hasRoom d (bodiesOf d) b) answers.Full
     ∷ []
 
 -- the steps of a submission of the body b to the image d
@@ -95,14 +89,10 @@ numberOf answers.BadImage = 16
 
 -- ---- the buffer after
 
--- the image of the bodies of d and b, and beyond it what stood there
-unfoldable pub withBody : List ℕ → List ℕ → List ℕ
-withBody d b = let larger = imageOf (bodiesOf d ++ (b ∷ [])) in larger ++ drop (length larger) d
-
 -- a step refuses or the body is held: the buffer is as it was; else it is the image with the body added last
 abbrev pub afterAnswer : List ℕ → List ℕ → Bool → Submission → List ℕ
 afterAnswer d b true answer = d
-afterAnswer d b false answers.Done = withBody d b
+afterAnswer d b false answers.Done = withBody d (bodiesOf d) b
 afterAnswer d b false answers.Structure = d
 afterAnswer d b false answers.Validity = d
 afterAnswer d b false answers.UnknownIssuer = d

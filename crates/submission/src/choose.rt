@@ -5,8 +5,6 @@ use descriptor::Reading;
 use image::Held;
 use image::Survey;
 use image::layout::ID_SIZE;
-use image::layout::MOST_ROWS;
-use image::layout::ROW_SIZE;
 use steps::Window;
 ghost use mathlib.Core.Path.{_≡_};
 ghost use Prim.Native.Nat.{_+_, _≤_};
@@ -17,7 +15,7 @@ ghost use Rattle.image.specs.Laws.{HeldFits, SurveyFits};
 ghost use Rattle.octets.specs.Bytes.{AreBytes};
 ghost use Rattle.submission.specs.Stages.{admitted, placed, chosenRead, chosenUnread, choiceOf};
 
-// What is to be done: the answer alone, or the body is to be stored under its id and mask after the rows, which end at `end`.
+// What is to be done: the answer alone, or the body is to be stored after so many rows, whose bodies end at `end`; its id stands at `id`.
 pub(crate) enum Choice {
     Answer(Submission),
     Store {
@@ -58,9 +56,9 @@ fn admit(before: u64, clock: u64, verdict: u64, window: Window) -> Admission
     Admission::Admitted
 }
 
-// Whether the body is held, held with other bytes, has room or not.
+// Whether the body is held, held with other bytes, or to be stored.
 fn place(image: &[u8], body: &[u8], rows: u64, end: usize, held: Held, fields: Fields) -> Choice
-    requires { ⌜ (end ≤ length (now image)) × HeldFits (now image) held ⌝ }
+    requires { ⌜ HeldFits (now image) held ⌝ }
     ensures { λ r. ⌜ r ≡ placed (now (image .entry)) (now (body .entry)) rows end held fields ⌝ }
 {
     match held {
@@ -70,24 +68,12 @@ fn place(image: &[u8], body: &[u8], rows: u64, end: usize, held: Held, fields: F
             }
             Choice::Answer(Submission::Duplicate)
         }
-        Held::Missing => {
-            if MOST_ROWS <= rows {
-                return Choice::Answer(Submission::Full);
-            }
-            let left = image.len() - end;
-            if left < ROW_SIZE {
-                return Choice::Answer(Submission::Full);
-            }
-            if left - ROW_SIZE < body.len() {
-                return Choice::Answer(Submission::Full);
-            }
-            Choice::Store {
-                rows,
-                end,
-                id: fields.id,
-                mask: fields.mask,
-            }
-        }
+        Held::Missing => Choice::Store {
+            rows,
+            end,
+            id: fields.id,
+            mask: fields.mask,
+        },
     }
 }
 

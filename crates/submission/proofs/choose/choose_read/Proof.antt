@@ -10,7 +10,7 @@ place-requires : tie.Need-place-requires
 place-requires c κs =
     let x = c .before .before .before .before in
     let s = x .before .before .before .before in
-    subst (SurveyFits (s .args .image .now)) (x .found .given .1) (s .pre)
+    subst (SurveyFits (s .args .image .now)) (x .found .given .1) (s .pre) .1
 
 returns : tie.Need-returns
 returns c =

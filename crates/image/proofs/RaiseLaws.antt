@@ -1,4 +1,4 @@
--- What the writes of one row leave (specs/Stages.antt): an offset raised, all offsets raised, a row written in pieces, the row count
+-- What the writes of one row leave (specs/Grow.antt): an offset raised, all offsets raised, a row written in pieces, the row count
 -- written. Assumes nothing.
 use mathlib.Core.Path.{_≡_, refl, sym, ap, _∙_, subst}
 use mathlib.Core.List.{List, [], _∷_, _++_, append-assoc}
@@ -13,13 +13,11 @@ use Rattle.octets.specs.Write.{over, putAt}
 use Rattle.octets.proofs.OverLaws.{over-has, over-append, Kept, kept-over, kept-has, kept-join, kept-self, put-fits}
 use Rattle.descriptor.specs.declared.Fields.{Fields}
 use Rattle.descriptor.specs.declared.Reading.the-variants.{Read}
-use Rattle.image.specs.Layout.{imageEdition, modeEdition, rowSize, rowPlace, idSize, offsetPlace, lengthPlace, maskPlace, zeroPlace}
-use Rattle.image.specs.Image.{reading, idOf, modesOf, header, row, rowsOf, joined}
 use Rattle.octets.proofs.ListLaws.{has-after, has-both}
-use Rattle.image.specs.Laws.{RowParts}
-use Rattle.image.proofs.Promises.{layout-fixed}
-use Rattle.image.proofs.Laws.{read-named, lengths, row-exactly}
-use Rattle.submission.specs.Stages.{raised, withRow}
+use Rattle.image.specs.Layout.{imageEdition, modeEdition, rowSize, rowPlace, idSize, offsetPlace, lengthPlace, maskPlace, zeroPlace}
+use Rattle.image.specs.Image.{reading, idOf, modesOf, header, row, rowsOf, joined}
+use Rattle.image.specs.Grow.{raised, withRow}
+use Rattle.image.proofs.RowLaws.{id-read, modes-read, id-length, row-length, RowParts, row-parts, parts-row}
 
 -- ---- offsets
 
@@ -32,8 +30,8 @@ pub row-raised : (d : List ℕ) (r at : ℕ) (b : List ℕ) → at < 4294967296 
     → Has (putAt d (r + offsetPlace) (bigEndian 4 (numberIn d (r + offsetPlace) 4 + rowSize))) r (row (at + rowSize) b)
     × Kept d (putAt d (r + offsetPlace) (bigEndian 4 (numberIn d (r + offsetPlace) 4 + rowSize))) r (r + rowSize)
 row-raised d r at b small h =
-    let p : RowParts d r at b = row-exactly d r at b .0 h in
-    let l : length (row at b) ≡ rowSize = lengths .of-row at b in
+    let p : RowParts d r at b = row-parts d r at b h in
+    let l : length (row at b) ≡ rowSize = row-length at b in
     let i : r + rowSize ≤ length d = omega (arith, has-fits d r (row at b) (omega arith) h) in
     let v : numberIn d (r + offsetPlace) 4 ≡ at = number-in d (r + offsetPlace) 4 (omega arith) (omega arith) ∙ number-of-has d (r + offsetPlace) 4 at small (omega arith) (p .offset) in
     let new : List ℕ = bigEndian 4 (at + rowSize) in
@@ -42,7 +40,7 @@ row-raised d r at b small h =
     let d′ : List ℕ = over d (r + offsetPlace) new in
     let k : Kept d d′ (r + offsetPlace) ((r + offsetPlace) + length new) = kept-over d (r + offsetPlace) new fit in
     let q : RowParts d′ r (at + rowSize) b = record {
-      id = k .before r (idOf b) (omega (arith, layout-fixed .1 b)) (p .id);
+      id = k .before r (idOf b) (omega (arith, id-length b)) (p .id);
       offset = over-has d (r + offsetPlace) new fit;
       size = kept-has d d′ _ _ (r + lengthPlace) _ k (omega arith) (p .size);
       mask = kept-has d d′ _ _ (r + maskPlace) _ k (omega arith) (p .mask);
@@ -51,7 +49,7 @@ row-raised d r at b small h =
     let e : putAt d (r + offsetPlace) (bigEndian 4 (numberIn d (r + offsetPlace) 4 + rowSize)) ≡ d′
     = ap (λ (n : ℕ). putAt d (r + offsetPlace) (bigEndian 4 (n + rowSize))) v ∙ put-fits d (r + offsetPlace) new fit in
     subst (λ (x : List ℕ). Has x r (row (at + rowSize) b) × Kept d x r (r + rowSize)) (sym e)
-    (row-exactly d′ r (at + rowSize) b .1 q, kept-wide d d′ (r + offsetPlace) ((r + offsetPlace) + length new) r (r + rowSize) k (omega arith) (omega arith))
+    (parts-row d′ r (at + rowSize) b q, kept-wide d d′ (r + offsetPlace) ((r + offsetPlace) + length new) r (r + rowSize) k (omega arith) (omega arith))
 
 -- The offsets of all rows raised: the rows of the bodies that lie so much higher, and no other byte is changed.
 pub rows-raised : (d : List ℕ) (i at : ℕ) (bs : List (List ℕ)) → at + length (joined bs) < 4294967296 → Has d (rowPlace i) (rowsOf at bs)
@@ -67,13 +65,13 @@ rows-raised d i at (b ∷ bs) small h =
     let short : at + (length b + length (joined bs)) < 4294967296 = omega (arith, length-append b (joined bs)) in
     let d′ : List ℕ = putAt d (r + offsetPlace) (bigEndian 4 (numberIn d (r + offsetPlace) 4 + rowSize)) in
     let x = row-raised d r at b (omega arith) (has-left d r (row at b) rest h) in
-    let g : Has d′ next rest = kept-has d d′ r (r + rowSize) next rest (x .1) (omega arith) (has-after d r rowSize next (row at b) rest (lengths .of-row at b) step h) in
+    let g : Has d′ next rest = kept-has d d′ r (r + rowSize) next rest (x .1) (omega arith) (has-after d r rowSize next (row at b) rest (row-length at b) step h) in
     let y = rows-raised d′ (i + 1) (at + length b) bs (omega arith) g in
     let d″ : List ℕ = raised d′ (length bs) (i + 1) in
     let s : (at + length b) + rowSize ≡ (at + rowSize) + length b = omega arith in
-    let first : Has d″ r (row (at + rowSize) b) = y .1 .before r (row (at + rowSize) b) (omega (arith, lengths .of-row (at + rowSize) b)) (x .0) in (
+    let first : Has d″ r (row (at + rowSize) b) = y .1 .before r (row (at + rowSize) b) (omega (arith, row-length (at + rowSize) b)) (x .0) in (
       has-both d″ r rowSize next (row (at + rowSize) b) (rowsOf ((at + rowSize) + length b) bs)
-          (lengths .of-row (at + rowSize) b) step first (subst (λ (n : ℕ). Has d″ next (rowsOf n bs)) s (y .0)),
+          (row-length (at + rowSize) b) step first (subst (λ (n : ℕ). Has d″ next (rowsOf n bs)) s (y .0)),
       kept-join d d′ d″ r (r + rowSize) next (next + rowSize * length bs) r (r + rowSize * suc (length bs)) (x .1) (y .1) (omega arith)
           (omega arith) (omega arith) (omega arith),
     )
@@ -101,7 +99,7 @@ with-row d r at b f e room =
     let n : List ℕ = bigEndian 4 (length b) in
     let m : List ℕ = bigEndian 1 (modesOf b) in
     let z : List ℕ = bigEndian 7 0 in
-    let li : length i ≡ idSize = layout-fixed .1 b in
+    let li : length i ≡ idSize = id-length b in
     let lo : length o ≡ 4 = length-bigEndian 4 at in
     let ln : length n ≡ 4 = length-bigEndian 4 (length b) in
     let lm : length m ≡ 1 = length-bigEndian 1 (modesOf b) in
@@ -109,13 +107,13 @@ with-row d r at b f e room =
     let l₂ : length (i ++ o) ≡ lengthPlace = omega (arith, length-append i o) in
     let l₃ : length ((i ++ o) ++ n) ≡ maskPlace = omega (arith, length-append (i ++ o) n) in
     let l₄ : length (((i ++ o) ++ n) ++ m) ≡ zeroPlace = omega (arith, length-append ((i ++ o) ++ n) m) in
-    let e₁ : putAt d r (part b (f .id) idSize) ≡ over d r i = ap (putAt d r) (sym (read-named b f e .0)) ∙ put-fits d r i (omega arith) in
+    let e₁ : putAt d r (part b (f .id) idSize) ≡ over d r i = ap (putAt d r) (sym (id-read b f e)) ∙ put-fits d r i (omega arith) in
     let e₂ : putAt (over d r i) (r + offsetPlace) o ≡ over d r (i ++ o) = put-next d r i o (r + offsetPlace) (omega arith) (omega arith) in
     let e₃ : putAt (over d r (i ++ o)) (r + lengthPlace) n ≡ over d r ((i ++ o) ++ n) = put-next d r (i ++ o) n (r + lengthPlace) (omega arith) (omega arith) in
     let e₄ : putAt (over d r ((i ++ o) ++ n)) (r + maskPlace) m ≡ over d r (((i ++ o) ++ n) ++ m) = put-next d r ((i ++ o) ++ n) m (r + maskPlace) (omega arith) (omega arith) in
     let e₅ : putAt (over d r (((i ++ o) ++ n) ++ m)) (r + zeroPlace) z ≡ over d r ((((i ++ o) ++ n) ++ m) ++ z)
     = put-next d r (((i ++ o) ++ n) ++ m) z (r + zeroPlace) (omega arith) (omega arith) in
-    rw (e₁, e₂, e₃, ← read-named b f e .1, e₄, e₅) (ap (over d r) (five i o n m z))
+    rw (e₁, e₂, e₃, ← modes-read b f e, e₄, e₅) (ap (over d r) (five i o n m z))
 
 -- ---- the row count
 

@@ -1,8 +1,8 @@
 -- `grow` meets its contract. Assumes nothing.
-use Rattle.submission.proofs.CodeLaws.{grow-done}
+use Rattle.image.proofs.GrowCode.{grow-done}
 use borrow.Author.Needs.{needs}
-use Rattle.submission.proofs.grow.grow.Statement.{statement}
-use Rattle.submission.proofs.grow.grow.Tie as tie
+use Rattle.image.proofs.grow.grow.Statement.{statement}
+use Rattle.image.proofs.grow.grow.Tie as tie
 
 returns : tie.Need-returns
 returns c =

@@ -1,23 +1,32 @@
--- The writes of a submission, in the code's order, come to the image with one body more (specs/Stages.antt). Assumes nothing.
-use mathlib.Core.Path.{_≡_, ap, _∙_}
+-- The writes of one body more, in the code's order, come to the image with one body more (specs/Grow.antt). Assumes nothing.
+use mathlib.Core.Path.{_≡_, refl, ap, _∙_}
+use mathlib.Core.Bool.{Bool, true, false, cond, _&&_, and-true}
 use mathlib.Core.List.{List, [], _∷_, _++_}
-use Prim.Native.Nat.{ℕ, _+_, _-_, _*_, _≤_}
+use Prim.Native.Nat.{ℕ, _+_, _-_, _*_, _≤_, _<_}
 use native.Mathlib.Omega.{arith}
 use lib.ListN.{length, drop}
+use lib.Dec.{leb, ltb}
+use borrow.Author.Tests.{ltb-true, leb-true, le-leb}
 use Rattle.octets.specs.Bytes.{part, Has}
 use Rattle.octets.specs.Number.{bigEndian}
 use Rattle.octets.proofs.BytesLaws.{has-part}
 use Rattle.octets.proofs.NumberLaws.{length-bigEndian}
 use Rattle.octets.specs.Write.{over, putAt, moved, movedUp}
+use Rattle.octets.proofs.Tests.{and-left, and-right}
+use Rattle.octets.proofs.ListLaws.{true-same, other-same}
 use Rattle.octets.proofs.OverLaws.{over-has, has-front, Kept, kept-over, kept-has, put-fits, moved-fits}
 use Rattle.descriptor.specs.declared.Fields.{Fields}
 use Rattle.descriptor.specs.declared.Reading.the-variants.{Read}
-use Rattle.image.specs.Layout.{rowPlace, rowSize, headerSize, mostRows, countPlace}
-use Rattle.image.specs.Image.{reading, header, row, rowsOf, joined, imageOf, Holds}
-use Rattle.image.specs.Laws.{ImageParts}
-use Rattle.image.proofs.Laws.{lengths, image-stands, one-more}
-use Rattle.submission.specs.Stages.{raised, withRow, grown}
-use Rattle.submission.proofs.RaiseLaws.{rows-raised, with-row, header-counted}
+use Rattle.image.specs.Layout.{rowPlace, rowSize, headerSize, idSize, mostRows, countPlace}
+use Rattle.image.specs.Image.{reading, idOf, header, row, rowsOf, joined, imageOf, Holds}
+use Rattle.image.specs.Grow.{raised, withRow, grown, fits, addedOf, afterAdd, hasRoom, withBody}
+use Rattle.image.specs.Laws.{BodyAdded, OneMore}
+use Rattle.image.proofs.BodyLaws.{read-in}
+use Rattle.image.proofs.RowLaws.{header-length, row-length, rows-length, image-length}
+use Rattle.image.proofs.ListLaws.{joined-short, with-new, with-other}
+use Rattle.image.proofs.SoundLaws.{ImageParts, image-stands}
+use Rattle.image.proofs.MoreLaws.{length-more, pieces, bodies-more}
+use Rattle.image.proofs.RaiseLaws.{rows-raised, with-row, header-counted}
 
 -- What is written, from what each write leaves.
 writes : (d : List ℕ) (n end : ℕ) (b : List ℕ) (id mask : ℕ) (d₁ d₃ d₄ d₅ : List ℕ) → movedUp d (rowPlace n) end rowSize ≡ d₁
@@ -40,13 +49,13 @@ grown-image d bs b f h e room =
     let r : List ℕ = row (end + rowSize) b in
     let count : List ℕ = bigEndian 2 (n + 1) in
     let w : ImageParts d bs = image-stands d bs h in
-    let il : end ≡ start + length (joined bs) = lengths .of-image bs in
-    let rl : length r ≡ rowSize = lengths .of-row (end + rowSize) b in
+    let il : end ≡ start + length (joined bs) = image-length bs in
+    let rl : length r ≡ rowSize = row-length (end + rowSize) b in
     let few : n ≤ mostRows = h .bodies .few in
-    let short : length (joined bs) ≤ 32768 * n = lengths .of-bodies bs (h .bodies) in
-    let low : length (rowsOf start bs) ≡ rowSize * n = lengths .of-rows start bs in
-    let up : length (rowsOf (start + rowSize) bs) ≡ rowSize * n = lengths .of-rows (start + rowSize) bs in
-    let hl : length (header n) ≡ headerSize = lengths .of-header n in
+    let short : length (joined bs) ≤ 32768 * n = joined-short [] bs (h .bodies .each) in
+    let low : length (rowsOf start bs) ≡ rowSize * n = rows-length start bs in
+    let up : length (rowsOf (start + rowSize) bs) ≡ rowSize * n = rows-length (start + rowSize) bs in
+    let hl : length (header n) ≡ headerSize = header-length n in
     -- the bodies, moved
     let sub : end - start ≡ length (joined bs) = omega arith in
     let js : part d start (end - start) ≡ joined bs = ap (part d start) sub ∙ has-part d start (joined bs) (w .has-bodies) in
@@ -90,17 +99,65 @@ grown-image d bs b f h e room =
     let e₅ : putAt d₄ countPlace count ≡ d₅ = put-fits d₄ countPlace count f₅ in
     let k₅ : Kept d₄ d₅ countPlace (countPlace + length count) = kept-over d₄ countPlace count f₅ in
     let has : Has d₅ 0 (imageOf (bs ++ (b ∷ []))) =
-    one-more .stands d₅ bs b
+    pieces d₅ bs b
     (header-counted d₄ n (n + 1) head₄)
     (kept-has d₄ d₅ countPlace (countPlace + length count) headerSize _ k₅ (omega arith) rows₄)
     (kept-has d₄ d₅ countPlace (countPlace + length count) start r k₅ (omega arith) row₄)
     (kept-has d₄ d₅ countPlace (countPlace + length count) (start + rowSize) (joined bs) k₅ (omega arith) bod₄)
     (kept-has d₄ d₅ countPlace (countPlace + length count) (end + rowSize) b k₅ (omega arith) new₄) in
     let m : ℕ = length (imageOf (bs ++ (b ∷ []))) in
-    let ml : m ≡ end + rowSize + length b = one-more .of-image bs b in
+    let ml : m ≡ end + rowSize + length b = length-more bs b in
     let rest : drop m d₅ ≡ drop m d
     = k₅ .after m (omega arith) ∙ k₄ .after m (omega arith) ∙ k₃ .after m (omega arith) ∙ k₂ .after m (omega arith)
     ∙ k₁ .after m (omega arith) in
     writes d n end b (f .id) (f .mask) d₁ d₃ d₄ d₅ e₁ e₃ e₄ e₅
     ∙ has-front d₅ (imageOf (bs ++ (b ∷ []))) has
     ∙ ap (λ (x : List ℕ). imageOf (bs ++ (b ∷ [])) ++ x) rest
+
+-- ---- over a buffer that holds bodies
+
+-- Where there is room fewer than 64 bodies are held, and the larger image does not exceed the buffer.
+room-says : (d : List ℕ) (bs : List (List ℕ)) (b : List ℕ) → hasRoom d bs b ≡ true
+    → (length bs < mostRows) × (length (imageOf bs) + rowSize + length b ≤ length d)
+unfolding hasRoom
+room-says d bs b e =
+    let larger : ℕ = length (imageOf (bs ++ (b ∷ []))) in (
+      ltb-true (length bs) mostRows (and-left (ltb (length bs) mostRows) (leb larger (length d)) e),
+      omega (arith, length-more bs b, leb-true larger (length d) (and-right (ltb (length bs) mostRows) (leb larger (length d)) e)),
+    )
+
+-- A body that reads fits where there is room for it.
+fits-room : (d : List ℕ) (bs : List (List ℕ)) (b : List ℕ) (f : Fields) → reading b ≡ Read f
+    → fits d (length bs) (length (imageOf bs)) b (f .id) ≡ hasRoom d bs b
+unfolding fits hasRoom
+fits-room d bs b f e =
+    rw (
+      le-leb (rowPlace (length bs)) (length (imageOf bs)) (omega (arith, image-length bs)),
+      le-leb (f .id + idSize) (length b) (read-in b f e .id),
+      length-more bs b,
+    )
+    (ap (λ (t : Bool). ltb (length bs) mostRows && t) (and-true (leb (length (imageOf bs) + rowSize + length b) (length d))))
+
+-- `BodyAdded`.
+pub body-added : BodyAdded
+unfolding addedOf afterAdd withBody
+body-added d bs b f h e =
+    let t : fits d (length bs) (length (imageOf bs)) b (f .id) ≡ hasRoom d bs b = fits-room d bs b f e in
+    (rw t, rw t (go (hasRoom d bs b) refl))
+  where
+    go : (t : Bool) → hasRoom d bs b ≡ t → cond t (grown d (length bs) (length (imageOf bs)) b (f .id) (f .mask)) d ≡ cond t (withBody d bs b) d
+    go true u = grown-image d bs b f h e (room-says d bs b u .1)
+    go false u = refl
+
+-- `OneMore`.
+pub one-more : OneMore
+unfolding withBody
+one-more = record {
+  holds = λ d bs b h room reads new. record {
+    bodies = bodies-more bs b (h .bodies) (room-says d bs b room .0) reads new;
+    rest = drop (length (imageOf (bs ++ (b ∷ [])))) d;
+    whole = refl;
+  };
+  mine = λ bs b e. with-new (idOf b) bs b e (true-same (idOf b) (idOf b) refl);
+  others = λ id bs b o. with-other id bs b (other-same (idOf b) id o);
+}

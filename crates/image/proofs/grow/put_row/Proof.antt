@@ -1,8 +1,8 @@
 -- `put_row` meets its contract. Assumes nothing.
-use Rattle.submission.proofs.CodeLaws.{row-done}
+use Rattle.image.proofs.GrowCode.{row-done}
 use borrow.Author.Needs.{needs}
-use Rattle.submission.proofs.grow.put_row.Statement.{statement}
-use Rattle.submission.proofs.grow.put_row.Tie as tie
+use Rattle.image.proofs.grow.put_row.Statement.{statement}
+use Rattle.image.proofs.grow.put_row.Tie as tie
 
 returns : tie.Need-returns
 returns c =

@@ -4,11 +4,11 @@ use Prim.Native.Nat.{_-_, _≤_}
 use native.Mathlib.Omega.{arith}
 use lib.ListN.{length}
 use Rattle.octets.proofs.OverLaws.{put-length}
-use Rattle.submission.specs.Stages.{raised}
-use Rattle.submission.proofs.CodeLaws.{raise-begin, raise-next, raise-end}
+use Rattle.image.specs.Grow.{raised}
+use Rattle.image.proofs.GrowCode.{raise-begin, raise-next, raise-end}
 use borrow.Author.Needs.{needs}
-use Rattle.submission.proofs.grow.raise.Statement.{statement}
-use Rattle.submission.proofs.grow.raise.Tie as tie
+use Rattle.image.proofs.grow.raise.Statement.{statement}
+use Rattle.image.proofs.grow.raise.Tie as tie
 
 abbrev Inv-loop : tie.InvT-loop
 Inv-loop d₀ n i₀ d i = (i ≤ n) × (length d ≡ length d₀) × (raised d₀ n 0 ≡ raised d (n - i) i)

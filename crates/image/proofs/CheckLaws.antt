@@ -11,7 +11,7 @@ use borrow.Author.Tests.{eqb-true, eq-eqb, le-leb}
 use Rattle.octets.specs.Bytes.{AreBytes, part, Has, same}
 use Rattle.octets.specs.Number.{numberAt}
 use Rattle.exact.specs.Reads.{got, guard}
-use Rattle.octets.proofs.Tests.{and-left, and-right}
+use Rattle.octets.proofs.Tests.{and-left, and-right, or-true}
 use Rattle.octets.proofs.BytesLaws.{has-part, part-has, has-fits}
 use Rattle.descriptor.specs.declared.Fields.{Fields}
 use Rattle.descriptor.specs.declared.Reading.the-variants.{Read}
@@ -22,7 +22,8 @@ use Rattle.image.specs.Laws.{BodyIn}
 use Rattle.image.proofs.BodyLaws.{read-in}
 use Rattle.image.proofs.StepLaws.{RowOk, row-is, among-suc, hit-suc}
 use Rattle.image.proofs.RowLaws.{id-read, modes-read, RowSays, row-says, says-row}
-use Rattle.octets.proofs.ListLaws.{part-part, same-true, true-same, or-true}
+use Rattle.octets.proofs.SameLaws.{same-equal, equal-same}
+use Rattle.octets.proofs.PartLaws.{part-part}
 use Rattle.image.proofs.ListLaws.{has-snoc}
 
 -- ---- the bodies before
@@ -70,7 +71,7 @@ fits-says s r at f e =
     let e₁ = and-right a (b && (c && d)) e in
     let e₂ = and-right b (c && d) e₁ in
     record {
-      id = same-true (rowId s r) (part s (at + f .id) idSize) (and-left a (b && (c && d)) e);
+      id = same-equal (rowId s r) (part s (at + f .id) idSize) (and-left a (b && (c && d)) e);
       offset = eqb-true (rowOffset s r) at (and-left b (c && d) e₁);
       mask = eqb-true (numberAt s (r + maskPlace) 1) (f .mask) (and-left c d e₂);
       zeros = eqb-true (numberAt s (r + zeroPlace) 7) 0 (and-right c d e₂);
@@ -81,7 +82,7 @@ says-fits : (s : List ℕ) (r at : ℕ) (f : Fields) → Fits s r at f → rowFi
 unfolding rowFits
 says-fits s r at f q =
     rw (
-      true-same (rowId s r) (part s (at + f .id) idSize) (q .id),
+      equal-same (rowId s r) (part s (at + f .id) idSize) (q .id),
       eq-eqb (rowOffset s r) at (q .offset),
       eq-eqb (numberAt s (r + maskPlace) 1) (f .mask) (q .mask),
       eq-eqb (numberAt s (r + zeroPlace) 7) 0 (q .zeros),

@@ -18,7 +18,7 @@ use Rattle.exact.proofs.ReadsLaws.{guard-yes, guard-no, guard-leb, passed, fail
 use Rattle.octets.specs.Write.{over, putAt}
 use Rattle.octets.proofs.NumberLaws.{number-in}
 use Rattle.octets.proofs.OverLaws.{put-fits}
-use Rattle.octets.proofs.ListLaws.{lent-part}
+use Rattle.octets.proofs.PartLaws.{lent-part}
 use Rattle.descriptor.specs.declared.Fields.{Fields}
 use Rattle.descriptor.specs.declared.Reading.{Reading}
 use Rattle.descriptor.specs.declared.Reading.the-variants.{Read, Structure, Validity}

@@ -11,7 +11,7 @@ use borrow.Author.Tests.{lt-ltb, le-ltb, le-leb, lt-leb, ltb-true, leb-true, not
 use Rattle.octets.specs.Number.{bigEndian, numberIn}
 use Rattle.octets.specs.Write.{putAt, movedUp}
 use Rattle.octets.proofs.Tests.{and-left, and-right}
-use Rattle.octets.proofs.ListLaws.{lent-part}
+use Rattle.octets.proofs.PartLaws.{lent-part}
 use Rattle.image.specs.declared.Added.{Added}
 use Rattle.image.specs.declared.Added.the-variants.{Done, Full}
 use Rattle.image.specs.Layout.{rowSize, idSize, mostRows, countPlace, offsetPlace, lengthPlace, maskPlace, zeroPlace, rowPlace}

@@ -13,7 +13,7 @@ use Rattle.octets.proofs.BytesLaws.{has-part}
 use Rattle.octets.proofs.NumberLaws.{length-bigEndian}
 use Rattle.octets.specs.Write.{over, putAt, moved, movedUp}
 use Rattle.octets.proofs.Tests.{and-left, and-right}
-use Rattle.octets.proofs.ListLaws.{true-same, other-same}
+use Rattle.octets.proofs.SameLaws.{equal-same, not-same}
 use Rattle.octets.proofs.OverLaws.{over-has, has-front, Kept, kept-over, kept-has, put-fits, moved-fits}
 use Rattle.descriptor.specs.declared.Fields.{Fields}
 use Rattle.descriptor.specs.declared.Reading.the-variants.{Read}
@@ -158,6 +158,6 @@ one-more = record {
     rest = drop (length (imageOf (bs ++ (b ∷ [])))) d;
     whole = refl;
   };
-  mine = λ bs b e. with-new (idOf b) bs b e (true-same (idOf b) (idOf b) refl);
-  others = λ id bs b o. with-other id bs b (other-same (idOf b) id o);
+  mine = λ bs b e. with-new (idOf b) bs b e (equal-same (idOf b) (idOf b) refl);
+  others = λ id bs b o. with-other id bs b (not-same (idOf b) id o);
 }

@@ -18,7 +18,7 @@ use Rattle.image.specs.Image.{reading, idOf, joined, hasId, BodyOk, seen
 use Rattle.image.specs.Check.{noted}
 use Rattle.image.specs.Laws.{HeldBody, HeldIs}
 use Rattle.image.proofs.BodyLaws.{read-in}
-use Rattle.octets.proofs.ListLaws.{or-true, or-no-left, or-no-right}
+use Rattle.octets.proofs.Tests.{or-true, or-no-left, or-no-right}
 use Rattle.image.proofs.ListLaws.{read-is, has-snoc, rest-new, with-first, with-rest}
 
 -- ---- what is held

@@ -11,7 +11,8 @@ use Rattle.exact.specs.Reads.{AllFrom}
 use Rattle.image.specs.Image.{idOf, modesOf, header, row, rowsOf, joined, imageOf, hasId, BodyOk, seenWith, bodyWith}
 use Rattle.image.specs.Promises.{four, LayoutFixed, answerOf, Every, IdsDiffer, HoldsExactly, BodyOfId}
 use Rattle.image.proofs.RowLaws.{id-length, modes-small}
-use Rattle.octets.proofs.ListLaws.{true-same, or-no-left, or-no-right, or-true, other-same}
+use Rattle.octets.proofs.Tests.{or-no-left, or-no-right, or-true}
+use Rattle.octets.proofs.SameLaws.{equal-same, not-same}
 use Rattle.image.proofs.ListLaws.{rest-new, has-snoc, with-first, with-rest}
 use Rattle.image.proofs.ReadLaws.{read-zero, zero-read}
 
@@ -56,7 +57,7 @@ has-none : (id : List ℕ) (bs : List (List ℕ)) → hasId id bs ≡ false → 
 unfolding hasId
 has-none id [] e = tt
 has-none id (b ∷ bs) e = (
-  λ q. false≢true (sym (or-no-left (same (idOf b) id) (hasId id bs) e) ∙ true-same (idOf b) id q),
+  λ q. false≢true (sym (or-no-left (same (idOf b) id) (hasId id bs) e) ∙ equal-same (idOf b) id q),
   has-none id bs (or-no-right (same (idOf b) id) (hasId id bs) e),
 )
 
@@ -69,7 +70,7 @@ all-read seen (b ∷ bs) a = (read-zero b (a .0 .reads), all-read (seen ++ (b �
 all-differ : (seen bs : List (List ℕ)) → AllFrom BodyOk seenWith seen bs → IdsDiffer bs
 all-differ seen [] a = tt
 all-differ seen (b ∷ bs) a =
-    let m : hasId (idOf b) (seen ++ (b ∷ [])) ≡ true = has-snoc (idOf b) seen b ∙ rw (true-same (idOf b) (idOf b) refl) (or-true (hasId (idOf b) seen)) in
+    let m : hasId (idOf b) (seen ++ (b ∷ [])) ≡ true = has-snoc (idOf b) seen b ∙ rw (equal-same (idOf b) (idOf b) refl) (or-true (hasId (idOf b) seen)) in
     (has-none (idOf b) bs (rest-new (idOf b) (seen ++ (b ∷ [])) bs (a .1) m), all-differ (seen ++ (b ∷ [])) bs (a .1))
 
 -- Bodies whose ids are new stay so after a body with another id.
@@ -78,7 +79,7 @@ still-new : (seen : List (List ℕ)) (b : List ℕ) (bs : List (List ℕ)) → E
     → Every (λ c. hasId (idOf c) (seen ++ (b ∷ [])) ≡ false) bs
 still-new seen b [] n o = tt
 still-new seen b (c ∷ bs) n o = (
-  has-snoc (idOf c) seen b ∙ rw (n .0, other-same (idOf b) (idOf c) (λ e. o .0 (sym e))),
+  has-snoc (idOf c) seen b ∙ rw (n .0, not-same (idOf b) (idOf c) (λ e. o .0 (sym e))),
   still-new seen b bs (n .1) (o .1),
 )
 
@@ -107,6 +108,6 @@ pub body-of-id : BodyOfId
 unfolding bodyWith
 body-of-id id = (
   refl,
-  λ b bs e. with-first id b bs (true-same (idOf b) id e) .0,
-  λ b bs n. with-rest id b bs (other-same (idOf b) id n) .0,
+  λ b bs e. with-first id b bs (equal-same (idOf b) id e) .0,
+  λ b bs n. with-rest id b bs (not-same (idOf b) id n) .0,
 )

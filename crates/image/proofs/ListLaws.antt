@@ -8,7 +8,9 @@ use native.Mathlib.Omega.{arith}
 use lib.ListN.{length, length-append}
 use Rattle.octets.specs.Bytes.{same}
 use Rattle.exact.specs.Reads.{AllFrom}
-use Rattle.octets.proofs.ListLaws.{or-assoc, none-some, same-true}
+use Rattle.octets.proofs.SameLaws.{same-equal}
+use Rattle.octets.proofs.OptionLaws.{none-some}
+use Rattle.octets.proofs.Tests.{or-assoc}
 use Rattle.descriptor.specs.declared.Fields.{Fields}
 use Rattle.descriptor.specs.declared.Reading.{Reading}
 use Rattle.descriptor.specs.declared.Reading.the-variants.{Read, Structure, Validity}
@@ -56,7 +58,7 @@ rest-new id seen (b ∷ bs) a h =
     go (same (idOf b) id) refl (rest-new id (seen ++ (b ∷ [])) bs (a .1) more)
   where
     go : (t : Bool) → same (idOf b) id ≡ t → hasId id bs ≡ false → (t || hasId id bs) ≡ false
-    go true e r = absurd (false≢true (sym (a .0 .new) ∙ ap (λ (x : List ℕ). hasId x seen) (same-true (idOf b) id e) ∙ h))
+    go true e r = absurd (false≢true (sym (a .0 .new) ∙ ap (λ (x : List ℕ). hasId x seen) (same-equal (idOf b) id e) ∙ h))
     go false e r = r
 
 -- Bodies and one more that is allowed after them are allowed.

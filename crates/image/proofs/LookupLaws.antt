@@ -12,7 +12,7 @@ use Rattle.octets.specs.Bytes.{AreBytes, part}
 use Rattle.octets.specs.Span.{spanOf}
 use Rattle.octets.proofs.SpanLaws.{inside-fits}
 use Rattle.octets.proofs.BytesLaws.{part-has}
-use Rattle.octets.proofs.ListLaws.{some-same, none-some}
+use Rattle.octets.proofs.OptionLaws.{some-same, none-some}
 use Rattle.image.specs.declared.Held.{Held}
 use Rattle.image.specs.declared.Held.the-variants.{Missing, Body}
 use Rattle.image.specs.declared.Survey.{Survey}

@@ -7,7 +7,9 @@ use Prim.Native.Nat.{ℕ, _+_, _*_, _<_}
 use native.Mathlib.Omega.{arith}
 use lib.ListN.{length, length-append}
 use Rattle.octets.specs.Bytes.{Has, same}
-use Rattle.octets.proofs.ListLaws.{none-some, true-same, other-same, has-both}
+use Rattle.octets.proofs.BytesLaws.{has-both}
+use Rattle.octets.proofs.SameLaws.{equal-same, not-same}
+use Rattle.octets.proofs.OptionLaws.{none-some}
 use Rattle.image.specs.Layout.{headerSize, rowSize, mostRows, rowPlace}
 use Rattle.image.specs.Image.{reading, isRead, idOf, header, row, rowsOf, joined, imageOf, hasId, BodiesOk, bodyWith}
 use Rattle.image.specs.Laws.{OneMore}

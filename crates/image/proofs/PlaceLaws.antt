@@ -7,7 +7,9 @@ use Prim.Native.Nat.{ℕ, zero, suc, _<_}
 use native.Mathlib.Omega.{arith}
 use lib.ListN.{length, getD}
 use Rattle.octets.specs.Bytes.{same}
-use Rattle.octets.proofs.ListLaws.{or-true, some-same, none-some, same-true, true-same}
+use Rattle.octets.proofs.SameLaws.{same-equal, equal-same}
+use Rattle.octets.proofs.OptionLaws.{some-same, none-some}
+use Rattle.octets.proofs.Tests.{or-true}
 use Rattle.exact.specs.Reads.{AllFrom}
 use Rattle.image.specs.Image.{idOf, hasId, BodyOk, seenWith, bodyWith}
 use Rattle.image.specs.Laws.{BodyWithExactly}
@@ -17,7 +19,7 @@ use Rattle.image.proofs.ListLaws.{has-snoc, rest-new, with-first, with-
 has-place : (bs : List (List ℕ)) (i : ℕ) (b : List ℕ) → i < length bs → getD bs i [] ≡ b → hasId (idOf b) bs ≡ true
 unfolding hasId
 has-place [] i b h e = absurd (omega arith)
-has-place (x ∷ bs) zero b h e = ap (λ (t : Bool). t || hasId (idOf b) bs) (true-same (idOf x) (idOf b) (ap idOf e))
+has-place (x ∷ bs) zero b h e = ap (λ (t : Bool). t || hasId (idOf b) bs) (equal-same (idOf x) (idOf b) (ap idOf e))
 has-place (x ∷ bs) (suc i) b h e = ap (λ (t : Bool). same (idOf x) (idOf b) || t) (has-place bs i b (omega arith) e)
     ∙ or-true (same (idOf x) (idOf b))
 
@@ -25,7 +27,7 @@ has-place (x ∷ bs) (suc i) b h e = ap (λ (t : Bool). same (idOf x) (idOf b) |
 place-with : (seen bs : List (List ℕ)) (i : ℕ) (b : List ℕ) → AllFrom BodyOk seenWith seen bs → i < length bs → getD bs i [] ≡ b
     → bodyWith (idOf b) bs ≡ some b
 place-with seen [] i b a h e = absurd (omega arith)
-place-with seen (x ∷ bs) zero b a h e = with-first (idOf b) x bs (true-same (idOf x) (idOf b) (ap idOf e)) .0 ∙ ap some e
+place-with seen (x ∷ bs) zero b a h e = with-first (idOf b) x bs (equal-same (idOf x) (idOf b) (ap idOf e)) .0 ∙ ap some e
 place-with seen (x ∷ bs) (suc i) b a h e = go (same (idOf x) (idOf b)) refl (place-with (seen ++ (x ∷ [])) bs i b (a .1) (omega arith) e)
   where
     go : (t : Bool) → same (idOf x) (idOf b) ≡ t → bodyWith (idOf b) bs ≡ some b → bodyWith (idOf b) (x ∷ bs) ≡ some b
@@ -45,7 +47,7 @@ with-place id (x ∷ bs) b e = go (same (idOf x) id) refl e (with-place id bs b)
     go : (t : Bool) → same (idOf x) id ≡ t → elim t as (λ t. Option (List ℕ)) [ true ↦ some x | false ↦ bodyWith id bs ] ≡ some b
         → (bodyWith id bs ≡ some b → (idOf b ≡ id) × ((i : ℕ) × (i < length bs) × (getD bs i [] ≡ b)))
         → (idOf b ≡ id) × ((i : ℕ) × (i < length (x ∷ bs)) × (getD (x ∷ bs) i [] ≡ b))
-    go true t f k = let y = some-same x b f in (ap idOf (sym y) ∙ same-true (idOf x) id t, (0, omega arith, y))
+    go true t f k = let y = some-same x b f in (ap idOf (sym y) ∙ same-equal (idOf x) id t, (0, omega arith, y))
     go false t f k = let w = k f in (w .0, (suc (w .1 .0), omega (arith, w .1 .1), w .1 .2))
 
 -- `BodyWithExactly`.

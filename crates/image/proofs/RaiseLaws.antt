@@ -7,13 +7,12 @@ use native.Mathlib.Omega.{arith}
 use lib.ListN.{length, length-append}
 use Rattle.octets.specs.Bytes.{part, Has}
 use Rattle.octets.specs.Number.{bigEndian, numberIn}
-use Rattle.octets.proofs.BytesLaws.{has-left, has-fits}
+use Rattle.octets.proofs.BytesLaws.{has-left, has-fits, has-after, has-both}
 use Rattle.octets.proofs.NumberLaws.{length-bigEndian, number-in, number-of-has}
 use Rattle.octets.specs.Write.{over, putAt}
 use Rattle.octets.proofs.OverLaws.{over-has, over-append, Kept, kept-over, kept-has, kept-join, kept-self, put-fits}
 use Rattle.descriptor.specs.declared.Fields.{Fields}
 use Rattle.descriptor.specs.declared.Reading.the-variants.{Read}
-use Rattle.octets.proofs.ListLaws.{has-after, has-both}
 use Rattle.image.specs.Layout.{imageEdition, modeEdition, rowSize, rowPlace, idSize, offsetPlace, lengthPlace, maskPlace, zeroPlace}
 use Rattle.image.specs.Image.{reading, idOf, modesOf, header, row, rowsOf, joined}
 use Rattle.image.specs.Grow.{raised, withRow}

@@ -7,9 +7,8 @@ use native.Mathlib.Nat.{add-zero}
 use lib.ListN.{length, length-append}
 use Rattle.octets.specs.Bytes.{AreBytes, part, Has}
 use Rattle.octets.specs.Number.{bigEndian, numberAt}
-use Rattle.octets.proofs.BytesLaws.{part-has, has-left, has-part, has-fits}
+use Rattle.octets.proofs.BytesLaws.{part-has, has-left, has-part, has-fits, has-after, has-both}
 use Rattle.octets.proofs.NumberLaws.{length-bigEndian, number-of-has, has-of-number}
-use Rattle.octets.proofs.ListLaws.{has-after, has-both}
 use Rattle.descriptor.specs.declared.Fields.{Fields}
 use Rattle.descriptor.specs.declared.Reading.{Reading}
 use Rattle.descriptor.specs.declared.Reading.the-variants.{Read, Structure, Validity}

@@ -7,7 +7,7 @@ use native.Mathlib.Nat.{add-zero}
 use lib.ListN.{length, length-append}
 use Rattle.octets.specs.Bytes.{AreBytes, part, Has, same}
 use Rattle.exact.specs.Reads.{Got, got, refused, bind, AllFrom}
-use Rattle.octets.proofs.BytesLaws.{has-left, has-right, has-join, has-nil, has-part}
+use Rattle.octets.proofs.BytesLaws.{has-left, has-right, has-join, has-nil, has-part, has-after, has-both}
 use Rattle.exact.proofs.ReadsLaws.{bind-got}
 use Rattle.descriptor.specs.declared.Fields.{Fields}
 use Rattle.image.specs.declared.Held.{Held}
@@ -16,7 +16,6 @@ use Rattle.image.specs.Image.{reading, idOf, row, rowsOf, joined, BodyOk
 use Rattle.image.specs.Check.{rowId, rowOffset, rowLength, rowAt, noted, rowsFrom, bodiesFrom}
 use Rattle.image.proofs.BodyLaws.{read-in}
 use Rattle.image.proofs.RowLaws.{id-length, row-length, row-parts, RowSays}
-use Rattle.octets.proofs.ListLaws.{has-after, has-both}
 use Rattle.image.proofs.ListLaws.{read-is, is-read}
 use Rattle.image.proofs.HeldLaws.{heldAfter, heldFrom}
 use Rattle.image.proofs.CheckLaws.{Past, past-more, Stands, row-sound, stands-says, row-complete}

@@ -11,7 +11,7 @@ use Rattle.octets.specs.Bytes.{AreBytes, Has}
 use Rattle.octets.specs.Number.{bigEndian, numberAt}
 use Rattle.exact.specs.Reads.{got, guard}
 use Rattle.octets.proofs.Tests.{and-left, and-right}
-use Rattle.octets.proofs.BytesLaws.{has-left, has-fits}
+use Rattle.octets.proofs.BytesLaws.{has-left, has-fits, has-after, has-both, front-has}
 use Rattle.octets.proofs.NumberLaws.{length-bigEndian, number-of-has, has-of-number}
 use Rattle.octets.proofs.OverLaws.{has-front}
 use Rattle.image.specs.declared.Held.{Held}
@@ -21,7 +21,6 @@ use Rattle.image.specs.Image.{header, rowsOf, joined, imageOf, BodiesOk,
 use Rattle.image.specs.Check.{rowCount, headerFits, rowsFrom, checked, bodiesFrom, bodiesOf}
 use Rattle.image.proofs.StepLaws.{guard-got}
 use Rattle.image.proofs.RowLaws.{header-length, rows-length, image-length}
-use Rattle.octets.proofs.ListLaws.{has-after, has-both, front-has}
 use Rattle.image.proofs.HeldLaws.{heldFrom, heldIn}
 use Rattle.image.proofs.CheckLaws.{past-none}
 use Rattle.image.proofs.RunLaws.{Run, rows-sound, rows-complete, rows-bodies}

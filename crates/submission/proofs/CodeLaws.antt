@@ -23,7 +23,7 @@ use Rattle.image.specs.Check.{surveyOf}
 use Rattle.image.specs.Laws.{HeldFits}
 use Rattle.image.proofs.Laws.{read-in}
 use Rattle.image.specs.Layout.{idSize}
-use Rattle.octets.proofs.ListLaws.{lent-part}
+use Rattle.octets.proofs.PartLaws.{lent-part}
 use Rattle.submission.specs.declared.Submission.{Submission}
 use Rattle.submission.specs.declared.Submission.the-variants as answers
 use Rattle.submission.specs.declared.choose.Choice.{Choice}

@@ -21,7 +21,7 @@ use Rattle.image.specs.Image.{idOf, imageOf, Holds, bodyWith}
 use Rattle.image.specs.Check.{findOf, numbersOf}
 use Rattle.image.specs.Grow.{withBody}
 use Rattle.image.specs.Promises.{refusal}
-use Rattle.octets.proofs.ListLaws.{true-same, other-same}
+use Rattle.octets.proofs.SameLaws.{equal-same, not-same}
 use Rattle.image.proofs.Promises.{layout-fixed, lookup-exactly}
 use Rattle.image.proofs.Laws.{encoding-read}
 use Rattle.submission.specs.declared.Submission.the-variants as answers
@@ -77,7 +77,7 @@ module _ (d : List ℕ) (bs : List (List ℕ)) (c : Descriptor) (clock : ℕ) (w
     -- The same bytes are held.
     same-held : bodyWith (c .payload .id) bs ≡ some (encode c) → Gives d (encode c) clock 0 window 0 d
     same-held e = (
-      all-passed (rw (early, open-key, e, true-same (encode c) (encode c) refl)),
+      all-passed (rw (early, open-key, e, equal-same (encode c) (encode c) refl)),
       repeat-keeps d (encode c) clock 0 window bs (encode c) (r .holds) (ap (λ (id : List ℕ). bodyWith id bs) id-of ∙ e),
     )
 
@@ -85,7 +85,7 @@ module _ (d : List ℕ) (bs : List (List ℕ)) (c : Descriptor) (clock : ℕ) (w
     other-held : (b : List ℕ) → bodyWith (c .payload .id) bs ≡ some b → (b ≡ encode c → ⊥) → Gives d (encode c) clock 0 window 5 d
     other-held b e o =
         let q : numberOf (submitted d (encode c) clock 0 window) ≡ 5
-        = fails-with 5 (rw (early, open-key, e, other-same b (encode c) o)) in
+        = fails-with 5 (rw (early, open-key, e, not-same b (encode c) o)) in
         (q, refusal-keeps d (encode c) clock 0 window (λ z. omega arith))
 
     module _ (e : bodyWith (c .payload .id) bs ≡ none) where

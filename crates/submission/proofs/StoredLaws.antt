@@ -18,7 +18,8 @@ use Rattle.image.specs.declared.Survey.the-variants.{Sound, Unsound}
 use Rattle.image.specs.Image.{idOf, imageOf, Holds, bodyWith}
 use Rattle.image.specs.Check.{surveyOf, isSound, isHeld, bodiesOf}
 use Rattle.image.specs.Grow.{hasRoom, withBody}
-use Rattle.octets.proofs.ListLaws.{same-true, some-same, none-some}
+use Rattle.octets.proofs.OptionLaws.{some-same, none-some}
+use Rattle.octets.proofs.SameLaws.{same-equal}
 use Rattle.image.specs.Laws.{HeldIs}
 use Rattle.image.proofs.Laws.{body-read, bodies-named, survey-tells, survey-says, editions-surveyed, one-more}
 use Rattle.submission.specs.declared.Submission.the-variants as answers
@@ -100,7 +101,7 @@ module _ (d b : List ℕ) (clock verdict : ℕ) (window : Window) (bs : List (Li
       let r : Repeat d (idOf b) bs c = survey-repeat d (idOf b) bs c h held in
       let s : same (part d (r .at) (r .len)) b ≡ true
       = subst (λ (v : Survey). agrees d b v ≡ true) (r .found) (done-passed d b clock verdict window done .same-bytes) in
-      sym (r .body) ∙ same-true (part d (r .at) (r .len)) b s
+      sym (r .body) ∙ same-equal (part d (r .at) (r .len)) b s
 
   -- Under a new id, it says that there is room, and leaves the buffer with the body added last, which holds the bodies and the new one.
   pub stored-last : bodyWith (idOf b) bs ≡ none

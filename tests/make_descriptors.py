@@ -1,72 +1,32 @@
-#!/usr/bin/env python3
-"""Makes the stored test of descriptor_vectors: standard input (records of a name and the bytes of a descriptor) and the output that is expected.
+"""The descriptors among the stored vectors.
 
 The bytes are made by an independent encoder, Debian's python3-cbor2 with canonical=True; broken ones are changed afterwards. The expected output is
 from the reader below, which is written from document 01 and knows nothing of the Rattle code.
-Run: /usr/bin/python3 tests/make_descriptors.py crates/descriptor_vectors
 """
 import re
-import sys
 
 import cbor2
 
-T = "terminal:00000000-0000-7000-8000-000000000001"
-U = "terminal:00000000-0000-7000-8000-000000000002"
+from make_items import Bad, Items, need
+from make_matching import T, U, UUID, is_pattern
+from records import DESCRIPTOR, GRANT, answered, written
+
 FAY = "fay:01927b34-7e21-7c4d-a89f-1234567890ab"
-HEX = "[0-9a-fA-F]"
-UUID = f"{HEX}{{8}}-{HEX}{{4}}-{HEX}{{4}}-{HEX}{{4}}-{HEX}{{12}}"
-NAME = "[a-zA-Z0-9._-]+"
-PATTERN = re.compile(rf"terminal:{UUID}(/({NAME}|\*))*/({NAME}|\*|\*\*)\Z")
 MODES = ["read", "write", "execute", "configure"]
 
 
 # ---- an ordinary reader, by document 01
 
 
-class Bad(Exception):
-    pass
-
-
-def need(ok):
-    if not ok:
-        raise Bad
-
-
-class Reader:
-    def __init__(self, s):
-        self.s, self.at = s, 0
-
-    def head(self):
-        need(self.at < len(self.s))
-        b = self.s[self.at]
-        major, info = b >> 5, b & 31
-        if info < 24:
-            self.at += 1
-            return major, info
-        need(info < 28)
-        w = 1 << (info - 24)
-        need(self.at + 1 + w <= len(self.s))
-        n = int.from_bytes(self.s[self.at + 1 : self.at + 1 + w], "big")
-        need(n >= [24, 256, 65536, 1 << 32][info - 24])
-        self.at += 1 + w
-        return major, n
-
+class Reader(Items):
     def number(self, major):
         m, n = self.head()
         need(m == major)
         return n
 
     def string(self, major, lo, hi):
-        n = self.number(major)
-        need(self.at + n <= len(self.s) and lo <= n <= hi)
-        start = self.at
-        self.at += n
-        c = self.s[start : self.at]
-        if major == 3:
-            try:
-                c.decode("utf-8", "strict")
-            except UnicodeDecodeError:
-                raise Bad from None
+        kind, n, start, c = self.item()
+        need(kind == major and lo <= n <= hi)
         return start, n, c
 
     def text(self, lo=0, hi=10**9):
@@ -120,7 +80,7 @@ class Reader:
                 g["constraints"] = self.pairs(8)
             else:
                 start, n, c = self.text()
-                need(n <= 256 and PATTERN.match(c.decode("latin-1")))
+                need(is_pattern(c))
                 g["pattern"] = (start, n, c)
         return g
 
@@ -336,34 +296,46 @@ def vectors():
         ("not_before after not_after", encode(payload(not_before=3001))),
         ("too long valid and a mode twice", encode(payload(not_after=2**63, grants=[grant(["read", "read"])]))),
     ]
-    assert all(read(s)[0] == 0 for _, s in ok), [n for n, s in ok if read(s)[0] != 0]
-    assert all(read(s)[0] == 2 for _, s in late), [n for n, s in late if read(s)[0] != 2]
-    assert all(read(s)[0] == 1 for _, s in bad), [n for n, s in bad if read(s)[0] != 1]
-    return ok + late + bad
+    return [("Read", 0, ok), ("Valid for too long", 2, late), ("Refused", 1, bad)]
 
 
-def described(name, s):
+def of_grant(g):
+    """What is written of a grant, or of none."""
+    if g is None:
+        return answered(0)
+    return answered(1, pattern=g["pattern"][1::-1], mask=g["mask"], modes_at=g["modes"], constraints=g["constraints"][::-1])
+
+
+def described(s, count):
+    """What is written of a descriptor, and of its grants with the first indices."""
     answer, f = read(s)
-    out = f"{name}, {len(s)} bytes: {answer}\n"
-    if answer == 0:
-        mask = 0
-        for g in f["grants"]:
-            mask |= g["mask"]
-        out += f"    payload {f['payload'][1]} at {f['payload'][0]}, issued_at {f['issued_at']}, not_before {f['not_before']}, not_after {f['not_after']}\n"
-        out += f"    descriptor_id at {f['id']}, issuer_id {f['issuer'][1]} at {f['issuer'][0]}, grantor_id {f['grantor'][1]} at {f['grantor'][0]}, subject_fay_id at {f['fay']}, terminal_id at {f['terminal']}\n"
-        out += f"    metadata {f['metadata'][1]} at {f['metadata'][0]}, key_id {f['key'][1]} at {f['key'][0]}, algorithm {f['algorithm']}, signature {f['signature'][1]} at {f['signature'][0]}\n"
-        out += f"    grants {len(f['grants'])} at {f['first']}, mask {mask}, constraint pairs {sum(g['constraints'][1] for g in f['grants'])}\n"
-        for g in f["grants"][:3]:
-            out += f"    grant: mask {g['mask']}, modes at {g['modes']}, constraints {g['constraints'][1]} at {g['constraints'][0]}, pattern {g['pattern'][1]} at {g['pattern'][0]}\n"
-    return out
+    if answer != 0:
+        return answered(answer) + "".join(f"\n    grant {i}" + of_grant(None) for i in range(count))
+    grants, mask = f["grants"], 0
+    for g in grants:
+        mask |= g["mask"]
+    lines = [
+        dict(payload=f["payload"][::-1], issued_at=f["issued_at"], not_before=f["not_before"], not_after=f["not_after"]),
+        dict(id_at=f["id"], issuer=f["issuer"][::-1], grantor=f["grantor"][::-1], fay_at=f["fay"], terminal_at=f["terminal"]),
+        dict(grants=len(grants), metadata=f["metadata"][::-1], constraint_pairs=sum(g["constraints"][1] for g in grants), mask=mask),
+        dict(key_id=f["key"][::-1], algorithm=f["algorithm"], signature=f["signature"][::-1]),
+    ]
+    out = ": 0" + "".join("\n    " + written(line) for line in lines)
+    return out + "".join(f"\n    grant {i}" + of_grant(grants[i] if i < len(grants) else None) for i in range(count))
 
 
-if __name__ == "__main__":
-    folder = sys.argv[1]
-    rows = vectors()
-    with open(folder + "/stdin", "wb") as o:
+def descriptors(v):
+    for heading, answer, rows in vectors():
+        v.heading("## " + heading)
         for name, s in rows:
-            o.write(bytes([len(name)]) + name.encode() + len(s).to_bytes(4, "big") + s)
-    with open(folder + "/stdout", "w") as o:
-        o.write("".join(described(name, s) for name, s in rows))
-    print(len(rows), "descriptors")
+            got, f = read(s)
+            assert got == answer, name
+            count = min(3, len(f["grants"]) + 1) if f else 1
+            v.add(DESCRIPTOR, f"{name}, {len(s)} bytes", described(s, count), [count], [s])
+    v.heading("## Grants by their index")
+    for n, indices in ((3, (0, 2, 3, 2**32, 2**64 - 1)), (256, (255, 256))):
+        s = encode(payload(grants=[grant(["execute"], T + f"/g/{i}") for i in range(n)]))
+        grants = read(s)[1]["grants"]
+        for i in indices:
+            v.add(GRANT, f"grant {i} of {n}", of_grant(grants[i] if i < n else None), [i], [s])
+    v.add(GRANT, "grant 0 of no descriptor", of_grant(None), [0], [b""])

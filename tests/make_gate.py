@@ -1,14 +1,13 @@
-#!/usr/bin/env python3
-"""Makes the stored test of gate_vectors: standard input (records, each a call on one image that stays from call to call) and the output that is expected.
+"""The gate among the stored vectors: calls on one image that stays from call to call.
 
 The descriptors are made by the same independent encoder as those of make_descriptors.py. The expected output is from the image, submission and request below,
 which are written from document 01 and know nothing of the Rattle code.
-Run: /usr/bin/python3 -B tests/make_gate.py crates/gate_vectors
 """
 import re
-import sys
 
-from make_descriptors import FAY, NAME, T, U, UUID, encode, grant, payload, read, signature
+from make_descriptors import FAY, encode, grant, payload, read
+from make_matching import T, U, UUID, is_resource, matches
+from records import FIND, LEND, NEW, REQUEST, SUBMIT, answered
 
 DAY = 86400
 LAST = 2**64 - 1
@@ -101,24 +100,14 @@ def submit(s, body, now, verdict, valid):
 
 def find(s, ident):
     if len(ident) != 16:
-        return "15"
+        return answered(15)
     held = sound(s)
     if held is None:
-        return "16"
+        return answered(16)
     for i, at, n in held[0]:
         if i == ident:
-            return f"0, at {at}, length {n}"
-    return "7"
-
-
-def matches(pattern, path):
-    pattern, path = pattern.split("/"), path.split("/")
-    if pattern[-1] == "**":
-        return len(path) >= len(pattern) and all(p in ("*", n) for p, n in zip(pattern[:-1], path))
-    return len(pattern) == len(path) and all(p in ("*", n) for p, n in zip(pattern, path))
-
-
-RESOURCE = re.compile(rf"terminal:{UUID}(/{NAME})+\Z")
+            return answered(0, body=(n, at))
+    return answered(7)
 
 
 def request(s, q):
@@ -128,53 +117,47 @@ def request(s, q):
         or len(q["id"]) != 16
         or not re.match(rf"fay:{UUID}\Z", q["fay"])
         or not re.match(rf"terminal:{UUID}\Z", q["terminal"])
-        or len(q["resource"]) > 256
-        or not RESOURCE.match(q["resource"])
+        or not is_resource(q["resource"].encode())
         or len(q["revoked"]) % 16
     ):
-        return "15"
+        return answered(15)
     held = sound(s)
     if held is None:
-        return "16"
+        return answered(16)
     body = next((s[at : at + n] for i, at, n in held[0] if i == q["id"]), None)
     if body is None:
-        return "7"
+        return answered(7)
     f = read(body)[1]
     if q["id"] in [q["revoked"][i : i + 16] for i in range(0, len(q["revoked"]), 16)]:
-        return "8"
+        return answered(8)
     if q["now"] < f["not_before"]:
-        return "9"
+        return answered(9)
     if q["now"] >= f["not_after"]:
-        return "10"
+        return answered(10)
     if body[f["fay"] : f["fay"] + 40].decode() != q["fay"]:
-        return "11"
+        return answered(11)
     if body[f["terminal"] : f["terminal"] + 45].decode() != q["terminal"]:
-        return "12"
+        return answered(12)
     for i, g in enumerate(f["grants"]):
         if g["mask"] >> q["mode"] & 1 and matches(g["pattern"][2].decode(), q["resource"]) and g["constraints"][1] == 0:
             break
     else:
-        return "13"
+        return answered(13)
     if q["verdict"] == 2 or not key_open(q["now"], q["valid"]):
-        return "14"
+        return answered(14)
     if q["verdict"] == 1:
-        return "4"
-    return f"0, grant {i}, mask {g['mask']}, session end {min(f['not_after'], q['now'] + q['session'])}"
+        return answered(4)
+    return answered(0, grant=i, mask=g["mask"], session_end=min(f["not_after"], q["now"] + q["session"]))
 
 
 # ---- records
 
 
 class Run:
-    """Calls, with the image that they leave and what they write."""
+    """Calls, with the image that they leave."""
 
-    def __init__(self):
-        self.image, self.store, self.out, self.into = b"", bytes(65536), [], []
-
-    def record(self, name, numbers, *parts):
-        parts = list(parts) + [b""] * (5 - len(parts))
-        for p in [name.encode(), b"".join(n.to_bytes(8, "big") for n in numbers)] + parts:
-            self.into.append(len(p).to_bytes(4, "big") + p)
+    def __init__(self, v):
+        self.v, self.image, self.store = v, b"", bytes(65536)
 
     def shown(self):
         n = 7
@@ -184,38 +167,34 @@ class Run:
         return f"; {len(self.image)} bytes, rows {rows}, sum {n % 4294967291}"
 
     def load(self, name, s):
-        self.record(name, [0], s)
         self.store = self.image + self.store[len(self.image) :]
         self.image = s
-        self.out.append(name + self.shown())
+        self.v.add(LEND, name, self.shown(), [len(s)], [s])
 
     def lend(self, name, n):
-        self.record(name, [1, n])
         self.store = self.image + self.store[len(self.image) :]
         self.image = self.store[:n]
-        self.out.append(name + self.shown())
+        self.v.add(LEND, name, self.shown(), [n])
 
     def new(self, name):
-        self.record(name, [2])
         answer = 17 if len(self.image) < 8 else 0
         if answer == 0:
             self.image = bytes.fromhex("0001000100000000") + self.image[8:]
-        self.out.append(f"{name}: {answer}{self.shown()}")
+        self.v.add(NEW, name, f": {answer}{self.shown()}")
 
     def submit(self, name, body, now=2000, verdict=0, valid=(0, 0, 0)):
-        self.record(name, [3, now, verdict, *valid], body)
         answer, self.image = submit(self.image, body, now, verdict, valid)
-        self.out.append(f"{name}: {answer}{self.shown()}")
+        self.v.add(SUBMIT, name, f": {answer}{self.shown()}", [now, verdict, *valid], [body])
 
     def find(self, name, ident):
-        self.record(name, [4], ident)
-        self.out.append(f"{name}: {find(self.image, ident)}")
+        self.v.add(FIND, name, find(self.image, ident), [], [ident])
 
     def request(self, name, **more):
         q = dict(id=bytes(range(16)), fay=FAY, terminal=T, resource=T + "/a/b", mode=0, now=2000, session=100, revoked=b"", verdict=0, valid=(0, 0, 0))
         q.update(more)
-        self.record(name, [5, q["mode"], q["now"], q["session"], q["verdict"], *q["valid"]], q["id"], q["fay"].encode(), q["terminal"].encode(), q["resource"].encode(), q["revoked"])
-        self.out.append(f"{name}: {request(self.image, q)}")
+        numbers = [q["mode"], q["now"], q["session"], q["verdict"], *q["valid"]]
+        strings = [q["id"], q["fay"].encode(), q["terminal"].encode(), q["resource"].encode(), q["revoked"]]
+        self.v.add(REQUEST, name, request(self.image, q), numbers, strings)
 
 
 def ident(i):
@@ -464,18 +443,8 @@ def requests(r):
     r.request("no image, id not held", id=ident(3))
 
 
-def main():
-    r = Run()
-    images(r)
-    submissions(r)
-    requests(r)
-    folder = sys.argv[1]
-    stdin = b"".join(r.into)
-    assert len(r.out) < 1000 and len(stdin) < 1 << 20, (len(r.out), len(stdin))
-    with open(f"{folder}/stdin", "wb") as f:
-        f.write(stdin)
-    with open(f"{folder}/stdout", "w") as f:
-        f.write("".join(line + "\n" for line in r.out))
-
-
-main()
+def gate(v):
+    r = Run(v)
+    for heading, calls in (("Images", images), ("Submissions", submissions), ("Requests", requests)):
+        v.heading("## " + heading)
+        calls(r)

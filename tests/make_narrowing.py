@@ -1,28 +1,18 @@
-#!/usr/bin/env python3
-"""Makes the stored test of narrowing_vectors: standard input (records of a name, a parent and a child) and the output that is expected.
+"""Narrowing among the stored vectors.
 
-The bytes are made by the same independent encoder as those of make_descriptors.py. The expected output is from the search below, which tries
-the paths with the fresh name one by one and knows nothing of the Rattle code.
-Run: /usr/bin/python3 tests/make_narrowing.py crates/narrowing_vectors
+The bytes are made by the same independent encoder as those of make_descriptors.py. The expected output is from the search below, which
+tries the paths with the fresh name one by one and knows nothing of the Rattle code.
 """
 import random
-import sys
 
-from make_descriptors import MODES, T, U, encode, grant, payload, read
+from make_descriptors import MODES, encode, grant, payload, read
+from make_matching import T, U, takes
+from records import NARROW, answered
 
 CHARACTERS = "abcdefghijklmnopqrstuvwxyzABCDEFGHIJKLMNOPQRSTUVWXYZ0123456789._-"
 
 
 # ---- an ordinary search, by document 01
-
-
-def matches(pattern, path):
-    if pattern[-1] == "**":
-        if len(path) < len(pattern):
-            return False
-        pattern = pattern[:-1]
-        path = path[: len(pattern)]
-    return len(pattern) == len(path) and all(p in ("*", n) for p, n in zip(pattern, path))
 
 
 def rules(s, f):
@@ -43,22 +33,22 @@ def escape(parent, child):
             if mask >> mode & 1:
                 over = [q for m, t, q in parent if m >> mode & 1 and t == terminal]
                 for k in range(1, deepest + 2) if deep else [0]:
-                    if not any(matches(q, names + [fresh] * k) for q in over):
-                        return f"20, grant {i}, mode {mode}, levels {k}"
-    return "0"
+                    if not any(takes(q, names + [fresh] * k) for q in over):
+                        return answered(20, grant=i, mode=mode, levels=k)
+    return answered(0)
 
 
 def narrow(parent, child):
     a, f = read(parent)
     if a != 0:
-        return "21"
+        return answered(21)
     b, g = read(child)
     if b != 0:
-        return str(b)
+        return answered(b)
     if any(r["constraints"][1] for r in f["grants"] + g["grants"]):
-        return "19"
+        return answered(19)
     if g["not_before"] < f["not_before"] or f["not_after"] < g["not_after"]:
-        return "18"
+        return answered(18)
     return escape(list(rules(parent, f)), list(rules(child, g)))
 
 
@@ -140,12 +130,8 @@ def some(count):
         yield f"drawn {i}", one(*parent), one(*child)
 
 
-if __name__ == "__main__":
-    rows = [*chosen(), *some(150)]
-    with open(sys.argv[1] + "/stdin", "wb") as o:
+def narrowing(v):
+    for heading, rows in (("Chosen", chosen()), ("Drawn", some(150))):
+        v.heading("## " + heading)
         for name, parent, child in rows:
-            for s in (name.encode(), parent, child):
-                o.write(len(s).to_bytes(4, "big") + s)
-    with open(sys.argv[1] + "/stdout", "w") as o:
-        o.write("".join(f"{name}: {narrow(parent, child)}\n" for name, parent, child in rows))
-    print(len(rows), "cases")
+            v.add(NARROW, name, narrow(parent, child), [], [parent, child])

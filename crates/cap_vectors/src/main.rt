@@ -1,0 +1,50 @@
+// Reads records from standard input, each a call of `cap`, and writes what is answered, with every number. The image stays from record
+// to record. tests/make_vectors.py makes the stored input and output.
+mod calls;
+mod images;
+mod record;
+mod show;
+
+fn room() -> [u8; 2097152] {
+    [0; 2097152]
+}
+
+fn store() -> [u8; 65536] {
+    [0; 65536]
+}
+
+// Makes the call of the record at the place, on the first `len` bytes of the image; the answer is how many are lent from then on.
+fn one(s: &[u8], at: usize, image: &mut [u8], len: usize) -> usize {
+    show::text(record::part(s, at, 0));
+    if record::number(s, at, 0) < 6 {
+        calls::made(s, at);
+        return len;
+    }
+    images::made(s, at, image, len)
+}
+
+// Makes the call of every record.
+fn all(s: &[u8], image: &mut [u8]) {
+    let mut at: usize = 0;
+    let mut len: usize = 0;
+    while at < s.len() {
+        len = one(s, at, image, len);
+        let next = record::place(s, at, 7);
+        if next <= at {
+            return;
+        }
+        at = next;
+    }
+}
+
+// Reads the whole input, and makes each call.
+fn run(buffer: &mut [u8], image: &mut [u8]) {
+    let n = io::read_full(0, buffer);
+    all(&buffer[..n], image);
+}
+
+fn main() {
+    let mut buffer = room();
+    let mut image = store();
+    run(&mut buffer, &mut image);
+}

@@ -1,0 +1,47 @@
+// Records of seven parts: a name, numbers of eight bytes, and five byte strings. A part is four bytes with its length, the highest
+// first, and so many bytes.
+ghost use Prim.Native.Nat.{_^_, _<_};
+
+// The length of the part at the place.
+fn size(s: &[u8], at: usize) -> usize
+    ensures { λ r. ⌜ r < 256 ^ 4 ⌝ }
+{
+    octets::number_at(s, at, 4) as usize
+}
+
+// The place after that part; where the bytes have ended, the place itself.
+fn after(s: &[u8], at: usize) -> usize {
+    if s.len() <= at {
+        return at;
+    }
+    at + 4 + size(s, at)
+}
+
+// The place after so many parts.
+pub(crate) fn place(s: &[u8], at: usize, parts: usize) -> usize {
+    let mut place = at;
+    let mut left = parts;
+    while 0 < left {
+        place = after(s, place);
+        left -= 1;
+    }
+    place
+}
+
+// The part with the index, of the record at the place: 0 is its name, 1 its numbers, 2 to 6 its byte strings. Nothing where it is not
+// whole.
+pub(crate) fn part(s: &[u8], at: usize, i: usize) -> &[u8] {
+    let start = place(s, at, i);
+    if s.len() <= start {
+        return octets::part_at(s, 0, 0);
+    }
+    octets::part_at(s, start + 4, size(s, start))
+}
+
+// Its number with the index.
+pub(crate) fn number(s: &[u8], at: usize, i: usize) -> u64 {
+    if 100 < i {
+        return 0;
+    }
+    octets::number_at(part(s, at, 1), 8 * i, 8)
+}

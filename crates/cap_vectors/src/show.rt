@@ -1,0 +1,187 @@
+// Writes what is answered: each number by its name in include/cap.h, a part as its length (a map's as its pairs) and its place; or, where
+// all but the first are 0, that they are.
+use cbor_item::ItemNumbers;
+use descriptor::DescriptorNumbers;
+use descriptor::GrantNumbers;
+use image::StoredNumbers;
+use narrowing::NarrowingNumbers;
+use request::DecisionNumbers;
+use resource::MatchingNumbers;
+
+pub(crate) fn text(s: &[u8]) {
+    io::write_all(1, s);
+}
+
+pub(crate) fn end() {
+    text(b"\n");
+}
+
+pub(crate) fn number(name: &[u8], n: u64) {
+    text(name);
+    io::print_decimal(1, n);
+}
+
+// The place of the first number that is not 0, or the end.
+fn zeros(numbers: &[u64]) -> usize {
+    let mut i: usize = 0;
+    while i < numbers.len() {
+        if numbers[i] != 0 {
+            return i;
+        }
+        i += 1;
+    }
+    i
+}
+
+// The line, with a number for each '#' in it.
+fn line(s: &[u8], numbers: &[u64]) {
+    let mut from: usize = 0;
+    let mut i: usize = 0;
+    while i < numbers.len() {
+        let to = octets::until(s, from, b'#');
+        if s.len() <= to {
+            return;
+        }
+        text(&s[from..to]);
+        io::print_decimal(1, numbers[i]);
+        from = to + 1;
+        i += 1;
+    }
+    text(&s[from..]);
+}
+
+// The answer, then the line; or, where all numbers are 0, that they are.
+fn answer(n: u64, s: &[u8], numbers: &[u64]) {
+    number(b": ", n);
+    if zeros(numbers) == numbers.len() {
+        text(b", all else 0");
+        return;
+    }
+    line(s, numbers);
+}
+
+fn hex(s: &[u8]) {
+    let mut i: usize = 0;
+    while i < s.len() {
+        io::print_hex(1, octets::number_at(s, i, 1), 2);
+        i += 1;
+    }
+}
+
+// An item of some bytes, with its content.
+pub(crate) fn item(s: &[u8], i: ItemNumbers) {
+    answer(
+        i.answer,
+        b", kind #, number #, content # at #, next #",
+        &[i.kind, i.number, i.content_len, i.content_at, i.next],
+    );
+    if 0 < i.content_len {
+        text(b": ");
+        hex(octets::part_at(s, i.content_at as usize, i.content_len as usize));
+    }
+    end();
+}
+
+pub(crate) fn descriptor(d: DescriptorNumbers) {
+    answer(
+        d.answer,
+        b"
+    payload # at #, issued_at #, not_before #, not_after #
+    id_at #, issuer # at #, grantor # at #, fay_at #, terminal_at #
+    grants #, metadata # at #, constraint_pairs #, mask #
+    key_id # at #, algorithm #, signature # at #",
+        &[
+            d.payload_len,
+            d.payload_at,
+            d.issued_at,
+            d.not_before,
+            d.not_after,
+            d.id_at,
+            d.issuer_len,
+            d.issuer_at,
+            d.grantor_len,
+            d.grantor_at,
+            d.fay_at,
+            d.terminal_at,
+            d.grants,
+            d.metadata_pairs,
+            d.metadata_at,
+            d.constraint_pairs,
+            d.mask,
+            d.key_id_len,
+            d.key_id_at,
+            d.algorithm,
+            d.signature_len,
+            d.signature_at,
+        ],
+    );
+    end();
+}
+
+pub(crate) fn index(n: u64) {
+    number(b"    grant ", n);
+}
+
+pub(crate) fn grant(g: GrantNumbers) {
+    answer(
+        g.found,
+        b", pattern # at #, mask #, modes_at #, constraints # at #",
+        &[
+            g.pattern_len,
+            g.pattern_at,
+            g.mask,
+            g.modes_at,
+            g.constraint_pairs,
+            g.constraints_at,
+        ],
+    );
+    end();
+}
+
+pub(crate) fn matching(m: MatchingNumbers) {
+    number(b": ", m.answer);
+    number(b", yes ", m.yes);
+    end();
+}
+
+pub(crate) fn narrowing(n: NarrowingNumbers) {
+    answer(
+        n.answer,
+        b", grant #, mode #, levels #",
+        &[n.grant, n.mode, n.levels],
+    );
+    end();
+}
+
+pub(crate) fn stored(f: StoredNumbers) {
+    answer(f.answer, b", body # at #", &[f.body_len, f.body_at]);
+    end();
+}
+
+pub(crate) fn decision(d: DecisionNumbers) {
+    answer(
+        d.answer,
+        b", grant #, mask #, session_end #",
+        &[d.grant, d.mask, d.session_end],
+    );
+    end();
+}
+
+// A sum over all the bytes, which changes with each of them and with their order.
+fn sum(s: &[u8]) -> u64 {
+    let mut n: u64 = 7;
+    let mut i: usize = 0;
+    while i < s.len() {
+        n = n % 4294967291 * 257 + octets::number_at(s, i, 1) % 256;
+        i += 1;
+    }
+    n % 4294967291
+}
+
+// How long the image is, how many rows its header names, and the sum over its bytes.
+pub(crate) fn image(s: &[u8]) {
+    number(b"; ", s.len() as u64);
+    number(b" bytes, rows ", octets::number_at(s, 4, 2));
+    number(b", sum ", sum(s));
+    end();
+}

@@ -1,0 +1,22 @@
+#!/usr/bin/env python3
+"""Makes the stored test of cap_vectors: standard input (records, each a call) and the output that is expected. Each group of them has its
+script; tests/records.py has the format.
+
+Run: /usr/bin/python3 -B tests/make_vectors.py crates/cap_vectors
+"""
+import sys
+
+from make_descriptors import descriptors
+from make_gate import gate
+from make_items import items
+from make_matching import matching
+from make_narrowing import narrowing
+from records import Vectors
+
+v = Vectors()
+for name, group in (("Items", items), ("Matching", matching), ("Descriptors", descriptors), ("Narrowing", narrowing), ("The gate", gate)):
+    v.heading("# " + name)
+    before = v.cases
+    group(v)
+    print(f"{name}: {v.cases - before} cases")
+v.save(sys.argv[1])

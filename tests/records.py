@@ -1,0 +1,56 @@
+"""The records of the stored vectors, and how an answer is written.
+
+A record has seven parts: a name, numbers of eight bytes, of which the first says which call is made, and five byte strings. A part is
+four bytes with its length and so many bytes; numbers and lengths have their highest byte first. The calls are those of include/cap.h,
+with their arguments in its order:
+  0 no call: the name is a heading
+  1 cap_item_read
+  2 cap_descriptor_read, then cap_grant_at for so many indices as the number says
+  3 cap_grant_at
+  4 cap_match
+  5 cap_narrow
+  6 no call: the image begins with the string, and so many bytes of it are lent as the number says
+  7 cap_image_new
+  8 cap_image_find
+  9 cap_submit
+  10 cap_request
+The image stays from record to record. An answer is written behind the name, with every number by its name in include/cap.h, a part as its
+length (a map's as its pairs) and its place; where all numbers but the first are 0 it says so.
+"""
+HEADING, ITEM, DESCRIPTOR, GRANT, MATCH, NARROW, LEND, NEW, FIND, SUBMIT, REQUEST = range(11)
+
+
+class Vectors:
+    """Records, and the output that is expected for them."""
+
+    def __init__(self):
+        self.into, self.out, self.cases = [], [], 0
+
+    def add(self, call, name, expected, numbers=(), strings=()):
+        numbers = b"".join(n.to_bytes(8, "big") for n in (call, *numbers))
+        strings = [*strings, *[b""] * (5 - len(strings))]
+        self.into += [len(part).to_bytes(4, "big") + part for part in (name.encode(), numbers, *strings)]
+        self.out.append(name + expected + "\n")
+        self.cases += call != HEADING
+
+    def heading(self, text):
+        self.add(HEADING, text, "")
+
+    def save(self, folder):
+        stdin, stdout = b"".join(self.into), "".join(self.out)
+        assert len(stdin) <= 1 << 21, "the program's buffer"
+        with open(f"{folder}/stdin", "wb") as f:
+            f.write(stdin)
+        with open(f"{folder}/stdout", "w", encoding="utf-8") as f:
+            f.write(stdout)
+
+
+def written(numbers):
+    """Numbers by name; a pair is a length and its place."""
+    return ", ".join(f"{name} {n[0]} at {n[1]}" if isinstance(n, tuple) else f"{name} {n}" for name, n in numbers.items())
+
+
+def answered(answer, **numbers):
+    """An answer and its other numbers."""
+    others = [n for n in numbers.values() if n not in (0, (0, 0))]
+    return f": {answer}, " + (written(numbers) if others else "all else 0")

@@ -1,7 +1,7 @@
 """The descriptors among the stored vectors.
 
-The bytes are made by an independent encoder, Debian's python3-cbor2 with canonical=True; broken ones are changed afterwards. The expected output is
-from the reader below, which is written from document 01 and knows nothing of the Rattle code.
+The bytes are made by an independent encoder, Debian's python3-cbor2 with canonical=True; broken ones are changed afterwards. The expected
+output is from the reader below, which is written from document 01 and knows nothing of the Rattle code.
 """
 import re
 
@@ -13,6 +13,7 @@ from records import DESCRIPTOR, GRANT, answered, written
 
 FAY = "fay:01927b34-7e21-7c4d-a89f-1234567890ab"
 MODES = ["read", "write", "execute", "configure"]
+PAYLOAD = "grants metadata? issued_at issuer_id not_after grantor_id? not_before terminal_id descriptor_id subject_fay_id".split()
 
 
 # ---- an ordinary reader, by document 01
@@ -93,7 +94,7 @@ def read(s):
         for k in r.table(["payload", "version", "signature"]):
             if k == "payload":
                 start = r.at
-                for k in r.table("grants metadata? issued_at issuer_id not_after grantor_id? not_before terminal_id descriptor_id subject_fay_id".split()):
+                for k in r.table(PAYLOAD):
                     if k == "grants":
                         n = r.number(4)
                         need(1 <= n <= 256)
@@ -165,10 +166,14 @@ def signature(**more):
     return {k: v for k, v in g.items() if v is not None}
 
 
+def dumped(value):
+    return cbor2.dumps(value, canonical=True)
+
+
 def encode(p=None, g=None, **more):
     d = {"payload": payload() if p is None else p, "version": 1, "signature": signature() if g is None else g}
     d.update(more)
-    return cbor2.dumps({k: v for k, v in d.items() if v is not None}, canonical=True)
+    return dumped({k: v for k, v in d.items() if v is not None})
 
 
 def sized(n):
@@ -191,21 +196,29 @@ def swap(s, old, new):
 def vectors():
     base = encode()
     pairs = lambda n, key="k{:02}", value="v": {key.format(i): value for i in range(n)}
+    two = [grant(["write", "read"], T + "/a/*", constraints={"k": "v", "z": ""}), grant(["configure"], T + "/b/**")]
+    upper = T.replace("7000", "7ABC")
     ok = [
         ("smallest", base),
-        ("every optional field", encode(payload(metadata={"a": "b", "bb": "ü"}, grantor_id="prof", grants=[grant(["write", "read"], T + "/a/*", constraints={"k": "v", "z": ""}), grant(["configure"], T + "/b/**")]))),
+        ("every optional field", encode(payload(metadata={"a": "b", "bb": "ü"}, grantor_id="prof", grants=two))),
         ("empty optional maps", encode(payload(metadata={}, grants=[grant(constraints={})]))),
         ("grantor_id alone", encode(payload(grantor_id="prof"))),
         ("four modes", encode(payload(grants=[grant(["configure", "execute", "write", "read"])]))),
         ("256 grants", encode(payload(grants=[grant(["execute"], T + f"/g/{i}") for i in range(256)]))),
         ("32,768 bytes", sized(32768)),
-        ("texts at their limits", encode(payload(issuer_id="i" * 128, grantor_id="g" * 128, metadata={"k" * 64: "v" * 256}), signature(key_id="x" * 64))),
+        (
+            "texts at their limits",
+            encode(payload(issuer_id="i" * 128, grantor_id="g" * 128, metadata={"k" * 64: "v" * 256}), signature(key_id="x" * 64)),
+        ),
         ("texts of one character", encode(payload(issuer_id="i", grantor_id="g", metadata={"k": ""}), signature(key_id="x"))),
         ("16 pairs of metadata", encode(payload(metadata=pairs(16)))),
         ("8 pairs of constraints", encode(payload(grants=[grant(constraints=pairs(8))]))),
         ("keys of different lengths", encode(payload(metadata={"b": "1", "aa": "2", "ccc": "3"}))),
         ("pattern of 256 bytes", encode(payload(grants=[grant(pattern=T + "/" + "a" * 210)]))),
-        ("upper-case hexadecimal digits", encode(payload(subject_fay_id=FAY.upper().replace("FAY", "fay"), terminal_id=T.replace("7000", "7ABC"), grants=[grant(pattern=T.replace("7000", "7ABC") + "/a")]))),
+        (
+            "upper-case hexadecimal digits",
+            encode(payload(subject_fay_id=FAY.upper().replace("FAY", "fay"), terminal_id=upper, grants=[grant(pattern=upper + "/a")])),
+        ),
         ("signature of ecdsa, 1 byte", encode(g=signature(algorithm="ecdsa-p256-sha256", signature_value=b"s"))),
         ("signature of ecdsa, 72 bytes", encode(g=signature(algorithm="ecdsa-p256-sha256", signature_value=bytes(72)))),
         ("issued_at = not_before", encode(payload(issued_at=2000))),
@@ -217,7 +230,7 @@ def vectors():
         ("period 7,776,001", encode(payload(not_after=2000 + 7776001))),
         ("the longest period", encode(payload(issued_at=0, not_before=0, not_after=2**64 - 1))),
     ]
-    g64 = b"\x58\x40" + bytes(64)
+    issued, issuer = b"\x69issued_at\x19\x03\xe8", b"\x69issuer_id\x63uni"
     bad = [
         ("32,769 bytes", sized(32769)),
         ("no byte", b""),
@@ -226,12 +239,15 @@ def vectors():
         ("version 2", encode(version=2)),
         ("no version", encode(version=None)),
         ("no signature", encode(signature=None)),
-        ("no payload", b"\xa2" + base[1 + 8 + len(cbor2.dumps(payload(), canonical=True)) :]),
+        ("no payload", b"\xa2" + base[1 + 8 + len(dumped(payload())) :]),
         ("a key more", encode(zusatz=1)),
-        ("keys in alphabetical order", b"\xa3" + cbor2.dumps("payload") + cbor2.dumps(payload(), canonical=True) + cbor2.dumps("signature") + cbor2.dumps(signature(), canonical=True) + cbor2.dumps("version") + b"\x01"),
+        (
+            "keys in alphabetical order",
+            b"\xa3\x67payload" + dumped(payload()) + b"\x69signature" + dumped(signature()) + b"\x67version\x01",
+        ),
         ("a key twice", swap(base, b"\xa3\x67payload", b"\xa4\x67version\x01\x67payload")),
         ("payload with a key more", encode(payload(zusatz_schluessel="x"))),
-        ("payload in another order", swap(base, b"\x69issued_at\x19\x03\xe8\x69issuer_id\x63uni", b"\x69issuer_id\x63uni\x69issued_at\x19\x03\xe8")),
+        ("payload in another order", swap(base, issued + issuer, issuer + issued)),
     ]
     bad += [(f"no {k}", encode(payload(**{k: None}))) for k in payload()]
     bad += [(f"no {k}", encode(g=signature(**{k: None}))) for k in signature()]

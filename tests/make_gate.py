@@ -1,7 +1,7 @@
 """The gate among the stored vectors: calls on one image that stays from call to call.
 
-The descriptors are made by the same independent encoder as those of make_descriptors.py. The expected output is from the image, submission and request below,
-which are written from document 01 and know nothing of the Rattle code.
+The descriptors are made by the same independent encoder as those of make_descriptors.py. The expected output is from the image, submission
+and request below, which are written from document 01 and know nothing of the Rattle code.
 """
 import re
 
@@ -190,7 +190,8 @@ class Run:
         self.v.add(FIND, name, find(self.image, ident), [], [ident])
 
     def request(self, name, **more):
-        q = dict(id=bytes(range(16)), fay=FAY, terminal=T, resource=T + "/a/b", mode=0, now=2000, session=100, revoked=b"", verdict=0, valid=(0, 0, 0))
+        q = dict(id=bytes(range(16)), fay=FAY, terminal=T, resource=T + "/a/b", mode=0, now=2000, session=100)
+        q.update(revoked=b"", verdict=0, valid=(0, 0, 0))
         q.update(more)
         numbers = [q["mode"], q["now"], q["session"], q["verdict"], *q["valid"]]
         strings = [q["id"], q["fay"].encode(), q["terminal"].encode(), q["resource"].encode(), q["revoked"]]

@@ -56,7 +56,7 @@ fn call(s: &[u8], at: usize, image: &mut [u8]) {
         8 => show::stored(cap::cap_image_find(image, part(s, at, 2))),
         9 => submit(s, at, image),
         10 => request(s, at, image),
-        _ => show::text(b": no such call\n"),
+        _ => show::text(b": no such call"),
     }
 }
 

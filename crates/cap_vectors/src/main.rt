@@ -29,6 +29,7 @@ fn all(s: &[u8], image: &mut [u8]) {
     let mut len: usize = 0;
     while at < s.len() {
         len = one(s, at, image, len);
+        show::end();
         let next = record::place(s, at, 7);
         if next <= at {
             return;

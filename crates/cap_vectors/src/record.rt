@@ -9,20 +9,15 @@ fn size(s: &[u8], at: usize) -> usize
     octets::number_at(s, at, 4) as usize
 }
 
-// The place after that part; where the bytes have ended, the place itself.
-fn after(s: &[u8], at: usize) -> usize {
-    if s.len() <= at {
-        return at;
-    }
-    at + 4 + size(s, at)
-}
-
-// The place after so many parts.
+// The place after so many parts, or past the end.
 pub(crate) fn place(s: &[u8], at: usize, parts: usize) -> usize {
     let mut place = at;
     let mut left = parts;
     while 0 < left {
-        place = after(s, place);
+        if s.len() <= place {
+            return place;
+        }
+        place = place + 4 + size(s, place);
         left -= 1;
     }
     place

@@ -12,6 +12,7 @@ pub(crate) fn text(s: &[u8]) {
     io::write_all(1, s);
 }
 
+// The end of a line.
 pub(crate) fn end() {
     text(b"\n");
 }
@@ -79,7 +80,6 @@ pub(crate) fn item(s: &[u8], i: ItemNumbers) {
         text(b": ");
         hex(octets::part_at(s, i.content_at as usize, i.content_len as usize));
     }
-    end();
 }
 
 pub(crate) fn descriptor(d: DescriptorNumbers) {
@@ -115,11 +115,10 @@ pub(crate) fn descriptor(d: DescriptorNumbers) {
             d.signature_at,
         ],
     );
-    end();
 }
 
 pub(crate) fn index(n: u64) {
-    number(b"    grant ", n);
+    number(b"\n    grant ", n);
 }
 
 pub(crate) fn grant(g: GrantNumbers) {
@@ -135,13 +134,10 @@ pub(crate) fn grant(g: GrantNumbers) {
             g.constraints_at,
         ],
     );
-    end();
 }
 
 pub(crate) fn matching(m: MatchingNumbers) {
-    number(b": ", m.answer);
-    number(b", yes ", m.yes);
-    end();
+    line(b": #, yes #", &[m.answer, m.yes]);
 }
 
 pub(crate) fn narrowing(n: NarrowingNumbers) {
@@ -150,12 +146,10 @@ pub(crate) fn narrowing(n: NarrowingNumbers) {
         b", grant #, mode #, levels #",
         &[n.grant, n.mode, n.levels],
     );
-    end();
 }
 
 pub(crate) fn stored(f: StoredNumbers) {
     answer(f.answer, b", body # at #", &[f.body_len, f.body_at]);
-    end();
 }
 
 pub(crate) fn decision(d: DecisionNumbers) {
@@ -164,7 +158,6 @@ pub(crate) fn decision(d: DecisionNumbers) {
         b", grant #, mask #, session_end #",
         &[d.grant, d.mask, d.session_end],
     );
-    end();
 }
 
 // A sum over all the bytes, which changes with each of them and with their order.
@@ -180,8 +173,8 @@ fn sum(s: &[u8]) -> u64 {
 
 // How long the image is, how many rows its header names, and the sum over its bytes.
 pub(crate) fn image(s: &[u8]) {
-    number(b"; ", s.len() as u64);
-    number(b" bytes, rows ", octets::number_at(s, 4, 2));
-    number(b", sum ", sum(s));
-    end();
+    line(
+        b"; # bytes, rows #, sum #",
+        &[s.len() as u64, octets::number_at(s, 4, 2), sum(s)],
+    );
 }

@@ -8,6 +8,7 @@ use lib.ListN.{length}
 use Rattle.octets.specs.Bytes.{same}
 use Rattle.octets.specs.Number.{bigEndian}
 use Rattle.exact.specs.Reads.{AllFrom}
+use Rattle.image.specs.Layout.{rowPlace}
 use Rattle.image.specs.Image.{idOf, modesOf, header, row, rowsOf, joined, imageOf, hasId, BodyOk, seenWith, bodyWith}
 use Rattle.image.specs.Promises.{four, LayoutFixed, answerOf, Every, IdsDiffer, HoldsExactly, BodyOfId}
 use Rattle.image.proofs.RowLaws.{id-length, modes-small}
@@ -33,7 +34,7 @@ in-one n h = cons (omega arith) refl
 
 -- `LayoutFixed`.
 pub layout-fixed : LayoutFixed
-unfolding header row rowsOf joined imageOf bigEndian
+unfolding header row rowsOf joined imageOf bigEndian rowPlace
 layout-fixed = (
   λ n. refl,
   id-length,

@@ -21,7 +21,8 @@ use Rattle.descriptor.specs.Answer.{fieldsOf, readingOf}
 use Rattle.descriptor_laws.proofs.Laws.{reads-exactly, seen-handed}
 use Rattle.steps.specs.Key.{isVerdict}
 use Rattle.image.specs.Layout.{idSize}
-use Rattle.image.specs.Image.{reading, Holds, bodyWith}
+use Rattle.image.specs.Image.{reading, bodyWith}
+use Rattle.image.specs.Edition1.{Holds}
 use Rattle.request.specs.declared.search.Matched.{Matched}
 use Rattle.request.specs.Asked.{Asked, highestMode, wellFormed}
 use Rattle.request.specs.Decision.{Facts, factsOf, matchedOn, decisionOf}

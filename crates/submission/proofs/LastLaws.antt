@@ -17,9 +17,10 @@ use Rattle.steps.specs.Order.{Step}
 use Rattle.steps.specs.Laws.{allPass, failsBy}
 use Rattle.steps.proofs.Laws.{passed-end, all-pass, failed-by}
 use Rattle.image.specs.declared.StoredNumbers.{StoredNumbers}
-use Rattle.image.specs.Image.{idOf, imageOf, Holds, bodyWith}
-use Rattle.image.specs.Check.{findOf, numbersOf}
-use Rattle.image.specs.Grow.{withBody}
+use Rattle.image.specs.Image.{idOf, bodyWith}
+use Rattle.image.specs.Check.{numbersOf}
+use Rattle.image.specs.Grow as grow
+use Rattle.image.specs.Edition1.{imageOf, Holds, findOf}
 use Rattle.image.specs.Promises.{refusal}
 use Rattle.octets.proofs.ListLaws.{true-same, other-same}
 use Rattle.image.proofs.Promises.{layout-fixed, lookup-exactly}
@@ -106,7 +107,7 @@ module _ (d : List ℕ) (bs : List (List ℕ)) (c : Descriptor) (clock : ℕ) (w
       stores : length bs < 64 → length (imageOf (larger bs c)) ≤ length d
           → Gives d (encode c) clock 0 window 0 (imageOf (larger bs c) ++ drop (length (imageOf (larger bs c))) d)
           × Holds (afterOf d (encode c) clock 0 window) (larger bs c)
-      unfolding withBody
+      unfolding grow.withBody
       stores few room =
           let q : numberOf (submitted d (encode c) clock 0 window) ≡ 0
           = all-passed (rw (early, open-key, e, lt-ltb (length bs) 64 few, le-leb (length (imageOf (larger bs c))) (length d) room)) in

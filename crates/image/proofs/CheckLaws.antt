@@ -16,9 +16,7 @@ use Rattle.octets.proofs.BytesLaws.{has-part, part-has, has-fits}
 use Rattle.descriptor.specs.declared.Fields.{Fields}
 use Rattle.descriptor.specs.declared.Reading.the-variants.{Read}
 use Rattle.image.specs.declared.layout.Layout.{Layout}
-use Rattle.image.specs.Layout.{modeEdition, headerSize, headerWidth, editionPlace, modesPlace, countPlace, headerZero, idSize}
-use Rattle.image.specs.Layout.{bodyWidth, maskWidth, offsetPlace, lengthPlace, maskPlace, zeroPlace, rowSize, mostRows, zeroSize}
-use Rattle.image.specs.Layout.{rowPlace, LayoutOk}
+use Rattle.image.specs.Layout.{idSize, maskWidth, maskPlace, zeroPlace, rowSize, zeroSize, rowPlace, LayoutOk}
 use Rattle.image.specs.Image.{reading, idOf, row, hasId}
 use Rattle.image.specs.Check.{rowId, rowOffset, rowLength, idAmong, rowFits, rowAt}
 use Rattle.image.specs.Laws.{BodyIn}

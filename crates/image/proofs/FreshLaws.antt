@@ -42,6 +42,6 @@ fresh-header l d h =
 pub new-image : NewImage
 unfolding madeOf afterNew imageOf header rowsOf joined bigEndian
 new-image = (
-  λ d h. let e = le-ltb (length d) 8 h in (rw e, rw e (fresh-header edition1 d h), rw e (fresh-header edition1 d h)),
-  λ d h. let e = lt-ltb (length d) 8 h in (rw e, rw e),
+  λ d h. let e = le-ltb (length d) headerSize h in (rw e, rw e (fresh-header edition1 d h), rw e (fresh-header edition1 d h)),
+  λ d h. let e = lt-ltb (length d) headerSize h in (rw e, rw e),
 )

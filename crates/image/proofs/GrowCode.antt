@@ -1,7 +1,7 @@
 -- Laws that the proofs of growing apply: what the tests, calls and writes of the code say of the definitions of specs/Grow.antt.
 -- Assumes nothing.
 use mathlib.Core.Path.{_≡_, sym, ap, ap₂, _∙_}
-use mathlib.Core.Bool.{Bool, true, false, not, cond, _&&_}
+use mathlib.Core.Bool.{Bool, true, false, not, _&&_}
 use mathlib.Core.List.{List}
 use Prim.Native.Nat.{ℕ, suc, _+_, _-_, _≤_, _<_}
 use native.Mathlib.Omega.{arith}
@@ -12,10 +12,9 @@ use Rattle.octets.specs.Number.{bigEndian, numberIn}
 use Rattle.octets.specs.Write.{putAt, movedUp}
 use Rattle.octets.proofs.Tests.{and-left, and-right}
 use Rattle.octets.proofs.ListLaws.{lent-part}
-use Rattle.image.specs.declared.Added.{Added}
 use Rattle.image.specs.declared.Added.the-variants.{Done, Full}
 use Rattle.image.specs.declared.layout.Layout.{Layout}
-use Rattle.image.specs.Layout.{modeEdition, headerSize, headerWidth, editionPlace, modesPlace, countPlace, headerZero, idSize}
+use Rattle.image.specs.Layout.{headerWidth, countPlace, idSize}
 use Rattle.image.specs.Layout.{bodyWidth, maskWidth, offsetPlace, lengthPlace, maskPlace, zeroPlace, rowSize, mostRows, zeroSize}
 use Rattle.image.specs.Layout.{rowPlace}
 use Rattle.image.specs.Grow.{raised, withRow, grown, fits, addedOf, afterAdd}

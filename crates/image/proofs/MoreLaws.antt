@@ -3,20 +3,17 @@ use mathlib.Core.Path.{_≡_, refl, sym, ap, _∙_, subst}
 use mathlib.Core.Bool.{Bool, true, false, _||_}
 use mathlib.Core.List.{List, [], _∷_, _++_}
 use mathlib.Core.Option.{Option, none, some}
-use Prim.Native.Nat.{ℕ, _+_, _*_, _<_}
+use Prim.Native.Nat.{ℕ, _+_, _<_}
 use native.Mathlib.Omega.{arith}
 use lib.ListN.{length, length-append}
 use Rattle.octets.specs.Bytes.{Has, same}
-use Rattle.octets.proofs.ListLaws.{none-some, true-same, other-same, has-both}
+use Rattle.octets.proofs.ListLaws.{none-some, has-both}
 use Rattle.image.specs.declared.layout.Layout.{Layout}
-use Rattle.image.specs.Layout.{modeEdition, headerSize, headerWidth, editionPlace, modesPlace, countPlace, headerZero, idSize}
-use Rattle.image.specs.Layout.{bodyWidth, maskWidth, offsetPlace, lengthPlace, maskPlace, zeroPlace, rowSize, mostRows, zeroSize}
-use Rattle.image.specs.Layout.{rowPlace, LayoutOk}
+use Rattle.image.specs.Layout.{rowSize, mostRows, rowPlace, LayoutOk}
 use Rattle.image.specs.Image.{reading, isRead, idOf, header, row, rowsOf, joined, imageOf, hasId, BodiesOk, bodyWith}
-use Rattle.image.specs.Laws.{OneMore}
 use Rattle.image.proofs.RowPlaceLaws.{place-next}
 use Rattle.image.proofs.RowLaws.{rows-end, image-length, joined-snoc, rows-snoc}
-use Rattle.image.proofs.ListLaws.{each-snoc, with-new, with-other}
+use Rattle.image.proofs.ListLaws.{each-snoc}
 use Rattle.image.proofs.SoundLaws.{run-whole}
 
 -- An id that has no body is none of the bodies'.

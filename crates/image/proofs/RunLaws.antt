@@ -12,9 +12,7 @@ use Rattle.exact.proofs.ReadsLaws.{bind-got}
 use Rattle.descriptor.specs.declared.Fields.{Fields}
 use Rattle.image.specs.declared.Held.{Held}
 use Rattle.image.specs.declared.layout.Layout.{Layout}
-use Rattle.image.specs.Layout.{modeEdition, headerSize, headerWidth, editionPlace, modesPlace, countPlace, headerZero, idSize}
-use Rattle.image.specs.Layout.{bodyWidth, maskWidth, offsetPlace, lengthPlace, maskPlace, zeroPlace, rowSize, mostRows, zeroSize}
-use Rattle.image.specs.Layout.{rowPlace, LayoutOk}
+use Rattle.image.specs.Layout.{rowSize, rowPlace, LayoutOk}
 use Rattle.image.specs.Image.{reading, idOf, row, rowsOf, joined, BodyOk, seenWith}
 use Rattle.image.specs.Check.{rowId, rowOffset, rowLength, rowAt, noted, rowsFrom, bodiesFrom}
 use Rattle.image.proofs.BodyLaws.{read-in}

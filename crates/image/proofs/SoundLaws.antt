@@ -12,13 +12,12 @@ use Rattle.octets.specs.Number.{bigEndian, numberAt}
 use Rattle.exact.specs.Reads.{got, guard}
 use Rattle.octets.proofs.Tests.{and-left, and-right}
 use Rattle.octets.proofs.BytesLaws.{has-left, has-fits}
-use Rattle.octets.proofs.NumberLaws.{length-bigEndian, number-of-has, has-of-number}
+use Rattle.octets.proofs.NumberLaws.{number-of-has, has-of-number}
 use Rattle.octets.proofs.OverLaws.{has-front}
 use Rattle.image.specs.declared.Held.{Held}
 use Rattle.image.specs.declared.Held.the-variants.{Missing}
 use Rattle.image.specs.declared.layout.Layout.{Layout}
-use Rattle.image.specs.Layout.{modeEdition, headerSize, headerWidth, editionPlace, modesPlace, countPlace, headerZero, idSize}
-use Rattle.image.specs.Layout.{bodyWidth, maskWidth, offsetPlace, lengthPlace, maskPlace, zeroPlace, rowSize, mostRows, zeroSize}
+use Rattle.image.specs.Layout.{modeEdition, headerSize, headerWidth, editionPlace, modesPlace, countPlace, headerZero, mostRows}
 use Rattle.image.specs.Layout.{rowPlace, LayoutOk}
 use Rattle.image.specs.Image.{header, rowsOf, joined, imageOf, BodiesOk, Holds}
 use Rattle.image.specs.Check.{rowCount, headerFits, rowsFrom, checked, bodiesFrom, bodiesOf}

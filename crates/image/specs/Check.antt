@@ -1,6 +1,6 @@
 -- The check of an image and the lookup of an id, in one pass over the rows: what the code answers. A reader of the promises does not
 -- need this page.
-use mathlib.Core.Bool.{Bool, true, false, not, _&&_, _||_}
+use mathlib.Core.Bool.{Bool, true, false, not, _&&_}
 use mathlib.Core.List.{List, [], _∷_}
 use Prim.Native.Nat.{ℕ, zero, suc, _+_}
 use lib.ListN.{length}

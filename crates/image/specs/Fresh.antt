@@ -1,6 +1,6 @@
 -- A new image: what the code answers and writes. A reader of the promises does not need this page.
 use mathlib.Core.Bool.{cond}
-use mathlib.Core.List.{List, []}
+use mathlib.Core.List.{List}
 use Prim.Native.Nat.{ℕ}
 use lib.ListN.{length}
 use lib.Dec.{ltb}

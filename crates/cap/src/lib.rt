@@ -20,6 +20,7 @@ ghost use Rattle.descriptor.specs.Numbers as descriptors;
 ghost use Rattle.grant_reader.specs.Walk.{nthOf};
 ghost use Rattle.image.specs.Check as images;
 ghost use Rattle.image.specs.Fresh as fresh;
+ghost use Rattle.image.specs.Edition1 as edition1;
 ghost use Rattle.submission.specs.Submission as submissions;
 ghost use Rattle.request.specs.Request.{requestOf};
 ghost use Rattle.request.specs.Decision as requests;
@@ -65,7 +66,7 @@ pub extern "C" fn cap_match(pattern: &[u8], resource: &[u8]) -> MatchingNumbers
 // Makes a new image.
 #[no_mangle]
 pub extern "C" fn cap_image_new(image: &mut [u8]) -> u64
-    ensures answer { λ r. ⌜ (r ≡ fresh.numberOf (fresh.madeOf (now (image .entry)))) × (now (image .exit) ≡ fresh.afterNew (now (image .entry))) ⌝ }
+    ensures answer { λ r. ⌜ (r ≡ fresh.numberOf (fresh.madeOf (now (image .entry)))) × (now (image .exit) ≡ edition1.afterNew (now (image .entry))) ⌝ }
     ensures lent { λ _. ⌜ AreBytes (now (image .entry)) ⌝ }
 {
     numbers::of_made(image::new_image(image))
@@ -74,7 +75,7 @@ pub extern "C" fn cap_image_new(image: &mut [u8]) -> u64
 // Looks for the body with the id.
 #[no_mangle]
 pub extern "C" fn cap_image_find(image: &[u8], id: &[u8]) -> StoredNumbers
-    ensures answer { λ r. ⌜ r ≡ images.numbersOf (images.findOf (now (image .entry)) (now (id .entry))) ⌝ }
+    ensures answer { λ r. ⌜ r ≡ images.numbersOf (edition1.findOf (now (image .entry)) (now (id .entry))) ⌝ }
     ensures lent { λ _. ⌜ AreBytes (now (image .entry)) × AreBytes (now (id .entry)) ⌝ }
 {
     numbers::of_finding(image::find(image, id))

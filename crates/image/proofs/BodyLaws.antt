@@ -27,6 +27,7 @@ use Rattle.cbor_item.proofs.Laws.{spans-end}
 use Rattle.descriptor.proofs.GrantBounds.{CountTo, count-bounds, WordTo, word-bounds}
 use Rattle.descriptor.proofs.ModeSteps.{mode-small}
 use Rattle.resource.proofs.Laws.{terminal-length, fay-length}
+use Rattle.image.specs.Layout.{idSize}
 use Rattle.image.specs.Image.{reading}
 use Rattle.image.specs.Laws.{BodyIn, ReadIn}
 
@@ -89,12 +90,12 @@ opening-small s at =
 
 -- ---- identifiers lie in the bytes
 
--- a byte string of 16 lies within s
-id-to : (s : List ℕ) (at : ℕ) → Holds (λ c n. c .start + 16 ≤ length s) (bytesAt s at 16 16)
+-- a byte string of an id's bytes lies within s
+id-to : (s : List ℕ) (at : ℕ) → Holds (λ c n. c .start + idSize ≤ length s) (bytesAt s at idSize idSize)
 unfolding bytesAt within
 id-to s at =
-    holds-bind (SpanTo s at) (λ c n. c .start + 16 ≤ length s) _ _ (spans-end s at 2)
-    (λ c n i. holds-guard (λ c n. c .start + 16 ≤ length s) _ _ (λ t. omega (arith, i .ends, i .fits, leb-true 16 (c .len) (and-left (leb 16 (c .len)) (leb (c .len) 16) (yes t)))))
+    holds-bind (SpanTo s at) (λ c n. c .start + idSize ≤ length s) _ _ (spans-end s at 2)
+    (λ c n i. holds-guard (λ c n. c .start + idSize ≤ length s) _ _ (λ t. omega (arith, i .ends, i .fits, leb-true idSize (c .len) (and-left (leb idSize (c .len)) (leb (c .len) idSize) (yes t)))))
   where
     yes : {b : Bool} → T b → b ≡ true
     yes {b} t = go b t
@@ -104,7 +105,7 @@ id-to s at =
 
 -- what is known of a closing
 pub record ClosingFits (s : List ℕ) (c : Closing) : Type 0 where
-  pub id : c .id + 16 ≤ length s
+  pub id : c .id + idSize ≤ length s
   pub fay : c .fay + 40 ≤ length s
   pub terminal : c .terminal + 45 ≤ length s
 
@@ -115,7 +116,7 @@ closing-fits s at =
     holds-bind (WordTo s (at + length kTerminalId) 45) P _ _
     (holds-guard (WordTo s (at + length kTerminalId) 45) _ _ (λ t. word-bounds isTerminal 45 (λ c e. omega (arith, terminal-length c e)) s (at + length kTerminalId)))
     (λ terminal n i.
-    holds-bind (λ c m. c .start + 16 ≤ length s) P _ _ (holds-guard (λ c m. c .start + 16 ≤ length s) _ _ (λ t. id-to s (n + length kDescriptorId)))
+    holds-bind (λ c m. c .start + idSize ≤ length s) P _ _ (holds-guard (λ c m. c .start + idSize ≤ length s) _ _ (λ t. id-to s (n + length kDescriptorId)))
     (λ id m j.
     holds-bind (WordTo s (m + length kSubjectFayId) 40) P _ _
     (holds-guard (WordTo s (m + length kSubjectFayId) 40) _ _ (λ t. word-bounds isFay 40 (λ c e. omega (arith, fay-length c e)) s (m + length kSubjectFayId)))

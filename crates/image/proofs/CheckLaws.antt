@@ -15,7 +15,8 @@ use Rattle.octets.proofs.Tests.{and-left, and-right, or-true}
 use Rattle.octets.proofs.BytesLaws.{has-part, part-has, has-fits}
 use Rattle.descriptor.specs.declared.Fields.{Fields}
 use Rattle.descriptor.specs.declared.Reading.the-variants.{Read}
-use Rattle.image.specs.Layout.{idSize, rowPlace, rowSize, maskPlace, zeroPlace}
+use Rattle.image.specs.declared.layout.Layout.{Layout}
+use Rattle.image.specs.Layout.{idSize, maskWidth, maskPlace, zeroPlace, rowSize, zeroSize, rowPlace, LayoutOk}
 use Rattle.image.specs.Image.{reading, idOf, row, hasId}
 use Rattle.image.specs.Check.{rowId, rowOffset, rowLength, idAmong, rowFits, rowAt}
 use Rattle.image.specs.Laws.{BodyIn}
@@ -26,125 +27,126 @@ use Rattle.octets.proofs.SameLaws.{same-equal, equal-same}
 use Rattle.octets.proofs.PartLaws.{part-part}
 use Rattle.image.proofs.ListLaws.{has-snoc}
 
--- ---- the bodies before
+module _ (l : Layout) (ok : LayoutOk l) where
+  -- ---- the bodies before
 
--- The bodies of the i rows before: an id is among the ids of the rows exactly where one of them has it.
-pub record Past (s : List ℕ) (seen : List (List ℕ)) (i : ℕ) : Type 0 where
-  pub count : length seen ≡ i
-  pub ids : (id : List ℕ) → idAmong s id i ≡ hasId id seen
+  -- The bodies of the i rows before: an id is among the ids of the rows exactly where one of them has it.
+  pub record Past (s : List ℕ) (seen : List (List ℕ)) (i : ℕ) : Type 0 where
+    pub count : length seen ≡ i
+    pub ids : (id : List ℕ) → idAmong l s id i ≡ hasId id seen
 
--- There is none before the first.
-pub past-none : (s : List ℕ) → Past s [] 0
-unfolding idAmong hasId
-past-none s = record { count = refl; ids = λ id. refl }
+  -- There is none before the first.
+  pub past-none : (s : List ℕ) → Past s [] 0
+  unfolding idAmong hasId
+  past-none s = record { count = refl; ids = λ id. refl }
 
--- A row with a body's id makes one more.
-pub past-more : (s : List ℕ) (seen : List (List ℕ)) (i : ℕ) (b : List ℕ) → Past s seen i → rowId s (rowPlace i) ≡ idOf b
-    → Past s (seen ++ (b ∷ [])) (i + 1)
-past-more s seen i b p e =
-    record {
-      count = omega (arith, length-append seen (b ∷ []), p .count);
-      ids = λ id. ap (idAmong s id) (add-one i) ∙ go id (same (idOf b) id) refl ∙ sym (has-snoc id seen b);
-    }
-  where
-    go : (id : List ℕ) (t : Bool) → same (idOf b) id ≡ t → idAmong s id (suc i) ≡ (hasId id seen || t)
-    go id true h = hit-suc s id i (ap (λ (x : List ℕ). same x id) e ∙ h) ∙ sym (or-true (hasId id seen))
-    go id false h = among-suc s id i (ap (λ (x : List ℕ). same x id) e ∙ h) ∙ p .ids id ∙ sym (or-false (hasId id seen))
-
--- ---- one row
-
--- What the test of a row says.
-record Fits (s : List ℕ) (r at : ℕ) (f : Fields) : Type 0 where
-  id : rowId s r ≡ part s (at + f .id) idSize
-  offset : rowOffset s r ≡ at
-  mask : numberAt s (r + maskPlace) 1 ≡ f .mask
-  zeros : numberAt s (r + zeroPlace) 7 ≡ 0
-
--- It says so where it holds.
-fits-says : (s : List ℕ) (r at : ℕ) (f : Fields) → rowFits s r at f ≡ true → Fits s r at f
-unfolding rowFits
-fits-says s r at f e =
-    let a : Bool = same (rowId s r) (part s (at + f .id) idSize) in
-    let b : Bool = eqb (rowOffset s r) at in
-    let c : Bool = eqb (numberAt s (r + maskPlace) 1) (f .mask) in
-    let d : Bool = eqb (numberAt s (r + zeroPlace) 7) 0 in
-    let e₁ = and-right a (b && (c && d)) e in
-    let e₂ = and-right b (c && d) e₁ in
-    record {
-      id = same-equal (rowId s r) (part s (at + f .id) idSize) (and-left a (b && (c && d)) e);
-      offset = eqb-true (rowOffset s r) at (and-left b (c && d) e₁);
-      mask = eqb-true (numberAt s (r + maskPlace) 1) (f .mask) (and-left c d e₂);
-      zeros = eqb-true (numberAt s (r + zeroPlace) 7) 0 (and-right c d e₂);
-    }
-
--- It holds where it says so.
-says-fits : (s : List ℕ) (r at : ℕ) (f : Fields) → Fits s r at f → rowFits s r at f ≡ true
-unfolding rowFits
-says-fits s r at f q =
-    rw (
-      equal-same (rowId s r) (part s (at + f .id) idSize) (q .id),
-      eq-eqb (rowOffset s r) at (q .offset),
-      eq-eqb (numberAt s (r + maskPlace) 1) (f .mask) (q .mask),
-      eq-eqb (numberAt s (r + zeroPlace) 7) 0 (q .zeros),
-    )
-
--- A body that stands with its row, after those of `seen`.
-pub record Stands (s : List ℕ) (seen : List (List ℕ)) (i at : ℕ) (b : List ℕ) (f : Fields) : Type 0 where
-  pub reads : reading b ≡ Read f
-  pub new : hasId (idOf b) seen ≡ false
-  pub has-row : Has s (rowPlace i) (row at b)
-  pub has-body : Has s at b
-
--- A row that passes the check stands with its body.
-pub row-sound : (s : List ℕ) (seen : List (List ℕ)) (i at : ℕ) (f : Fields) (next : ℕ) → AreBytes s → rowPlace i + rowSize ≤ length s
-    → Past s seen i
-    → got f next ≡ rowAt s i at → (b : List ℕ) × Stands s seen i at b f × (next ≡ at + length b)
-row-sound s seen i at f next bytes room p e =
-    let r : ℕ = rowPlace i in
-    let n : ℕ = rowLength s r in
-    let b : List ℕ = part s at n in
-    let k : RowOk s i at f next = row-is s i at f next e in
-    let q : Fits s r at f = fits-says s r at f (k .fits) in
-    let h = part-has s at n (k .inside) in
-    let w : BodyIn b f = read-in b f (k .reads) in
-    let d : rowId s r ≡ idOf b
-    = q .id ∙ sym (part-part s at n (f .id) idSize (omega (arith, w .id, h .1))) ∙ sym (id-read b f (k .reads)) in (
-      b,
+  -- A row with a body's id makes one more.
+  pub past-more : (s : List ℕ) (seen : List (List ℕ)) (i : ℕ) (b : List ℕ) → Past s seen i → rowId s (rowPlace l i) ≡ idOf b
+      → Past s (seen ++ (b ∷ [])) (i + 1)
+  past-more s seen i b p e =
       record {
-        reads = k .reads;
-        new = ap (λ (x : List ℕ). hasId x seen) (sym d) ∙ sym (p .ids (rowId s r)) ∙ k .new;
-        has-row = says-row s r at b bytes (record {
-          inside = room;
-          id = d;
-          offset = q .offset;
-          size = sym (h .1);
-          mask = q .mask ∙ sym (modes-read b f (k .reads));
-          zeros = q .zeros;
-        });
-        has-body = h .0;
-      },
-      k .end ∙ ap (λ (m : ℕ). at + m) (sym (h .1)),
-    )
+        count = omega (arith, length-append seen (b ∷ []), p .count);
+        ids = λ id. ap (idAmong l s id) (add-one i) ∙ go id (same (idOf b) id) refl ∙ sym (has-snoc id seen b);
+      }
+    where
+      go : (id : List ℕ) (t : Bool) → same (idOf b) id ≡ t → idAmong l s id (suc i) ≡ (hasId id seen || t)
+      go id true h = hit-suc l s id i (ap (λ (x : List ℕ). same x id) e ∙ h) ∙ sym (or-true (hasId id seen))
+      go id false h = among-suc l s id i (ap (λ (x : List ℕ). same x id) e ∙ h) ∙ p .ids id ∙ sym (or-false (hasId id seen))
 
--- The row of a body that stands says where it lies.
-pub stands-says : (s : List ℕ) (seen : List (List ℕ)) (i at : ℕ) (b : List ℕ) (f : Fields) → at < 4294967296 → Stands s seen i at b f
-    → RowSays s (rowPlace i) at b
-stands-says s seen i at b f small h = row-says s (rowPlace i) at b small (omega (arith, read-in b f (h .reads) .short)) (h .has-row)
+  -- ---- one row
 
--- A body that stands with its row passes the check.
-pub row-complete : (s : List ℕ) (seen : List (List ℕ)) (i at : ℕ) (b : List ℕ) (f : Fields) → at < 4294967296 → Past s seen i
-    → Stands s seen i at b f
-    → got f (at + length b) ≡ rowAt s i at
-unfolding rowAt guard
-row-complete s seen i at b f small p h =
-    let r : ℕ = rowPlace i in
-    let q : RowSays s r at b = stands-says s seen i at b f small h in
-    let w : BodyIn b f = read-in b f (h .reads) in
-    let body : part s at (length b) ≡ b = has-part s at b (h .has-body) in
-    let inside : at + length b ≤ length s = has-fits s at b (w .filled) (h .has-body) in
-    let mine : idOf b ≡ part s (at + f .id) idSize
-    = id-read b f (h .reads) ∙ ap (λ (x : List ℕ). part x (f .id) idSize) (sym body) ∙ part-part s at (length b) (f .id) idSize (w .id) in
-    let fits : rowFits s r at f ≡ true
-    = says-fits s r at f (record { id = q .id ∙ mine; offset = q .offset; mask = q .mask ∙ modes-read b f (h .reads); zeros = q .zeros }) in
-    let new : idAmong s (rowId s r) i ≡ false = p .ids (rowId s r) ∙ ap (λ (x : List ℕ). hasId x seen) (q .id) ∙ h .new in
-    rw (q .size, body, h .reads, le-leb (at + length b) (length s) inside, fits, new)
+  -- What the test of a row says.
+  record Fits (s : List ℕ) (r at : ℕ) (f : Fields) : Type 0 where
+    id : rowId s r ≡ part s (at + f .id) idSize
+    offset : rowOffset s r ≡ at
+    mask : numberAt s (r + maskPlace) maskWidth ≡ f .mask
+    zeros : numberAt s (r + zeroPlace) (zeroSize l) ≡ 0
+
+  -- It says so where it holds.
+  fits-says : (s : List ℕ) (r at : ℕ) (f : Fields) → rowFits l s r at f ≡ true → Fits s r at f
+  unfolding rowFits
+  fits-says s r at f e =
+      let a : Bool = same (rowId s r) (part s (at + f .id) idSize) in
+      let b : Bool = eqb (rowOffset s r) at in
+      let c : Bool = eqb (numberAt s (r + maskPlace) maskWidth) (f .mask) in
+      let d : Bool = eqb (numberAt s (r + zeroPlace) (zeroSize l)) 0 in
+      let e₁ = and-right a (b && (c && d)) e in
+      let e₂ = and-right b (c && d) e₁ in
+      record {
+        id = same-equal (rowId s r) (part s (at + f .id) idSize) (and-left a (b && (c && d)) e);
+        offset = eqb-true (rowOffset s r) at (and-left b (c && d) e₁);
+        mask = eqb-true (numberAt s (r + maskPlace) maskWidth) (f .mask) (and-left c d e₂);
+        zeros = eqb-true (numberAt s (r + zeroPlace) (zeroSize l)) 0 (and-right c d e₂);
+      }
+
+  -- It holds where it says so.
+  says-fits : (s : List ℕ) (r at : ℕ) (f : Fields) → Fits s r at f → rowFits l s r at f ≡ true
+  unfolding rowFits
+  says-fits s r at f q =
+      rw (
+        equal-same (rowId s r) (part s (at + f .id) idSize) (q .id),
+        eq-eqb (rowOffset s r) at (q .offset),
+        eq-eqb (numberAt s (r + maskPlace) maskWidth) (f .mask) (q .mask),
+        eq-eqb (numberAt s (r + zeroPlace) (zeroSize l)) 0 (q .zeros),
+      )
+
+  -- A body that stands with its row, after those of `seen`.
+  pub record Stands (s : List ℕ) (seen : List (List ℕ)) (i at : ℕ) (b : List ℕ) (f : Fields) : Type 0 where
+    pub reads : reading b ≡ Read f
+    pub new : hasId (idOf b) seen ≡ false
+    pub has-row : Has s (rowPlace l i) (row l at b)
+    pub has-body : Has s at b
+
+  -- A row that passes the check stands with its body.
+  pub row-sound : (s : List ℕ) (seen : List (List ℕ)) (i at : ℕ) (f : Fields) (next : ℕ) → AreBytes s → rowPlace l i + rowSize l ≤ length s
+      → Past s seen i
+      → got f next ≡ rowAt l s i at → (b : List ℕ) × Stands s seen i at b f × (next ≡ at + length b)
+  row-sound s seen i at f next bytes room p e =
+      let r : ℕ = rowPlace l i in
+      let n : ℕ = rowLength s r in
+      let b : List ℕ = part s at n in
+      let k : RowOk l s i at f next = row-is l s i at f next e in
+      let q : Fits s r at f = fits-says s r at f (k .fits) in
+      let h = part-has s at n (k .inside) in
+      let w : BodyIn b f = read-in b f (k .reads) in
+      let d : rowId s r ≡ idOf b
+      = q .id ∙ sym (part-part s at n (f .id) idSize (omega (arith, w .id, h .1))) ∙ sym (id-read b f (k .reads)) in (
+        b,
+        record {
+          reads = k .reads;
+          new = ap (λ (x : List ℕ). hasId x seen) (sym d) ∙ sym (p .ids (rowId s r)) ∙ k .new;
+          has-row = says-row l ok s r at b bytes (record {
+            inside = room;
+            id = d;
+            offset = q .offset;
+            size = sym (h .1);
+            mask = q .mask ∙ sym (modes-read b f (k .reads));
+            zeros = q .zeros;
+          });
+          has-body = h .0;
+        },
+        k .end ∙ ap (λ (m : ℕ). at + m) (sym (h .1)),
+      )
+
+  -- The row of a body that stands says where it lies.
+  pub stands-says : (s : List ℕ) (seen : List (List ℕ)) (i at : ℕ) (b : List ℕ) (f : Fields) → at < 4294967296 → Stands s seen i at b f
+      → RowSays l ok s (rowPlace l i) at b
+  stands-says s seen i at b f small h = row-says l ok s (rowPlace l i) at b small (omega (arith, read-in b f (h .reads) .short)) (h .has-row)
+
+  -- A body that stands with its row passes the check.
+  pub row-complete : (s : List ℕ) (seen : List (List ℕ)) (i at : ℕ) (b : List ℕ) (f : Fields) → at < 4294967296 → Past s seen i
+      → Stands s seen i at b f
+      → got f (at + length b) ≡ rowAt l s i at
+  unfolding rowAt guard
+  row-complete s seen i at b f small p h =
+      let r : ℕ = rowPlace l i in
+      let q : RowSays l ok s r at b = stands-says s seen i at b f small h in
+      let w : BodyIn b f = read-in b f (h .reads) in
+      let body : part s at (length b) ≡ b = has-part s at b (h .has-body) in
+      let inside : at + length b ≤ length s = has-fits s at b (w .filled) (h .has-body) in
+      let mine : idOf b ≡ part s (at + f .id) idSize
+      = id-read b f (h .reads) ∙ ap (λ (x : List ℕ). part x (f .id) idSize) (sym body) ∙ part-part s at (length b) (f .id) idSize (w .id) in
+      let fits : rowFits l s r at f ≡ true
+      = says-fits s r at f (record { id = q .id ∙ mine; offset = q .offset; mask = q .mask ∙ modes-read b f (h .reads); zeros = q .zeros }) in
+      let new : idAmong l s (rowId s r) i ≡ false = p .ids (rowId s r) ∙ ap (λ (x : List ℕ). hasId x seen) (q .id) ∙ h .new in
+      rw (q .size, body, h .reads, le-leb (at + length b) (length s) inside, fits, new)

@@ -13,6 +13,7 @@ use Rattle.descriptor.specs.declared.Reading.{Reading}
 use Rattle.descriptor.specs.declared.Reading.the-variants.{Read, Structure, Validity}
 use Rattle.image.specs.declared.Held.{Held}
 use Rattle.image.specs.declared.Held.the-variants.{Missing, Body}
+use Rattle.image.specs.declared.layout.Layout.{Layout}
 use Rattle.image.specs.Layout.{rowPlace}
 use Rattle.image.specs.Image.{reading, idOf, joined, hasId, BodyOk, seenWith, bodyWith}
 use Rattle.image.specs.Check.{noted}
@@ -35,8 +36,8 @@ heldFrom id at h [] = h
 heldFrom id at h (b ∷ bs) = heldFrom id (at + length b) (heldAfter (same (idOf b) id) h at (length b) (reading b)) bs
 
 -- What is held of the bodies of an image.
-unfoldable pub heldIn : List ℕ → List (List ℕ) → Held
-heldIn id bs = heldFrom id (rowPlace (length bs)) Missing bs
+unfoldable pub heldIn : Layout → List ℕ → List (List ℕ) → Held
+heldIn l id bs = heldFrom id (rowPlace l (length bs)) Missing bs
 
 -- ---- it is the body with the id
 

@@ -1,6 +1,8 @@
--- The statements of specs/Laws.antt, each from its law. Assumes nothing.
+-- The statements of specs/Laws.antt at edition 1, each from its law. Assumes nothing.
+use Rattle.image.specs.Layout.{edition1}
 use Rattle.image.specs.Laws.{ReadIn, ReadNamed, BodyRead, EncodingRead, BodyWithExactly, BodiesNamed, SurveyTells, SurveySays}
 use Rattle.image.specs.Laws.{SurveyUnsound, EditionsSurveyed, SurveyInside, BodyAdded, OneMore}
+use Rattle.image.proofs.RowPlaceLaws.{edition1-ok}
 use Rattle.image.proofs.BodyLaws as body
 use Rattle.image.proofs.ReadLaws as read
 use Rattle.image.proofs.PlaceLaws as place
@@ -24,33 +26,33 @@ encoding-read = read.encoding-read
 
 -- ---- the body with an id
 
-pub body-with-exactly : BodyWithExactly
-body-with-exactly = place.body-with-exactly
+pub body-with-exactly : BodyWithExactly edition1
+body-with-exactly = place.body-with-exactly edition1
 
-pub bodies-named : BodiesNamed
-bodies-named = survey.bodies-named
+pub bodies-named : BodiesNamed edition1
+bodies-named = survey.bodies-named edition1 edition1-ok
 
 -- ---- what a survey says
 
-pub survey-tells : SurveyTells
-survey-tells = survey.survey-tells
+pub survey-tells : SurveyTells edition1
+survey-tells = survey.survey-tells edition1 edition1-ok
 
-pub survey-says : SurveySays
-survey-says = survey.survey-says
+pub survey-says : SurveySays edition1
+survey-says = survey.survey-says edition1 edition1-ok
 
-pub survey-unsound : SurveyUnsound
-survey-unsound = survey.survey-unsound
+pub survey-unsound : SurveyUnsound edition1
+survey-unsound = survey.survey-unsound edition1 edition1-ok
 
-pub editions-surveyed : EditionsSurveyed
-editions-surveyed = survey.editions-surveyed
+pub editions-surveyed : EditionsSurveyed edition1
+editions-surveyed = survey.editions-surveyed edition1 edition1-ok
 
-pub survey-inside : SurveyInside
-survey-inside = survey.survey-inside
+pub survey-inside : SurveyInside edition1
+survey-inside = survey.survey-inside edition1 edition1-ok
 
 -- ---- one body more
 
-pub body-added : BodyAdded
-body-added = grow.body-added
+pub body-added : BodyAdded edition1
+body-added = grow.body-added edition1 edition1-ok
 
-pub one-more : OneMore
-one-more = grow.one-more
+pub one-more : OneMore edition1
+one-more = grow.one-more edition1 edition1-ok

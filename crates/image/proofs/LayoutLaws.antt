@@ -8,6 +8,7 @@ use lib.ListN.{length}
 use Rattle.octets.specs.Bytes.{same}
 use Rattle.octets.specs.Number.{bigEndian}
 use Rattle.exact.specs.Reads.{AllFrom}
+use Rattle.image.specs.Layout.{bodyWidth, maskWidth, edition1, zeroSize, rowPlace}
 use Rattle.image.specs.Image.{idOf, modesOf, header, row, rowsOf, joined, imageOf, hasId, BodyOk, seenWith, bodyWith}
 use Rattle.image.specs.Promises.{four, LayoutFixed, answerOf, Every, IdsDiffer, HoldsExactly, BodyOfId}
 use Rattle.image.proofs.RowLaws.{id-length, modes-small}
@@ -23,18 +24,18 @@ cons : {x y : ℕ} {xs ys : List ℕ} → x ≡ y → xs ≡ ys → (x ∷ xs) �
 cons e f = ap₂ (λ (a : ℕ) (l : List ℕ). a ∷ l) e f
 
 -- A number in 4 bytes.
-in-four : (n : ℕ) → bigEndian 4 n ≡ four n
+in-four : (n : ℕ) → bigEndian bodyWidth n ≡ four n
 unfolding bigEndian
 in-four n = cons (omega arith) (cons (omega arith) refl)
 
 -- A number below 256 in one byte.
-in-one : (n : ℕ) → n < 256 → bigEndian 1 n ≡ n ∷ []
+in-one : (n : ℕ) → n < 256 → bigEndian maskWidth n ≡ n ∷ []
 unfolding bigEndian
 in-one n h = cons (omega arith) refl
 
 -- `LayoutFixed`.
 pub layout-fixed : LayoutFixed
-unfolding header row rowsOf joined imageOf bigEndian
+unfolding header row rowsOf joined imageOf bigEndian rowPlace
 layout-fixed = (
   λ n. refl,
   id-length,
@@ -42,7 +43,7 @@ layout-fixed = (
       ap (λ (l : List ℕ). idOf b ++ l)
       (ap₂ (λ (x y : List ℕ). x ++ y) (in-four at)
       (ap₂ (λ (x y : List ℕ). x ++ y) (in-four (length b))
-      (ap (λ (x : List ℕ). x ++ bigEndian 7 0) (in-one (modesOf b) (omega (arith, modes-small b)))))),
+      (ap (λ (x : List ℕ). x ++ bigEndian (zeroSize edition1) 0) (in-one (modesOf b) (omega (arith, modes-small b)))))),
   λ at. refl,
   λ at b bs. refl,
   refl,

@@ -1,3 +1,4 @@
+pub mod RowPlaceLaws
 pub mod BodyLaws
 pub mod StepLaws
 pub mod RowLaws

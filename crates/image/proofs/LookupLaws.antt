@@ -19,26 +19,28 @@ use Rattle.image.specs.declared.Survey.{Survey}
 use Rattle.image.specs.declared.Survey.the-variants.{Sound, Unsound}
 use Rattle.image.specs.declared.Finding.{Finding}
 use Rattle.image.specs.declared.Finding.the-variants.{Found, BadId, BadImage, NotHeld}
-use Rattle.image.specs.Image.{imageOf, Holds, bodyWith}
-use Rattle.image.specs.Check.{surveyOf, bodiesOf, heldAt, foundIn, findOf, bodySpan, numbersOf}
+use Rattle.image.specs.Layout.{idSize}
+use Rattle.image.specs.Image.{bodyWith}
+use Rattle.image.specs.Check.{heldAt, foundIn, findOf as find-of, bodySpan, numbersOf}
+use Rattle.image.specs.Edition1.{imageOf, Holds, surveyOf, bodiesOf, findOf}
 use Rattle.image.specs.Promises.{refusal, FoundAt, LookupExactly, SoundExactly, EditionsKnown, BodyHanded}
 use Rattle.image.specs.Laws.{HeldIs, SurveyFits}
-use Rattle.image.proofs.SurveyLaws.{survey-tells, survey-says, survey-unsound, survey-inside, editions-surveyed}
+use Rattle.image.proofs.Laws.{survey-tells, survey-says, survey-unsound, survey-inside, editions-surveyed}
 
 -- ---- what a lookup answers
 
 -- An id of 16 bytes is looked for in the survey.
-pub find-in : (s id : List ℕ) → length id ≡ 16 → findOf s id ≡ foundIn (surveyOf s id)
-unfolding findOf
-find-in s id l = rw (eq-eqb (length id) 16 l, findOf)
+pub find-in : (s id : List ℕ) → length id ≡ idSize → findOf s id ≡ foundIn (surveyOf s id)
+unfolding find-of
+find-in s id l = rw (eq-eqb (length id) idSize l, find-of)
 
 -- Another is refused.
-find-bad : (s id : List ℕ) → (length id ≡ 16 → ⊥) → numbersOf (findOf s id) ≡ refusal 15
-unfolding findOf
-find-bad s id l = rw (ne-eqb (length id) 16 l, findOf)
+find-bad : (s id : List ℕ) → (length id ≡ idSize → ⊥) → numbersOf (findOf s id) ≡ refusal 15
+unfolding find-of
+find-bad s id l = rw (ne-eqb (length id) idSize l, find-of)
 
 -- A survey that calls the image unsound is answered 16.
-unsound-16 : (s id : List ℕ) → length id ≡ 16 → surveyOf s id ≡ Unsound → numbersOf (findOf s id) ≡ refusal 16
+unsound-16 : (s id : List ℕ) → length id ≡ idSize → surveyOf s id ≡ Unsound → numbersOf (findOf s id) ≡ refusal 16
 unsound-16 s id l e = ap numbersOf (find-in s id l) ∙ ap (λ (v : Survey). numbersOf (foundIn v)) e
 
 -- `LookupExactly`.
@@ -95,8 +97,8 @@ FindFits s NotHeld = Unit {0}
 
 -- It does so for every id.
 pub find-fits : (s id : List ℕ) → AreBytes s → FindFits s (findOf s id)
-unfolding findOf
-find-fits s id bytes = test (eqb (length id) 16)
+unfolding find-of
+find-fits s id bytes = test (eqb (length id) idSize)
   where
     go : (v : Survey) → SurveyFits s v → FindFits s (foundIn v)
     go (Sound n end Missing) k = tt

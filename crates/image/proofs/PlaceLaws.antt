@@ -11,6 +11,7 @@ use Rattle.octets.proofs.SameLaws.{same-equal, equal-same}
 use Rattle.octets.proofs.OptionLaws.{some-same, none-some}
 use Rattle.octets.proofs.Tests.{or-true}
 use Rattle.exact.specs.Reads.{AllFrom}
+use Rattle.image.specs.declared.layout.Layout.{Layout}
 use Rattle.image.specs.Image.{idOf, hasId, BodyOk, seenWith, bodyWith}
 use Rattle.image.specs.Laws.{BodyWithExactly}
 use Rattle.image.proofs.ListLaws.{has-snoc, rest-new, with-first, with-rest}
@@ -51,8 +52,8 @@ with-place id (x ∷ bs) b e = go (same (idOf x) id) refl e (with-place id bs b)
     go false t f k = let w = k f in (w .0, (suc (w .1 .0), omega (arith, w .1 .1), w .1 .2))
 
 -- `BodyWithExactly`.
-pub body-with-exactly : BodyWithExactly
-body-with-exactly id bs b o = (
+pub body-with-exactly : (l : Layout) → BodyWithExactly l
+body-with-exactly l id bs b o = (
   with-place id bs b,
   λ w. ap (λ (x : List ℕ). bodyWith x bs) (sym (w .0)) ∙ place-with [] bs (w .1 .0) b (o .each) (w .1 .1) (w .1 .2),
 )

@@ -1,6 +1,8 @@
 -- The promises of specs/Promises.antt, each from its law. Assumes nothing.
 use Rattle.image.specs.Promises.{LayoutFixed, RowOfBody, MaskSmall, HoldsExactly, BodiesOnce, BodyOfId, LookupExactly, SoundExactly}
 use Rattle.image.specs.Promises.{EditionsKnown, BodyHanded, NewImage}
+use Rattle.image.specs.Layout.{edition1}
+use Rattle.image.proofs.RowPlaceLaws.{edition1-ok}
 use Rattle.image.proofs.RowLaws as row
 use Rattle.image.proofs.ReadLaws as read
 use Rattle.image.proofs.LayoutLaws as layout
@@ -25,7 +27,7 @@ pub holds-exactly : HoldsExactly
 holds-exactly = layout.holds-exactly
 
 pub bodies-once : BodiesOnce
-bodies-once = survey.bodies-once
+bodies-once = survey.bodies-once edition1 edition1-ok
 
 pub body-of-id : BodyOfId
 body-of-id = layout.body-of-id

@@ -1,8 +1,8 @@
 -- What the writes of one row leave (specs/Grow.antt): an offset raised, all offsets raised, a row written in pieces, the row count
 -- written. Assumes nothing.
-use mathlib.Core.Path.{_≡_, refl, sym, ap, _∙_, subst}
+use mathlib.Core.Path.{_≡_, sym, ap, _∙_, subst}
 use mathlib.Core.List.{List, [], _∷_, _++_, append-assoc}
-use Prim.Native.Nat.{ℕ, suc, _+_, _*_, _≤_, _<_}
+use Prim.Native.Nat.{ℕ, suc, _+_, _≤_, _<_}
 use native.Mathlib.Omega.{arith}
 use lib.ListN.{length, length-append}
 use Rattle.octets.specs.Bytes.{part, Has}
@@ -13,72 +13,24 @@ use Rattle.octets.specs.Write.{over, putAt}
 use Rattle.octets.proofs.OverLaws.{over-has, over-append, Kept, kept-over, kept-has, kept-join, kept-self, put-fits}
 use Rattle.descriptor.specs.declared.Fields.{Fields}
 use Rattle.descriptor.specs.declared.Reading.the-variants.{Read}
-use Rattle.image.specs.Layout.{imageEdition, modeEdition, rowSize, rowPlace, idSize, offsetPlace, lengthPlace, maskPlace, zeroPlace}
+use Rattle.image.specs.declared.layout.Layout.{Layout}
+use Rattle.image.specs.Layout.{modeEdition, headerSize, headerWidth, editionPlace, modesPlace, countPlace, headerZero, idSize}
+use Rattle.image.specs.Layout.{bodyWidth, maskWidth, offsetPlace, lengthPlace, maskPlace, zeroPlace, rowSize, zeroSize}
+use Rattle.image.specs.Layout.{rowPlace, LayoutOk}
 use Rattle.image.specs.Image.{reading, idOf, modesOf, header, row, rowsOf, joined}
 use Rattle.image.specs.Grow.{raised, withRow}
-use Rattle.image.proofs.RowLaws.{id-read, modes-read, id-length, row-length, RowParts, row-parts, parts-row}
+use Rattle.image.proofs.RowLaws.{id-read, modes-read, id-length, row-length, header-parts, parts-header, RowParts}
+use Rattle.image.proofs.RowLaws.{row-parts, parts-row}
+use Rattle.image.proofs.RowPlaceLaws.{place-next, place-order}
 
 -- ---- offsets
 
 -- What is kept but for some bytes is kept but for more.
 pub kept-wide : (d d′ : List ℕ) (from to a b : ℕ) → Kept d d′ from to → a ≤ from → to ≤ b → Kept d d′ a b
-kept-wide d d′ from to a b k h l = kept-join d d d′ from to from to a b (kept-self d from to) k h h l l
-
--- The offset of a row raised by a row's size: the row of the body that lies so much higher, and no other byte is changed.
-pub row-raised : (d : List ℕ) (r at : ℕ) (b : List ℕ) → at < 4294967296 → Has d r (row at b)
-    → Has (putAt d (r + offsetPlace) (bigEndian 4 (numberIn d (r + offsetPlace) 4 + rowSize))) r (row (at + rowSize) b)
-    × Kept d (putAt d (r + offsetPlace) (bigEndian 4 (numberIn d (r + offsetPlace) 4 + rowSize))) r (r + rowSize)
-row-raised d r at b small h =
-    let p : RowParts d r at b = row-parts d r at b h in
-    let l : length (row at b) ≡ rowSize = row-length at b in
-    let i : r + rowSize ≤ length d = omega (arith, has-fits d r (row at b) (omega arith) h) in
-    let v : numberIn d (r + offsetPlace) 4 ≡ at = number-in d (r + offsetPlace) 4 (omega arith) (omega arith) ∙ number-of-has d (r + offsetPlace) 4 at small (omega arith) (p .offset) in
-    let new : List ℕ = bigEndian 4 (at + rowSize) in
-    let m : length new ≡ 4 = length-bigEndian 4 (at + rowSize) in
-    let fit : (r + offsetPlace) + length new ≤ length d = omega arith in
-    let d′ : List ℕ = over d (r + offsetPlace) new in
-    let k : Kept d d′ (r + offsetPlace) ((r + offsetPlace) + length new) = kept-over d (r + offsetPlace) new fit in
-    let q : RowParts d′ r (at + rowSize) b = record {
-      id = k .before r (idOf b) (omega (arith, id-length b)) (p .id);
-      offset = over-has d (r + offsetPlace) new fit;
-      size = kept-has d d′ _ _ (r + lengthPlace) _ k (omega arith) (p .size);
-      mask = kept-has d d′ _ _ (r + maskPlace) _ k (omega arith) (p .mask);
-      zeros = kept-has d d′ _ _ (r + zeroPlace) _ k (omega arith) (p .zeros);
-    } in
-    let e : putAt d (r + offsetPlace) (bigEndian 4 (numberIn d (r + offsetPlace) 4 + rowSize)) ≡ d′
-    = ap (λ (n : ℕ). putAt d (r + offsetPlace) (bigEndian 4 (n + rowSize))) v ∙ put-fits d (r + offsetPlace) new fit in
-    subst (λ (x : List ℕ). Has x r (row (at + rowSize) b) × Kept d x r (r + rowSize)) (sym e)
-    (parts-row d′ r (at + rowSize) b q, kept-wide d d′ (r + offsetPlace) ((r + offsetPlace) + length new) r (r + rowSize) k (omega arith) (omega arith))
-
--- The offsets of all rows raised: the rows of the bodies that lie so much higher, and no other byte is changed.
-pub rows-raised : (d : List ℕ) (i at : ℕ) (bs : List (List ℕ)) → at + length (joined bs) < 4294967296 → Has d (rowPlace i) (rowsOf at bs)
-    → Has (raised d (length bs) i) (rowPlace i) (rowsOf (at + rowSize) bs)
-    × Kept d (raised d (length bs) i) (rowPlace i) (rowPlace i + rowSize * length bs)
-unfolding raised rowsOf joined
-rows-raised d i at [] small h = (h, kept-self d (rowPlace i) (rowPlace i + 0))
-rows-raised d i at (b ∷ bs) small h =
-    let r : ℕ = rowPlace i in
-    let next : ℕ = rowPlace (i + 1) in
-    let step : r + rowSize ≡ next = omega arith in
-    let rest : List ℕ = rowsOf (at + length b) bs in
-    let short : at + (length b + length (joined bs)) < 4294967296 = omega (arith, length-append b (joined bs)) in
-    let d′ : List ℕ = putAt d (r + offsetPlace) (bigEndian 4 (numberIn d (r + offsetPlace) 4 + rowSize)) in
-    let x = row-raised d r at b (omega arith) (has-left d r (row at b) rest h) in
-    let g : Has d′ next rest = kept-has d d′ r (r + rowSize) next rest (x .1) (omega arith) (has-after d r rowSize next (row at b) rest (row-length at b) step h) in
-    let y = rows-raised d′ (i + 1) (at + length b) bs (omega arith) g in
-    let d″ : List ℕ = raised d′ (length bs) (i + 1) in
-    let s : (at + length b) + rowSize ≡ (at + rowSize) + length b = omega arith in
-    let first : Has d″ r (row (at + rowSize) b) = y .1 .before r (row (at + rowSize) b) (omega (arith, row-length (at + rowSize) b)) (x .0) in (
-      has-both d″ r rowSize next (row (at + rowSize) b) (rowsOf ((at + rowSize) + length b) bs)
-          (row-length (at + rowSize) b) step first (subst (λ (n : ℕ). Has d″ next (rowsOf n bs)) s (y .0)),
-      kept-join d d′ d″ r (r + rowSize) next (next + rowSize * length bs) r (r + rowSize * suc (length bs)) (x .1) (y .1) (omega arith)
-          (omega arith) (omega arith) (omega arith),
-    )
-
--- ---- a row in pieces
+kept-wide d d′ from to a b k h m = kept-join d d d′ from to from to a b (kept-self d from to) k h h m m
 
 -- A piece written right after another is the two written together.
-put-next : (d : List ℕ) (r : ℕ) (s t : List ℕ) (p : ℕ) → r + length s ≡ p → p + length t ≤ length d
+pub put-next : (d : List ℕ) (r : ℕ) (s t : List ℕ) (p : ℕ) → r + length s ≡ p → p + length t ≤ length d
     → putAt (over d r s) p t ≡ over d r (s ++ t)
 put-next d r s t p e h =
     let k : Kept d (over d r s) r (r + length s) = kept-over d r s (omega arith) in
@@ -88,55 +40,105 @@ put-next d r s t p e h =
 five : (a b c d e : List ℕ) → (((a ++ b) ++ c) ++ d) ++ e ≡ a ++ (b ++ (c ++ (d ++ e)))
 five a b c d e = simp append-assoc
 
--- The row of a body, written in its five pieces, is the row written.
-pub with-row : (d : List ℕ) (r at : ℕ) (b : List ℕ) (f : Fields) → reading b ≡ Read f → r + rowSize ≤ length d
-    → withRow d r at b (f .id) (f .mask) ≡ over d r (row at b)
-unfolding withRow row
-with-row d r at b f e room =
-    let i : List ℕ = idOf b in
-    let o : List ℕ = bigEndian 4 at in
-    let n : List ℕ = bigEndian 4 (length b) in
-    let m : List ℕ = bigEndian 1 (modesOf b) in
-    let z : List ℕ = bigEndian 7 0 in
-    let li : length i ≡ idSize = id-length b in
-    let lo : length o ≡ 4 = length-bigEndian 4 at in
-    let ln : length n ≡ 4 = length-bigEndian 4 (length b) in
-    let lm : length m ≡ 1 = length-bigEndian 1 (modesOf b) in
-    let lz : length z ≡ 7 = length-bigEndian 7 0 in
-    let l₂ : length (i ++ o) ≡ lengthPlace = omega (arith, length-append i o) in
-    let l₃ : length ((i ++ o) ++ n) ≡ maskPlace = omega (arith, length-append (i ++ o) n) in
-    let l₄ : length (((i ++ o) ++ n) ++ m) ≡ zeroPlace = omega (arith, length-append ((i ++ o) ++ n) m) in
-    let e₁ : putAt d r (part b (f .id) idSize) ≡ over d r i = ap (putAt d r) (sym (id-read b f e)) ∙ put-fits d r i (omega arith) in
-    let e₂ : putAt (over d r i) (r + offsetPlace) o ≡ over d r (i ++ o) = put-next d r i o (r + offsetPlace) (omega arith) (omega arith) in
-    let e₃ : putAt (over d r (i ++ o)) (r + lengthPlace) n ≡ over d r ((i ++ o) ++ n) = put-next d r (i ++ o) n (r + lengthPlace) (omega arith) (omega arith) in
-    let e₄ : putAt (over d r ((i ++ o) ++ n)) (r + maskPlace) m ≡ over d r (((i ++ o) ++ n) ++ m) = put-next d r ((i ++ o) ++ n) m (r + maskPlace) (omega arith) (omega arith) in
-    let e₅ : putAt (over d r (((i ++ o) ++ n) ++ m)) (r + zeroPlace) z ≡ over d r ((((i ++ o) ++ n) ++ m) ++ z)
-    = put-next d r (((i ++ o) ++ n) ++ m) z (r + zeroPlace) (omega arith) (omega arith) in
-    rw (e₁, e₂, e₃, ← modes-read b f e, e₄, e₅) (ap (over d r) (five i o n m z))
+module _ (l : Layout) (ok : LayoutOk l) where
+  -- The offset of a row raised by a row's size: the row of the body that lies so much higher, and no other byte is changed.
+  pub row-raised : (d : List ℕ) (r at : ℕ) (b : List ℕ) → at < 4294967296 → Has d r (row l at b)
+      → Has (putAt d (r + offsetPlace) (bigEndian bodyWidth (numberIn d (r + offsetPlace) bodyWidth + rowSize l))) r (row l (at + rowSize l) b)
+      × Kept d (putAt d (r + offsetPlace) (bigEndian bodyWidth (numberIn d (r + offsetPlace) bodyWidth + rowSize l))) r (r + rowSize l)
+  row-raised d r at b small h =
+      let wide : zeroPlace ≤ rowSize l = ok .wide in
+      let p : RowParts l ok d r at b = row-parts l ok d r at b h in
+      let u : length (row l at b) ≡ rowSize l = row-length l ok at b in
+      let i : r + rowSize l ≤ length d = omega (arith, has-fits d r (row l at b) (omega arith) h) in
+      let v : numberIn d (r + offsetPlace) bodyWidth ≡ at = number-in d (r + offsetPlace) bodyWidth (omega arith) (omega arith) ∙ number-of-has d (r + offsetPlace) bodyWidth at small (omega arith) (p .offset) in
+      let new : List ℕ = bigEndian bodyWidth (at + rowSize l) in
+      let m : length new ≡ bodyWidth = length-bigEndian bodyWidth (at + rowSize l) in
+      let fit : (r + offsetPlace) + length new ≤ length d = omega arith in
+      let d′ : List ℕ = over d (r + offsetPlace) new in
+      let k : Kept d d′ (r + offsetPlace) ((r + offsetPlace) + length new) = kept-over d (r + offsetPlace) new fit in
+      let q : RowParts l ok d′ r (at + rowSize l) b = record {
+        id = k .before r (idOf b) (omega (arith, id-length b)) (p .id);
+        offset = over-has d (r + offsetPlace) new fit;
+        size = kept-has d d′ _ _ (r + lengthPlace) _ k (omega arith) (p .size);
+        mask = kept-has d d′ _ _ (r + maskPlace) _ k (omega arith) (p .mask);
+        zeros = kept-has d d′ _ _ (r + zeroPlace) _ k (omega arith) (p .zeros);
+      } in
+      let e : putAt d (r + offsetPlace) (bigEndian bodyWidth (numberIn d (r + offsetPlace) bodyWidth + rowSize l)) ≡ d′
+      = ap (λ (n : ℕ). putAt d (r + offsetPlace) (bigEndian bodyWidth (n + rowSize l))) v ∙ put-fits d (r + offsetPlace) new fit in
+      subst (λ (x : List ℕ). Has x r (row l (at + rowSize l) b) × Kept d x r (r + rowSize l)) (sym e)
+      (parts-row l ok d′ r (at + rowSize l) b q, kept-wide d d′ (r + offsetPlace) ((r + offsetPlace) + length new) r (r + rowSize l) k (omega arith) (omega arith))
 
--- ---- the row count
+  -- The offsets of all rows raised: the rows of the bodies that lie so much higher, and no other byte is changed.
+  pub rows-raised : (d : List ℕ) (i at : ℕ) (bs : List (List ℕ)) → at + length (joined bs) < 4294967296 → Has d (rowPlace l i) (rowsOf l at bs)
+      → Has (raised l d (length bs) i) (rowPlace l i) (rowsOf l (at + rowSize l) bs)
+      × Kept d (raised l d (length bs) i) (rowPlace l i) (rowPlace l (i + length bs))
+  unfolding raised rowsOf joined
+  rows-raised d i at [] small h = (h, kept-self d (rowPlace l i) (rowPlace l (i + 0)))
+  rows-raised d i at (b ∷ bs) small h =
+      let r : ℕ = rowPlace l i in
+      let next : ℕ = rowPlace l (i + 1) in
+      let step : r + rowSize l ≡ next = sym (place-next l i) in
+      let last : (i + 1) + length bs ≡ i + suc (length bs) = omega arith in
+      let more : next ≤ rowPlace l (i + suc (length bs)) = omega (arith, place-order l i (i + suc (length bs)) (omega arith)) in
+      let rest : List ℕ = rowsOf l (at + length b) bs in
+      let short : at + (length b + length (joined bs)) < 4294967296 = omega (arith, length-append b (joined bs)) in
+      let d′ : List ℕ = putAt d (r + offsetPlace) (bigEndian bodyWidth (numberIn d (r + offsetPlace) bodyWidth + rowSize l)) in
+      let x = row-raised d r at b (omega arith) (has-left d r (row l at b) rest h) in
+      let g : Has d′ next rest = kept-has d d′ r (r + rowSize l) next rest (x .1) (omega arith) (has-after d r (rowSize l) next (row l at b) rest (row-length l ok at b) step h) in
+      let y = rows-raised d′ (i + 1) (at + length b) bs (omega arith) g in
+      let d″ : List ℕ = raised l d′ (length bs) (i + 1) in
+      let s : (at + length b) + rowSize l ≡ (at + rowSize l) + length b = omega arith in
+      let first : Has d″ r (row l (at + rowSize l) b) = y .1 .before r (row l (at + rowSize l) b) (omega (arith, row-length l ok (at + rowSize l) b)) (x .0) in (
+        has-both d″ r (rowSize l) next (row l (at + rowSize l) b) (rowsOf l ((at + rowSize l) + length b) bs)
+            (row-length l ok (at + rowSize l) b) step first (subst (λ (n : ℕ). Has d″ next (rowsOf l n bs)) s (y .0)),
+        kept-join d d′ d″ r (r + rowSize l) next (rowPlace l ((i + 1) + length bs)) r (rowPlace l (i + suc (length bs))) (x .1) (y .1)
+            (omega arith) (omega arith) (omega arith) (omega (arith, ap (rowPlace l) last)),
+      )
 
--- Another row count written over a header is the header of so many rows.
-pub header-counted : (d : List ℕ) (n m : ℕ) → Has d 0 (header n) → Has (over d 4 (bigEndian 2 m)) 0 (header m)
-unfolding header
-header-counted d n m h =
-    let a : List ℕ = bigEndian 2 imageEdition in
-    let b : List ℕ = bigEndian 2 modeEdition in
-    let c : List ℕ = bigEndian 2 n in
-    let z : List ℕ = bigEndian 2 0 in
-    let new : List ℕ = bigEndian 2 m in
-    let la : length a ≡ 2 = length-bigEndian 2 imageEdition in
-    let lb : length b ≡ 2 = length-bigEndian 2 modeEdition in
-    let lc : length c ≡ 2 = length-bigEndian 2 n in
-    let lz : length z ≡ 2 = length-bigEndian 2 0 in
-    let lm : length new ≡ 2 = length-bigEndian 2 m in
-    let h₁ : Has d 2 (b ++ (c ++ z)) = has-after d 0 2 2 a (b ++ (c ++ z)) la refl h in
-    let h₂ : Has d 4 (c ++ z) = has-after d 2 2 4 b (c ++ z) lb refl h₁ in
-    let h₃ : Has d 6 z = has-after d 4 2 6 c z lc refl h₂ in
-    let i : 6 + length z ≤ length d = has-fits d 6 z (omega arith) h₃ in
-    let fit : 4 + length new ≤ length d = omega arith in
-    let d′ : List ℕ = over d 4 new in
-    let k : Kept d d′ 4 (4 + length new) = kept-over d 4 new fit in
-    has-both d′ 0 2 2 a (b ++ (new ++ z)) la refl (k .before 0 a (omega arith) (has-left d 0 a (b ++ (c ++ z)) h))
-    (has-both d′ 2 2 4 b (new ++ z) lb refl (k .before 2 b (omega arith) (has-left d 2 b (c ++ z) h₁))
-    (has-both d′ 4 2 6 new z lm refl (over-has d 4 new fit) (kept-has d d′ 4 (4 + length new) 6 z k (omega arith) h₃)))
+  -- ---- a row in pieces
+
+  -- The row of a body, written in its five pieces, is the row written.
+  pub with-row : (d : List ℕ) (r at : ℕ) (b : List ℕ) (f : Fields) → reading b ≡ Read f → r + rowSize l ≤ length d
+      → withRow l d r at b (f .id) (f .mask) ≡ over d r (row l at b)
+  unfolding withRow row
+  with-row d r at b f e room =
+      let wide : zeroPlace ≤ rowSize l = ok .wide in
+      let i : List ℕ = idOf b in
+      let o : List ℕ = bigEndian bodyWidth at in
+      let n : List ℕ = bigEndian bodyWidth (length b) in
+      let m : List ℕ = bigEndian maskWidth (modesOf b) in
+      let z : List ℕ = bigEndian (zeroSize l) 0 in
+      let li : length i ≡ idSize = id-length b in
+      let lo : length o ≡ bodyWidth = length-bigEndian bodyWidth at in
+      let ln : length n ≡ bodyWidth = length-bigEndian bodyWidth (length b) in
+      let lm : length m ≡ maskWidth = length-bigEndian maskWidth (modesOf b) in
+      let lz : length z ≡ zeroSize l = length-bigEndian (zeroSize l) 0 in
+      let l₂ : length (i ++ o) ≡ lengthPlace = omega (arith, length-append i o) in
+      let l₃ : length ((i ++ o) ++ n) ≡ maskPlace = omega (arith, length-append (i ++ o) n) in
+      let l₄ : length (((i ++ o) ++ n) ++ m) ≡ zeroPlace = omega (arith, length-append ((i ++ o) ++ n) m) in
+      let e₁ : putAt d r (part b (f .id) idSize) ≡ over d r i = ap (putAt d r) (sym (id-read b f e)) ∙ put-fits d r i (omega arith) in
+      let e₂ : putAt (over d r i) (r + offsetPlace) o ≡ over d r (i ++ o) = put-next d r i o (r + offsetPlace) (omega arith) (omega arith) in
+      let e₃ : putAt (over d r (i ++ o)) (r + lengthPlace) n ≡ over d r ((i ++ o) ++ n) = put-next d r (i ++ o) n (r + lengthPlace) (omega arith) (omega arith) in
+      let e₄ : putAt (over d r ((i ++ o) ++ n)) (r + maskPlace) m ≡ over d r (((i ++ o) ++ n) ++ m) = put-next d r ((i ++ o) ++ n) m (r + maskPlace) (omega arith) (omega arith) in
+      let e₅ : putAt (over d r (((i ++ o) ++ n) ++ m)) (r + zeroPlace) z ≡ over d r ((((i ++ o) ++ n) ++ m) ++ z)
+      = put-next d r (((i ++ o) ++ n) ++ m) z (r + zeroPlace) (omega arith) (omega arith) in
+      rw (e₁, e₂, e₃, ← modes-read b f e, e₄, e₅) (ap (over d r) (five i o n m z))
+
+  -- ---- the row count
+
+  -- Another row count written over a header is the header of so many rows.
+  pub header-counted : (d : List ℕ) (n m : ℕ) → Has d 0 (header l n) → Has (over d countPlace (bigEndian headerWidth m)) 0 (header l m)
+  header-counted d n m h =
+      let w = header-parts l ok d n h in
+      let inside : headerSize ≤ length d = w .0 in
+      let new : List ℕ = bigEndian headerWidth m in
+      let width : (k : ℕ) → length (bigEndian headerWidth k) ≡ headerWidth = length-bigEndian headerWidth in
+      let fit : countPlace + length new ≤ length d = omega (arith, width m) in
+      let d′ : List ℕ = over d countPlace new in
+      let k : Kept d d′ countPlace (countPlace + length new) = kept-over d countPlace new fit in
+      parts-header l ok d′ m (record {
+        edition = k .before editionPlace _ (omega (arith, width (l .edition))) (w .1 .edition);
+        modes = k .before modesPlace _ (omega (arith, width modeEdition)) (w .1 .modes);
+        count = over-has d countPlace new fit;
+        zeros = kept-has d d′ countPlace (countPlace + length new) headerZero _ k (omega (arith, width m)) (w .1 .zeros);
+      })

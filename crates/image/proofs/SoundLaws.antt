@@ -12,211 +12,207 @@ use Rattle.octets.specs.Number.{bigEndian, numberAt}
 use Rattle.exact.specs.Reads.{got, guard}
 use Rattle.octets.proofs.Tests.{and-left, and-right}
 use Rattle.octets.proofs.BytesLaws.{has-left, has-fits, has-after, has-both, front-has}
-use Rattle.octets.proofs.NumberLaws.{length-bigEndian, number-of-has, has-of-number}
+use Rattle.octets.proofs.NumberLaws.{number-of-has, has-of-number}
 use Rattle.octets.proofs.OverLaws.{has-front}
 use Rattle.image.specs.declared.Held.{Held}
 use Rattle.image.specs.declared.Held.the-variants.{Missing}
-use Rattle.image.specs.Layout.{imageEdition, modeEdition, headerSize, mostRows, rowPlace, countPlace}
+use Rattle.image.specs.declared.layout.Layout.{Layout}
+use Rattle.image.specs.Layout.{modeEdition, headerSize, headerWidth, editionPlace, modesPlace, countPlace, headerZero, mostRows}
+use Rattle.image.specs.Layout.{rowPlace, LayoutOk}
 use Rattle.image.specs.Image.{header, rowsOf, joined, imageOf, BodiesOk, Holds}
 use Rattle.image.specs.Check.{rowCount, headerFits, rowsFrom, checked, bodiesFrom, bodiesOf}
 use Rattle.image.proofs.StepLaws.{guard-got}
-use Rattle.image.proofs.RowLaws.{header-length, rows-length, image-length}
+use Rattle.image.proofs.RowLaws.{header-length, rows-end, image-length, header-parts, parts-header}
+use Rattle.image.proofs.RowPlaceLaws.{place-first, place-after, place-small}
 use Rattle.image.proofs.HeldLaws.{heldFrom, heldIn}
 use Rattle.image.proofs.CheckLaws.{past-none}
 use Rattle.image.proofs.RunLaws.{Run, rows-sound, rows-complete, rows-bodies}
 
--- ---- the header
+module _ (l : Layout) (ok : LayoutOk l) where
+  -- ---- the header
 
--- What the numbers of the header say.
-pub record HeaderSays (s : List ℕ) (n : ℕ) : Type 0 where
-  pub inside : headerSize ≤ length s
-  pub edition : numberAt s 0 2 ≡ imageEdition
-  pub modes : numberAt s 2 2 ≡ modeEdition
-  pub count : numberAt s countPlace 2 ≡ n
-  pub zeros : numberAt s 6 2 ≡ 0
+  -- What the numbers of the header say.
+  pub record HeaderSays (s : List ℕ) (n : ℕ) : Type 0 where
+    pub inside : headerSize ≤ length s
+    pub edition : numberAt s editionPlace headerWidth ≡ l .edition
+    pub modes : numberAt s modesPlace headerWidth ≡ modeEdition
+    pub count : numberAt s countPlace headerWidth ≡ n
+    pub zeros : numberAt s headerZero headerWidth ≡ 0
 
--- The header of fewer than 65536 rows says how many.
-pub header-says : (s : List ℕ) (n : ℕ) → n < 65536 → Has s 0 (header n) → HeaderSays s n
-unfolding header
-header-says s n small h =
-    let a : List ℕ = bigEndian 2 imageEdition in
-    let b : List ℕ = bigEndian 2 modeEdition in
-    let c : List ℕ = bigEndian 2 n in
-    let d : List ℕ = bigEndian 2 0 in
-    let h₁ : Has s 2 (b ++ (c ++ d)) = has-after s 0 2 2 a (b ++ (c ++ d)) (length-bigEndian 2 imageEdition) refl h in
-    let h₂ : Has s 4 (c ++ d) = has-after s 2 2 4 b (c ++ d) (length-bigEndian 2 modeEdition) refl h₁ in
-    let h₃ : Has s 6 d = has-after s 4 2 6 c d (length-bigEndian 2 n) refl h₂ in
-    let l : headerSize ≤ length s = omega (arith, has-fits s 6 d (omega (arith, length-bigEndian 2 0)) h₃, length-bigEndian 2 0) in
-    record {
-      inside = l;
-      edition = number-of-has s 0 2 imageEdition (omega arith) (omega arith) (has-left s 0 a (b ++ (c ++ d)) h);
-      modes = number-of-has s 2 2 modeEdition (omega arith) (omega arith) (has-left s 2 b (c ++ d) h₁);
-      count = number-of-has s 4 2 n (omega arith) (omega arith) (has-left s 4 c d h₂);
-      zeros = number-of-has s 6 2 0 (omega arith) (omega arith) h₃;
-    }
-
--- Bytes of which the numbers say so are the header.
-pub says-header : (s : List ℕ) (n : ℕ) → AreBytes s → HeaderSays s n → Has s 0 (header n)
-unfolding header
-says-header s n bytes q =
-    let l : headerSize ≤ length s = q .inside in
-    let number : (at m : ℕ) → at + 2 ≤ length s → numberAt s at 2 ≡ m → Has s at (bigEndian 2 m) = λ at m i e.
-    subst (λ (k : ℕ). Has s at (bigEndian 2 k)) e (has-of-number s at 2 bytes i) in
-    has-both s 0 2 2 (bigEndian 2 imageEdition) _ (length-bigEndian 2 imageEdition) refl (number 0 imageEdition (omega arith) (q .edition))
-    (has-both s 2 2 4 (bigEndian 2 modeEdition) _ (length-bigEndian 2 modeEdition) refl (number 2 modeEdition (omega arith) (q .modes))
-    (has-both s 4 2 6 (bigEndian 2 n) _ (length-bigEndian 2 n) refl (number 4 n (omega arith) (q .count)) (number 6 0 (omega arith) (q .zeros))))
-
--- The test of the header holds where its numbers say so.
-pub says-fits : (s : List ℕ) (n : ℕ) → n ≤ mostRows → HeaderSays s n → headerFits s ≡ true
-unfolding headerFits rowCount
-says-fits s n few q =
-    rw (
-      eq-eqb (numberAt s 0 2) imageEdition (q .edition),
-      eq-eqb (numberAt s 2 2) modeEdition (q .modes),
-      le-leb (numberAt s countPlace 2) mostRows (omega (arith, q .count)),
-      eq-eqb (numberAt s 6 2) 0 (q .zeros),
-    )
-
--- The numbers say so where the test of the header holds.
-pub fits-says : (s : List ℕ) → headerSize ≤ length s → headerFits s ≡ true → HeaderSays s (rowCount s) × (rowCount s ≤ mostRows)
-unfolding headerFits rowCount
-fits-says s l e =
-    let a : Bool = eqb (numberAt s 0 2) imageEdition in
-    let b : Bool = eqb (numberAt s 2 2) modeEdition in
-    let c : Bool = leb (numberAt s countPlace 2) mostRows in
-    let d : Bool = eqb (numberAt s 6 2) 0 in
-    let e₁ = and-right a (b && (c && d)) e in
-    let e₂ = and-right b (c && d) e₁ in (
+  -- The header of fewer than 65536 rows says how many.
+  pub header-says : (s : List ℕ) (n : ℕ) → n < 65536 → Has s 0 (header l n) → HeaderSays s n
+  header-says s n small h =
+      let w = header-parts l ok s n h in
+      let inside : headerSize ≤ length s = w .0 in
       record {
-        inside = l;
-        edition = eqb-true (numberAt s 0 2) imageEdition (and-left a (b && (c && d)) e);
-        modes = eqb-true (numberAt s 2 2) modeEdition (and-left b (c && d) e₁);
-        count = refl;
-        zeros = eqb-true (numberAt s 6 2) 0 (and-right c d e₂);
-      },
-      leb-true (numberAt s countPlace 2) mostRows (and-left c d e₂),
-    )
+        inside = inside;
+        edition = number-of-has s editionPlace headerWidth (l .edition) (ok .numbered) (omega arith) (w .1 .edition);
+        modes = number-of-has s modesPlace headerWidth modeEdition (omega arith) (omega arith) (w .1 .modes);
+        count = number-of-has s countPlace headerWidth n small (omega arith) (w .1 .count);
+        zeros = number-of-has s headerZero headerWidth 0 (omega arith) (omega arith) (w .1 .zeros);
+      }
 
--- ---- the whole image
+  -- Bytes of which the numbers say so are the header.
+  pub says-header : (s : List ℕ) (n : ℕ) → AreBytes s → HeaderSays s n → Has s 0 (header l n)
+  says-header s n bytes q =
+      let inside : headerSize ≤ length s = q .inside in
+      let number : (at m : ℕ) → at + headerWidth ≤ length s → numberAt s at headerWidth ≡ m → Has s at (bigEndian headerWidth m) = λ at m i e.
+      subst (λ (k : ℕ). Has s at (bigEndian headerWidth k)) e (has-of-number s at headerWidth bytes i) in
+      parts-header l ok s n (record {
+        edition = number editionPlace (l .edition) (omega arith) (q .edition);
+        modes = number modesPlace modeEdition (omega arith) (q .modes);
+        count = number countPlace n (omega arith) (q .count);
+        zeros = number headerZero 0 (omega arith) (q .zeros);
+      })
 
--- An image that s begins with stands at its beginning.
-pub holds-has : (s : List ℕ) (bs : List (List ℕ)) → Holds s bs → Has s 0 (imageOf bs)
-holds-has s bs h = front-has s (imageOf bs) (h .rest) (h .whole)
+  -- The test of the header holds where its numbers say so.
+  pub says-fits : (s : List ℕ) (n : ℕ) → n ≤ mostRows l → HeaderSays s n → headerFits l s ≡ true
+  unfolding headerFits rowCount
+  says-fits s n few q =
+      rw (
+        eq-eqb (numberAt s editionPlace headerWidth) (l .edition) (q .edition),
+        eq-eqb (numberAt s modesPlace headerWidth) modeEdition (q .modes),
+        le-leb (numberAt s countPlace headerWidth) (mostRows l) (omega (arith, q .count)),
+        eq-eqb (numberAt s headerZero headerWidth) 0 (q .zeros),
+      )
 
--- The image of allowed bodies that stands at the beginning is what s begins with.
-pub has-holds : (s : List ℕ) (bs : List (List ℕ)) → BodiesOk bs → Has s 0 (imageOf bs) → Holds s bs
-has-holds s bs o h = record { bodies = o; rest = drop (length (imageOf bs)) s; whole = has-front s (imageOf bs) h }
+  -- The numbers say so where the test of the header holds.
+  pub fits-says : (s : List ℕ) → headerSize ≤ length s → headerFits l s ≡ true → HeaderSays s (rowCount s) × (rowCount s ≤ mostRows l)
+  unfolding headerFits rowCount
+  fits-says s m e =
+      let a : Bool = eqb (numberAt s editionPlace headerWidth) (l .edition) in
+      let b : Bool = eqb (numberAt s modesPlace headerWidth) modeEdition in
+      let c : Bool = leb (numberAt s countPlace headerWidth) (mostRows l) in
+      let d : Bool = eqb (numberAt s headerZero headerWidth) 0 in
+      let e₁ = and-right a (b && (c && d)) e in
+      let e₂ = and-right b (c && d) e₁ in (
+        record {
+          inside = m;
+          edition = eqb-true (numberAt s editionPlace headerWidth) (l .edition) (and-left a (b && (c && d)) e);
+          modes = eqb-true (numberAt s modesPlace headerWidth) modeEdition (and-left b (c && d) e₁);
+          count = refl;
+          zeros = eqb-true (numberAt s headerZero headerWidth) 0 (and-right c d e₂);
+        },
+        leb-true (numberAt s countPlace headerWidth) (mostRows l) (and-left c d e₂),
+      )
 
--- The rows end where the bodies begin.
-pub rows-end : (bs : List (List ℕ)) → headerSize + length (rowsOf (rowPlace (length bs)) bs) ≡ rowPlace (length bs)
-rows-end bs = omega (arith, rows-length (rowPlace (length bs)) bs)
+  -- ---- the whole image
 
--- The header, the rows and the bodies of an image stand one after the other.
-pub record ImageParts (s : List ℕ) (bs : List (List ℕ)) : Type 0 where
-  pub has-header : Has s 0 (header (length bs))
-  pub has-rows : Has s headerSize (rowsOf (rowPlace (length bs)) bs)
-  pub has-bodies : Has s (rowPlace (length bs)) (joined bs)
+  -- An image that s begins with stands at its beginning.
+  pub holds-has : (s : List ℕ) (bs : List (List ℕ)) → Holds l s bs → Has s 0 (imageOf l bs)
+  holds-has s bs h = front-has s (imageOf l bs) (h .rest) (h .whole)
 
--- They do so in a buffer that holds the bodies.
-pub image-stands : (s : List ℕ) (bs : List (List ℕ)) → Holds s bs → ImageParts s bs
-unfolding imageOf
-image-stands s bs h =
-    let n : ℕ = length bs in
-    let rows : List ℕ = rowsOf (rowPlace n) bs in
-    let w : Has s 0 (header n ++ (rows ++ joined bs)) = holds-has s bs h in
-    let r : Has s headerSize (rows ++ joined bs) = has-after s 0 headerSize headerSize (header n) (rows ++ joined bs) (header-length n) refl w in
-    record {
-      has-header = has-left s 0 (header n) (rows ++ joined bs) w;
-      has-rows = has-left s headerSize rows (joined bs) r;
-      has-bodies = has-after s headerSize (length rows) (rowPlace n) rows (joined bs) refl (rows-end bs) r;
-    }
+  -- The image of allowed bodies that stands at the beginning is what s begins with.
+  pub has-holds : (s : List ℕ) (bs : List (List ℕ)) → BodiesOk l bs → Has s 0 (imageOf l bs) → Holds l s bs
+  has-holds s bs o h = record { bodies = o; rest = drop (length (imageOf l bs)) s; whole = has-front s (imageOf l bs) h }
 
--- Where the header, the rows and the bodies of an image stand one after the other, it stands.
-pub run-whole : (s : List ℕ) (bs : List (List ℕ)) → ImageParts s bs → Has s 0 (imageOf bs)
-unfolding imageOf
-run-whole s bs w =
-    let n : ℕ = length bs in
-    let rows : List ℕ = rowsOf (rowPlace n) bs in
-    has-both s 0 headerSize headerSize (header n) (rows ++ joined bs) (header-length n) refl (w .has-header)
-    (has-both s headerSize (length rows) (rowPlace n) rows (joined bs) refl (rows-end bs) (w .has-rows) (w .has-bodies))
+  -- The header, the rows and the bodies of an image stand one after the other.
+  pub record ImageParts (s : List ℕ) (bs : List (List ℕ)) : Type 0 where
+    pub has-header : Has s 0 (header l (length bs))
+    pub has-rows : Has s (rowPlace l 0) (rowsOf l (rowPlace l (length bs)) bs)
+    pub has-bodies : Has s (rowPlace l (length bs)) (joined bs)
 
--- The rows and the bodies of an image that s begins with stand.
-pub holds-run : (s : List ℕ) (bs : List (List ℕ)) → Holds s bs → Run s [] 0 (rowPlace (length bs)) bs
-holds-run s bs h = let w = image-stands s bs h in record { each = h .bodies .each; has-rows = w .has-rows; has-bodies = w .has-bodies }
+  -- They do so in a buffer that holds the bodies.
+  pub image-stands : (s : List ℕ) (bs : List (List ℕ)) → Holds l s bs → ImageParts s bs
+  unfolding imageOf
+  image-stands s bs h =
+      let n : ℕ = length bs in
+      let rows : List ℕ = rowsOf l (rowPlace l n) bs in
+      let w : Has s 0 (header l n ++ (rows ++ joined bs)) = holds-has s bs h in
+      let r : Has s (rowPlace l 0) (rows ++ joined bs)
+      = has-after s 0 headerSize (rowPlace l 0) (header l n) (rows ++ joined bs) (header-length l ok n) (sym (place-first l)) w in
+      record {
+        has-header = has-left s 0 (header l n) (rows ++ joined bs) w;
+        has-rows = has-left s (rowPlace l 0) rows (joined bs) r;
+        has-bodies = has-after s (rowPlace l 0) (length rows) (rowPlace l n) rows (joined bs) refl (rows-end l ok (rowPlace l n) bs) r;
+      }
 
--- An image that s begins with lies within s.
-pub holds-room : (s : List ℕ) (bs : List (List ℕ)) → Holds s bs → length (imageOf bs) ≤ length s
-holds-room s bs h = omega (arith, has-fits s 0 (imageOf bs) (omega (arith, image-length bs)) (holds-has s bs h))
+  -- Where the header, the rows and the bodies of an image stand one after the other, it stands.
+  pub run-whole : (s : List ℕ) (bs : List (List ℕ)) → ImageParts s bs → Has s 0 (imageOf l bs)
+  unfolding imageOf
+  run-whole s bs w =
+      let n : ℕ = length bs in
+      let rows : List ℕ = rowsOf l (rowPlace l n) bs in
+      has-both s 0 headerSize (rowPlace l 0) (header l n) (rows ++ joined bs) (header-length l ok n) (sym (place-first l)) (w .has-header)
+      (has-both s (rowPlace l 0) (length rows) (rowPlace l n) rows (joined bs) refl (rows-end l ok (rowPlace l n) bs) (w .has-rows) (w .has-bodies))
 
--- Its header says how many bodies it has.
-pub holds-says : (s : List ℕ) (bs : List (List ℕ)) → Holds s bs → HeaderSays s (length bs)
-holds-says s bs h = header-says s (length bs) (omega (arith, h .bodies .few)) (image-stands s bs h .has-header)
+  -- The rows and the bodies of an image that s begins with stand.
+  pub holds-run : (s : List ℕ) (bs : List (List ℕ)) → Holds l s bs → Run l ok s [] 0 (rowPlace l (length bs)) bs
+  holds-run s bs h = let w = image-stands s bs h in record { each = h .bodies .each; has-rows = w .has-rows; has-bodies = w .has-bodies }
 
--- The row count is the number of bodies.
-pub count-of : (s : List ℕ) (bs : List (List ℕ)) → Holds s bs → rowCount s ≡ length bs
-unfolding rowCount
-count-of s bs h = holds-says s bs h .count
+  -- An image that s begins with lies within s.
+  pub holds-room : (s : List ℕ) (bs : List (List ℕ)) → Holds l s bs → length (imageOf l bs) ≤ length s
+  holds-room s bs h = omega (arith, has-fits s 0 (imageOf l bs) (omega (arith, image-length l ok bs, place-after l (length bs))) (holds-has s bs h))
 
--- ---- the check
+  -- Its header says how many bodies it has.
+  pub holds-says : (s : List ℕ) (bs : List (List ℕ)) → Holds l s bs → HeaderSays s (length bs)
+  holds-says s bs h = header-says s (length bs) (omega (arith, h .bodies .few, ok .few)) (image-stands s bs h .has-header)
 
--- An image that s begins with passes the check; what is held is what is held of its bodies.
-pub check-complete : (s id : List ℕ) (bs : List (List ℕ)) → Holds s bs → checked s id ≡ got (heldIn id bs) (length (imageOf bs))
-unfolding checked guard heldIn
-check-complete s id bs h =
-    let n : ℕ = length bs in
-    let few : n ≤ mostRows = h .bodies .few in
-    let q : HeaderSays s n = holds-says s bs h in
-    let room : rowPlace n ≤ length s = omega (arith, holds-room s bs h, image-length bs) in
-    rw (count-of s bs h, le-leb headerSize (length s) (q .inside), says-fits s n few q, le-leb (rowPlace n) (length s) room)
-    (rows-complete s id bs [] 0 (rowPlace n) Missing (omega arith) (past-none s) (holds-run s bs h) ∙ ap (got (heldFrom id (rowPlace n) Missing bs)) (sym (image-length bs)))
+  -- The row count is the number of bodies.
+  pub count-of : (s : List ℕ) (bs : List (List ℕ)) → Holds l s bs → rowCount s ≡ length bs
+  unfolding rowCount
+  count-of s bs h = holds-says s bs h .count
 
--- What a check that passes says before the rows.
-pub record Checked (s id : List ℕ) (h : Held) (end : ℕ) : Type 0 where
-  pub inside : headerSize ≤ length s
-  pub header : headerFits s ≡ true
-  pub room : rowPlace (rowCount s) ≤ length s
-  pub rows : got h end ≡ rowsFrom s id (rowCount s) 0 (rowPlace (rowCount s)) Missing
+  -- ---- the check
 
--- A check that answers passes.
-pub check-is : (s id : List ℕ) (h : Held) (end : ℕ) → got h end ≡ checked s id → Checked s id h end
-unfolding checked
-check-is s id h end e =
-    let a = guard-got (leb headerSize (length s)) _ h end e in
-    let b = guard-got (headerFits s) _ h end (a .1) in
-    let c = guard-got (leb (rowPlace (rowCount s)) (length s)) _ h end (b .1) in
-    record {
-      inside = leb-true headerSize (length s) (a .0);
-      header = b .0;
-      room = leb-true (rowPlace (rowCount s)) (length s) (c .0);
-      rows = c .1;
-    }
+  -- An image that s begins with passes the check; what is held is what is held of its bodies.
+  pub check-complete : (s id : List ℕ) (bs : List (List ℕ)) → Holds l s bs → checked l s id ≡ got (heldIn l id bs) (length (imageOf l bs))
+  unfolding checked guard heldIn
+  check-complete s id bs h =
+      let n : ℕ = length bs in
+      let few : n ≤ mostRows l = h .bodies .few in
+      let q : HeaderSays s n = holds-says s bs h in
+      let room : rowPlace l n ≤ length s = omega (arith, holds-room s bs h, image-length l ok bs) in
+      rw (count-of s bs h, le-leb headerSize (length s) (q .inside), says-fits s n few q, le-leb (rowPlace l n) (length s) room)
+      (rows-complete l ok s id bs [] 0 (rowPlace l n) Missing (place-small l ok n few) (past-none l ok s) (holds-run s bs h) ∙ ap (got (heldFrom id (rowPlace l n) Missing bs)) (sym (image-length l ok bs)))
 
--- Bytes that pass the check begin with the image of allowed bodies, and it ends where the check says.
-pub check-sound : (s id : List ℕ) → AreBytes s → (h : Held) (end : ℕ) → got h end ≡ checked s id
-    → (bs : List (List ℕ)) × Holds s bs × (end ≡ length (imageOf bs))
-check-sound s id bytes h end e =
-    let n : ℕ = rowCount s in
-    let k : Checked s id h end = check-is s id h end e in
-    let q = fits-says s (k .inside) (k .header) in
-    let y = rows-sound s id bytes n [] 0 (rowPlace n) end Missing h (past-none s) (omega (arith, k .room)) (k .rows) in
-    let bs : List (List ℕ) = y .0 in
-    let c : length bs ≡ n = y .1 in
-    let g : Run s [] 0 (rowPlace (length bs)) bs = subst (λ (m : ℕ). Run s [] 0 (rowPlace m) bs) (sym c) (y .2) in
-    let w : ImageParts s bs = record {
-      has-header = subst (λ (m : ℕ). Has s 0 (header m)) (sym c) (says-header s n bytes (q .0));
-      has-rows = g .has-rows;
-      has-bodies = g .has-bodies;
-    } in (
-      bs,
-      has-holds s bs (record { few = omega (arith, c, q .1); each = g .each }) (run-whole s bs w),
-      omega (arith, y .3, c, image-length bs),
-    )
+  -- What a check that passes says before the rows.
+  pub record Checked (s id : List ℕ) (h : Held) (end : ℕ) : Type 0 where
+    pub inside : headerSize ≤ length s
+    pub header : headerFits l s ≡ true
+    pub room : rowPlace l (rowCount s) ≤ length s
+    pub rows : got h end ≡ rowsFrom l s id (rowCount s) 0 (rowPlace l (rowCount s)) Missing
 
--- ---- the bodies that the rows name
+  -- A check that answers passes.
+  pub check-is : (s id : List ℕ) (h : Held) (end : ℕ) → got h end ≡ checked l s id → Checked s id h end
+  unfolding checked
+  check-is s id h end e =
+      let a = guard-got (leb headerSize (length s)) _ h end e in
+      let b = guard-got (headerFits l s) _ h end (a .1) in
+      let c = guard-got (leb (rowPlace l (rowCount s)) (length s)) _ h end (b .1) in
+      record {
+        inside = leb-true headerSize (length s) (a .0);
+        header = b .0;
+        room = leb-true (rowPlace l (rowCount s)) (length s) (c .0);
+        rows = c .1;
+      }
 
--- They are the bodies of the image that s begins with.
-pub holds-bodies : (s : List ℕ) (bs : List (List ℕ)) → Holds s bs → bodiesOf s ≡ bs
-unfolding bodiesOf
-holds-bodies s bs h =
-    let few : length bs ≤ mostRows = h .bodies .few in
-    ap (λ (n : ℕ). bodiesFrom s n 0) (count-of s bs h) ∙ rows-bodies s bs [] 0 (rowPlace (length bs)) (omega arith) (holds-run s bs h)
+  -- Bytes that pass the check begin with the image of allowed bodies, and it ends where the check says.
+  pub check-sound : (s id : List ℕ) → AreBytes s → (h : Held) (end : ℕ) → got h end ≡ checked l s id
+      → (bs : List (List ℕ)) × (Holds l) s bs × (end ≡ length (imageOf l bs))
+  check-sound s id bytes h end e =
+      let n : ℕ = rowCount s in
+      let k : Checked s id h end = check-is s id h end e in
+      let q = fits-says s (k .inside) (k .header) in
+      let y = rows-sound l ok s id bytes n [] 0 (rowPlace l n) end Missing h (past-none l ok s) n (omega arith) (k .room) (k .rows) in
+      let bs : List (List ℕ) = y .0 in
+      let c : length bs ≡ n = y .1 in
+      let g : Run l ok s [] 0 (rowPlace l (length bs)) bs = subst (λ (m : ℕ). Run l ok s [] 0 (rowPlace l m) bs) (sym c) (y .2) in
+      let w : ImageParts s bs = record {
+        has-header = subst (λ (m : ℕ). Has s 0 (header l m)) (sym c) (says-header s n bytes (q .0));
+        has-rows = g .has-rows;
+        has-bodies = g .has-bodies;
+      } in (
+        bs,
+        has-holds s bs (record { few = omega (arith, c, q .1); each = g .each }) (run-whole s bs w),
+        omega (arith, y .3, ap (rowPlace l) c, image-length l ok bs),
+      )
+
+  -- ---- the bodies that the rows name
+
+  -- They are the bodies of the image that s begins with.
+  pub holds-bodies : (s : List ℕ) (bs : List (List ℕ)) → Holds l s bs → bodiesOf l s ≡ bs
+  unfolding bodiesOf
+  holds-bodies s bs h =
+      let few : length bs ≤ mostRows l = h .bodies .few in
+      ap (λ (n : ℕ). bodiesFrom l s n 0) (count-of s bs h) ∙ rows-bodies l ok s bs [] 0 (rowPlace l (length bs)) (place-small l ok (length bs) few) (holds-run s bs h)

@@ -1,5 +1,5 @@
 -- Laws of a loop over the rows and of a loop over the ids (specs/Check.antt), in the code's own form. Assumes nothing.
-use mathlib.Core.Path.{_≡_, refl, sym, ap, _∙_, subst}
+use mathlib.Core.Path.{_≡_, refl, sym, ap, ap₂, _∙_, subst}
 use mathlib.Core.Bool.{Bool, true, false, not}
 use mathlib.Core.List.{List}
 use Prim.Native.Nat.{ℕ, suc, _+_, _-_, _≤_, _<_}
@@ -13,6 +13,7 @@ use Rattle.descriptor.specs.declared.Fields.{Fields}
 use Rattle.descriptor.specs.declared.Reading.{Reading}
 use Rattle.descriptor.specs.declared.Reading.the-variants.{Read, Structure, Validity}
 use Rattle.image.specs.declared.Held.{Held}
+use Rattle.image.specs.declared.layout.Layout.{Layout}
 use Rattle.image.specs.Layout.{rowPlace}
 use Rattle.image.specs.Image.{reading}
 use Rattle.image.specs.Check.{rowId, rowLength, idAmong, rowFits, onRead, rowAt, noted, rowsFrom}
@@ -32,16 +33,6 @@ read-got (Read f) k r n e = (f, refl, e)
 read-got Structure k r n e = absurd (let z : _≡_ {A = ℕ} 0 1 = cc in omega arith)
 read-got Validity k r n e = absurd (let z : _≡_ {A = ℕ} 0 1 = cc in omega arith)
 
--- ---- one row
-
--- What a row that passes the check says.
-pub record RowOk (s : List ℕ) (i at : ℕ) (f : Fields) (next : ℕ) : Type 0 where
-  pub inside : at + rowLength s (rowPlace i) ≤ length s
-  pub reads : reading (part s at (rowLength s (rowPlace i))) ≡ Read f
-  pub fits : rowFits s (rowPlace i) at f ≡ true
-  pub new : idAmong s (rowId s (rowPlace i)) i ≡ false
-  pub end : next ≡ at + rowLength s (rowPlace i)
-
 not-yes : (t : Bool) → not t ≡ true → t ≡ false
 not-yes true e = sym e
 not-yes false e = refl
@@ -49,83 +40,94 @@ not-yes false e = refl
 got-same : {R : Type 0} (r r′ : R) (n n′ : ℕ) → got r n ≡ got r′ n′ → (r ≡ r′) × (n ≡ n′)
 got-same r r′ n n′ e = (cc, cc)
 
--- A row that is answered passes the check.
-pub row-is : (s : List ℕ) (i at : ℕ) (f : Fields) (next : ℕ) → got f next ≡ rowAt s i at → RowOk s i at f next
-unfolding rowAt
-row-is s i at f next e =
-    let n : ℕ = rowLength s (rowPlace i) in
-    let a = guard-got (leb (at + n) (length s)) _ f next e in
-    let b = read-got (reading (part s at n)) _ f next (a .1) in
-    let c = guard-got (rowFits s (rowPlace i) at (b .0)) _ f next (b .2) in
-    let d = guard-got (not (idAmong s (rowId s (rowPlace i)) i)) _ f next (c .1) in
-    let g = got-same f (b .0) next (at + n) (d .1) in
-    record {
-      inside = leb→le (at + n) (length s) (subst T (sym (a .0)) tt);
-      reads = b .1 ∙ ap Read (sym (g .0));
-      fits = ap (rowFits s (rowPlace i) at) (g .0) ∙ c .0;
-      new = not-yes (idAmong s (rowId s (rowPlace i)) i) (d .0);
-      end = g .1;
-    }
+module _ (l : Layout) where
+  -- ---- one row
 
--- The next body begins after this one, within the bytes.
-pub row-next-is : (s : List ℕ) (i at : ℕ) (f : Fields) (next : ℕ) → got f next ≡ rowAt s i at
-    → (next ≡ at + rowLength s (rowPlace i)) × (next ≤ length s)
-row-next-is s i at f next e = let k = row-is s i at f next e in (k .end, omega (arith, k .inside, k .end))
+  -- What a row that passes the check says.
+  pub record RowOk (s : List ℕ) (i at : ℕ) (f : Fields) (next : ℕ) : Type 0 where
+    pub inside : at + rowLength s (rowPlace l i) ≤ length s
+    pub reads : reading (part s at (rowLength s (rowPlace l i))) ≡ Read f
+    pub fits : rowFits l s (rowPlace l i) at f ≡ true
+    pub new : idAmong l s (rowId s (rowPlace l i)) i ≡ false
+    pub end : next ≡ at + rowLength s (rowPlace l i)
 
--- ---- all rows
+  -- A row that is answered passes the check.
+  pub row-is : (s : List ℕ) (i at : ℕ) (f : Fields) (next : ℕ) → got f next ≡ rowAt l s i at → RowOk s i at f next
+  unfolding rowAt
+  row-is s i at f next e =
+      let n : ℕ = rowLength s (rowPlace l i) in
+      let a = guard-got (leb (at + n) (length s)) _ f next e in
+      let b = read-got (reading (part s at n)) _ f next (a .1) in
+      let c = guard-got (rowFits l s (rowPlace l i) at (b .0)) _ f next (b .2) in
+      let d = guard-got (not (idAmong l s (rowId s (rowPlace l i)) i)) _ f next (c .1) in
+      let g = got-same f (b .0) next (at + n) (d .1) in
+      record {
+        inside = leb→le (at + n) (length s) (subst T (sym (a .0)) tt);
+        reads = b .1 ∙ ap Read (sym (g .0));
+        fits = ap (rowFits l s (rowPlace l i) at) (g .0) ∙ c .0;
+        new = not-yes (idAmong l s (rowId s (rowPlace l i)) i) (d .0);
+        end = g .1;
+      }
 
--- A row that passes leaves the rows after it.
-pub rows-next : (s id : List ℕ) (n i at : ℕ) (h : Held) (f : Fields) (next : ℕ) → i < n → got f next ≡ rowAt s i at
-    → rowsFrom s id (n - i) i at h
-    ≡ rowsFrom s id (n - (i + 1)) (i + 1) next (noted (same (rowId s (rowPlace i)) id) h at (rowLength s (rowPlace i)) f)
-unfolding rowsFrom
-rows-next s id n i at h f next l e =
-    let k : n - i ≡ suc (n - (i + 1)) = omega arith in
-    ap (λ (m : ℕ). rowsFrom s id m i at h) k ∙ bind-got (rowAt s i at) _ f next e
+  -- The next body begins after this one, within the bytes.
+  pub row-next-is : (s : List ℕ) (i at : ℕ) (f : Fields) (next : ℕ) → got f next ≡ rowAt l s i at
+      → (next ≡ at + rowLength s (rowPlace l i)) × (next ≤ length s)
+  row-next-is s i at f next e = let k = row-is s i at f next e in (k .end, omega (arith, k .inside, k .end))
 
--- A row that does not pass refuses them all.
-pub rows-stop : (s id : List ℕ) (n i at : ℕ) (h : Held) → i < n → refused ≡ rowAt s i at → rowsFrom s id (n - i) i at h ≡ refused
-unfolding rowsFrom
-rows-stop s id n i at h l e =
-    let k : n - i ≡ suc (n - (i + 1)) = omega arith in
-    ap (λ (m : ℕ). rowsFrom s id m i at h) k ∙ bind-refused (rowAt s i at) _ e
+  -- ---- all rows
 
--- After the last row what is held is answered.
-pub rows-done : (s id : List ℕ) (n i at : ℕ) (h : Held) → n ≤ i → rowsFrom s id (n - i) i at h ≡ got h at
-unfolding rowsFrom
-rows-done s id n i at h l =
-    let k : n - i ≡ 0 = omega arith in
-    ap (λ (m : ℕ). rowsFrom s id m i at h) k
+  -- A row that passes leaves the rows after it.
+  pub rows-next : (s id : List ℕ) (n i at : ℕ) (h : Held) (f : Fields) (next : ℕ) → i < n → got f next ≡ rowAt l s i at
+      → rowsFrom l s id (n - i) i at h
+      ≡ rowsFrom l s id (n - (i + 1)) (i + 1) next (noted (same (rowId s (rowPlace l i)) id) h at (rowLength s (rowPlace l i)) f)
+  unfolding rowsFrom
+  rows-next s id n i at h f next q e =
+      let k : n - i ≡ suc (n - (i + 1)) = omega arith in
+      ap (λ (m : ℕ). rowsFrom l s id m i at h) k ∙ bind-got (rowAt l s i at) _ f next e
 
--- Before the first row all rows are left.
-pub rows-begin : (s id : List ℕ) (n at : ℕ) (h : Held) → rowsFrom s id n 0 at h ≡ rowsFrom s id (n - 0) 0 at h
-rows-begin s id n at h = let k : n ≡ n - 0 = omega arith in ap (λ (m : ℕ). rowsFrom s id m 0 at h) k
+  -- A row that does not pass refuses them all.
+  pub rows-stop : (s id : List ℕ) (n i at : ℕ) (h : Held) → i < n → refused ≡ rowAt l s i at → rowsFrom l s id (n - i) i at h ≡ refused
+  unfolding rowsFrom
+  rows-stop s id n i at h q e =
+      let k : n - i ≡ suc (n - (i + 1)) = omega arith in
+      ap (λ (m : ℕ). rowsFrom l s id m i at h) k ∙ bind-refused (rowAt l s i at) _ e
 
--- ---- the ids of the rows before
+  -- After the last row what is held is answered.
+  pub rows-done : (s id : List ℕ) (n i at : ℕ) (h : Held) → n ≤ i → rowsFrom l s id (n - i) i at h ≡ got h at
+  unfolding rowsFrom
+  rows-done s id n i at h q =
+      let k : n - i ≡ 0 = omega arith in
+      ap (λ (m : ℕ). rowsFrom l s id m i at h) k
 
--- No row is before the first.
-pub among-none : (s id : List ℕ) → idAmong s id 0 ≡ false
-unfolding idAmong
-among-none s id = refl
+  -- Before the first row all rows are left.
+  pub rows-begin : (s id : List ℕ) (n at at′ : ℕ) (h : Held) → at′ ≡ at → rowsFrom l s id n 0 at h ≡ rowsFrom l s id (n - 0) 0 at′ h
+  rows-begin s id n at at′ h e = let k : n ≡ n - 0 = omega arith in ap₂ (λ (m p : ℕ). rowsFrom l s id m 0 p h) k (sym e)
 
--- The same as `among-next`, with the count as a successor.
-pub among-suc : (s id : List ℕ) (j : ℕ) → same (rowId s (rowPlace j)) id ≡ false → idAmong s id (suc j) ≡ idAmong s id j
-unfolding idAmong
-among-suc s id j e = rw (e, idAmong)
+  -- ---- the ids of the rows before
 
--- The same as `among-hit`, with the count as a successor.
-pub hit-suc : (s id : List ℕ) (j : ℕ) → same (rowId s (rowPlace j)) id ≡ true → idAmong s id (suc j) ≡ true
-unfolding idAmong
-hit-suc s id j e = rw (e, idAmong)
+  -- No row is before the first.
+  pub among-none : (s id : List ℕ) → idAmong l s id 0 ≡ false
+  unfolding idAmong
+  among-none s id = refl
 
--- Where the last row has another id, the rows before it count.
-pub among-next : (s id : List ℕ) (i : ℕ) → 0 < i → same (rowId s (rowPlace (i - 1))) id ≡ false → idAmong s id i ≡ idAmong s id (i - 1)
-among-next s id i l e =
-    let k : i ≡ suc (i - 1) = omega arith in
-    ap (idAmong s id) k ∙ among-suc s id (i - 1) e
+  -- The same as `among-next`, with the count as a successor.
+  pub among-suc : (s id : List ℕ) (j : ℕ) → same (rowId s (rowPlace l j)) id ≡ false → idAmong l s id (suc j) ≡ idAmong l s id j
+  unfolding idAmong
+  among-suc s id j e = rw (e, idAmong)
 
--- Where the last row has the id, it is among them.
-pub among-hit : (s id : List ℕ) (i : ℕ) → 0 < i → same (rowId s (rowPlace (i - 1))) id ≡ true → idAmong s id i ≡ true
-among-hit s id i l e =
-    let k : i ≡ suc (i - 1) = omega arith in
-    ap (idAmong s id) k ∙ hit-suc s id (i - 1) e
+  -- The same as `among-hit`, with the count as a successor.
+  pub hit-suc : (s id : List ℕ) (j : ℕ) → same (rowId s (rowPlace l j)) id ≡ true → idAmong l s id (suc j) ≡ true
+  unfolding idAmong
+  hit-suc s id j e = rw (e, idAmong)
+
+  -- Where the last row has another id, the rows before it count.
+  pub among-next : (s id : List ℕ) (i : ℕ) → 0 < i → same (rowId s (rowPlace l (i - 1))) id ≡ false → idAmong l s id i ≡ idAmong l s id (i - 1)
+  among-next s id i m e =
+      let k : i ≡ suc (i - 1) = omega arith in
+      ap (idAmong l s id) k ∙ among-suc s id (i - 1) e
+
+  -- Where the last row has the id, it is among them.
+  pub among-hit : (s id : List ℕ) (i : ℕ) → 0 < i → same (rowId s (rowPlace l (i - 1))) id ≡ true → idAmong l s id i ≡ true
+  among-hit s id i m e =
+      let k : i ≡ suc (i - 1) = omega arith in
+      ap (idAmong l s id) k ∙ hit-suc s id (i - 1) e

@@ -1,6 +1,6 @@
 -- The check of an image and the lookup of an id, in one pass over the rows: what the code answers. A reader of the promises does not
 -- need this page.
-use mathlib.Core.Bool.{Bool, true, false, not, _&&_, _||_}
+use mathlib.Core.Bool.{Bool, true, false, not, _&&_}
 use mathlib.Core.List.{List, [], _∷_}
 use Prim.Native.Nat.{ℕ, zero, suc, _+_}
 use lib.ListN.{length}
@@ -21,15 +21,16 @@ use Rattle.image.specs.declared.StoredNumbers.{StoredNumbers}
 use Rattle.image.specs.declared.Finding.the-variants.{Found, BadId, BadImage, NotHeld}
 use Rattle.image.specs.declared.rows.RowRead.{RowRead}
 use Rattle.image.specs.declared.rows.RowRead.the-variants.{IsRow, NoRow}
-use Rattle.image.specs.Layout.{imageEdition, modeEdition, headerSize, idSize, mostRows, countPlace, offsetPlace, lengthPlace}
-use Rattle.image.specs.Layout.{maskPlace, zeroPlace, rowPlace}
+use Rattle.image.specs.declared.layout.Layout.{Layout}
+use Rattle.image.specs.Layout.{modeEdition, headerSize, headerWidth, editionPlace, modesPlace, countPlace, headerZero, idSize}
+use Rattle.image.specs.Layout.{bodyWidth, maskWidth, offsetPlace, lengthPlace, maskPlace, zeroPlace, mostRows, zeroSize, rowPlace}
 use Rattle.image.specs.Image.{reading}
 
 -- ---- numbers of the header and of the row at r
 
 -- the row count
 unfoldable pub rowCount : List ℕ → ℕ
-rowCount s = numberAt s countPlace 2
+rowCount s = numberAt s countPlace headerWidth
 
 -- the id of the row
 abbrev pub rowId : List ℕ → ℕ → List ℕ
@@ -37,29 +38,32 @@ rowId s r = part s r idSize
 
 -- the body's offset
 abbrev pub rowOffset : List ℕ → ℕ → ℕ
-rowOffset s r = numberAt s (r + offsetPlace) 4
+rowOffset s r = numberAt s (r + offsetPlace) bodyWidth
 
 -- the body's length
 abbrev pub rowLength : List ℕ → ℕ → ℕ
-rowLength s r = numberAt s (r + lengthPlace) 4
+rowLength s r = numberAt s (r + lengthPlace) bodyWidth
 
--- the editions are known, the row count is at most 64, and zero follows
-unfoldable pub headerFits : List ℕ → Bool
-headerFits s =
-    eqb (numberAt s 0 2) imageEdition && (eqb (numberAt s 2 2) modeEdition && (leb (rowCount s) mostRows && eqb (numberAt s 6 2) 0))
+-- the editions are these, there are no more rows than the most, and zero follows
+unfoldable pub headerFits : Layout → List ℕ → Bool
+headerFits l s =
+    eqb (numberAt s editionPlace headerWidth) (l .edition)
+    && (eqb (numberAt s modesPlace headerWidth) modeEdition
+    && (leb (rowCount s) (mostRows l) && eqb (numberAt s headerZero headerWidth) 0))
 
 -- ---- one row
 
 -- one of the first n rows has the id
-unfoldable pub idAmong : List ℕ → List ℕ → ℕ → Bool
-idAmong s id zero = false
-idAmong s id (suc n) = elim (same (rowId s (rowPlace n)) id) [ true ↦ true | false ↦ idAmong s id n ]
+unfoldable pub idAmong : Layout → List ℕ → List ℕ → ℕ → Bool
+idAmong l s id zero = false
+idAmong l s id (suc n) = elim (same (rowId s (rowPlace l n)) id) [ true ↦ true | false ↦ idAmong l s id n ]
 
 -- the row at r is that of the body at `at`, of which f was read: its id, its offset, the union of its modes, and zero
-unfoldable pub rowFits : List ℕ → ℕ → ℕ → Fields → Bool
-rowFits s r at f =
+unfoldable pub rowFits : Layout → List ℕ → ℕ → ℕ → Fields → Bool
+rowFits l s r at f =
     same (rowId s r) (part s (at + f .id) idSize)
-    && (eqb (rowOffset s r) at && (eqb (numberAt s (r + maskPlace) 1) (f .mask) && eqb (numberAt s (r + zeroPlace) 7) 0))
+    && (eqb (rowOffset s r) at
+    && (eqb (numberAt s (r + maskPlace) maskWidth) (f .mask) && eqb (numberAt s (r + zeroPlace) (zeroSize l)) 0))
 
 -- what was read, and then a reader
 abbrev pub onRead : {R : Type 0} → Reading → (Fields → Got R) → Got R
@@ -68,13 +72,13 @@ onRead Structure k = refused
 onRead Validity k = refused
 
 -- row i, whose body begins at `at`: what was read of the body, and the place after it
-unfoldable pub rowAt : List ℕ → ℕ → ℕ → Got Fields
-rowAt s i at =
-    let r = rowPlace i in
+unfoldable pub rowAt : Layout → List ℕ → ℕ → ℕ → Got Fields
+rowAt l s i at =
+    let r = rowPlace l i in
     let n = rowLength s r in
     guard (leb (at + n) (length s))
     (onRead (reading (part s at n)) (λ f.
-    guard (rowFits s r at f) (guard (not (idAmong s (rowId s r) i)) (got f (at + n)))))
+    guard (rowFits l s r at f) (guard (not (idAmong l s (rowId s r) i)) (got f (at + n)))))
 
 -- ---- all rows
 
@@ -84,17 +88,19 @@ noted true h at n f = Body at n f
 noted false h at n f = h
 
 -- k rows from row i on, whose bodies begin at `at`: the body with the id, and the place after the last
-unfoldable pub rowsFrom : List ℕ → List ℕ → ℕ → ℕ → ℕ → Held → Got Held
-rowsFrom s id zero i at h = got h at
-rowsFrom s id (suc k) i at h =
-    bind (rowAt s i at) (λ f next. rowsFrom s id k (i + 1) next (noted (same (rowId s (rowPlace i)) id) h at (rowLength s (rowPlace i)) f))
+unfoldable pub rowsFrom : Layout → List ℕ → List ℕ → ℕ → ℕ → ℕ → Held → Got Held
+rowsFrom l s id zero i at h = got h at
+rowsFrom l s id (suc k) i at h =
+    let r = rowPlace l i in
+    bind (rowAt l s i at) (λ f next. rowsFrom l s id k (i + 1) next (noted (same (rowId s r) id) h at (rowLength s r) f))
 
 -- the check of the image that s begins with: the body with the id, and where the image ends
-unfoldable pub checked : List ℕ → List ℕ → Got Held
-checked s id =
+unfoldable pub checked : Layout → List ℕ → List ℕ → Got Held
+checked l s id =
+    let start = rowPlace l (rowCount s) in
     guard (leb headerSize (length s))
-    (guard (headerFits s)
-    (guard (leb (rowPlace (rowCount s)) (length s)) (rowsFrom s id (rowCount s) 0 (rowPlace (rowCount s)) Missing)))
+    (guard (headerFits l s)
+    (guard (leb start (length s)) (rowsFrom l s id (rowCount s) 0 start Missing)))
 
 -- ---- what is answered
 
@@ -109,8 +115,8 @@ surveyed n (got h end) = Sound n end h
 surveyed n refused = Unsound
 
 -- the survey of an image for an id
-unfoldable pub surveyOf : List ℕ → List ℕ → Survey
-surveyOf s id = surveyed (rowCount s) (checked s id)
+unfoldable pub surveyOf : Layout → List ℕ → List ℕ → Survey
+surveyOf l s id = surveyed (rowCount s) (checked l s id)
 
 -- the image is sound
 abbrev pub isSound : Survey → Bool
@@ -133,8 +139,8 @@ foundIn (Sound n end h) = heldAt h
 foundIn Unsound = BadImage
 
 -- the lookup of an id: an id that is not 16 bytes, then the image, then the row
-unfoldable pub findOf : List ℕ → List ℕ → Finding
-findOf s id = elim (eqb (length id) idSize) [ true ↦ foundIn (surveyOf s id) | false ↦ BadId ]
+unfoldable pub findOf : Layout → List ℕ → List ℕ → Finding
+findOf l s id = elim (eqb (length id) idSize) [ true ↦ foundIn (surveyOf l s id) | false ↦ BadId ]
 
 -- document 01's answer for a lookup, and the place and length of the body
 abbrev pub numbersOf : Finding → StoredNumbers
@@ -153,10 +159,10 @@ bodySpan s NotHeld = spanOf 0 0
 -- ---- the bodies that the rows name
 
 -- the bodies of k rows from row i on
-unfoldable pub bodiesFrom : List ℕ → ℕ → ℕ → List (List ℕ)
-bodiesFrom s zero i = []
-bodiesFrom s (suc k) i = part s (rowOffset s (rowPlace i)) (rowLength s (rowPlace i)) ∷ bodiesFrom s k (i + 1)
+unfoldable pub bodiesFrom : Layout → List ℕ → ℕ → ℕ → List (List ℕ)
+bodiesFrom l s zero i = []
+bodiesFrom l s (suc k) i = part s (rowOffset s (rowPlace l i)) (rowLength s (rowPlace l i)) ∷ bodiesFrom l s k (i + 1)
 
 -- the bodies of an image
-unfoldable pub bodiesOf : List ℕ → List (List ℕ)
-bodiesOf s = bodiesFrom s (rowCount s) 0
+unfoldable pub bodiesOf : Layout → List ℕ → List (List ℕ)
+bodiesOf l s = bodiesFrom l s (rowCount s) 0

@@ -1,24 +1,31 @@
 -- A new image: what the code answers and writes. A reader of the promises does not need this page.
-use mathlib.Core.Bool.{Bool, true, false, cond}
-use mathlib.Core.List.{List, [], _∷_, _++_}
+use mathlib.Core.Bool.{cond}
+use mathlib.Core.List.{List}
 use Prim.Native.Nat.{ℕ}
-use lib.ListN.{length, drop}
+use lib.ListN.{length}
 use lib.Dec.{ltb}
+use Rattle.octets.specs.Number.{bigEndian}
+use Rattle.octets.specs.Write.{putAt}
+use Rattle.image.specs.declared.layout.Layout.{Layout}
 use Rattle.image.specs.declared.Made.{Made}
 use Rattle.image.specs.declared.Made.the-variants.{Done, TooShort}
-use Rattle.image.specs.Layout.{headerSize}
+use Rattle.image.specs.Layout.{modeEdition, headerSize, headerWidth, editionPlace, modesPlace, countPlace, headerZero}
 
--- the bytes that a new image writes
-abbrev pub fresh : List ℕ
-fresh = 0x00 ∷ 0x01 ∷ 0x00 ∷ 0x01 ∷ 0x00 ∷ 0x00 ∷ 0x00 ∷ 0x00 ∷ []
+-- the header of no rows: the two editions, the row count, and zero
+unfoldable pub fresh : Layout → List ℕ → List ℕ
+fresh l d =
+    let d₁ = putAt d editionPlace (bigEndian headerWidth (l .edition)) in
+    let d₂ = putAt d₁ modesPlace (bigEndian headerWidth modeEdition) in
+    let d₃ = putAt d₂ countPlace (bigEndian headerWidth 0) in
+    putAt d₃ headerZero (bigEndian headerWidth 0)
 
 -- a buffer under 8 bytes is too short
 unfoldable pub madeOf : List ℕ → Made
 madeOf d = cond (ltb (length d) headerSize) TooShort Done
 
--- and is left as it was; another has those bytes first, and no other byte is changed
-unfoldable pub afterNew : List ℕ → List ℕ
-afterNew d = cond (ltb (length d) headerSize) d (fresh ++ drop headerSize d)
+-- and is left as it was; another has the header first, and no other byte is changed
+unfoldable pub afterNew : Layout → List ℕ → List ℕ
+afterNew l d = cond (ltb (length d) headerSize) d (fresh l d)
 
 -- document 01's number
 abbrev pub numberOf : Made → ℕ

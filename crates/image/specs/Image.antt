@@ -1,5 +1,5 @@
 -- The image of a list of bodies, and which lists an image may hold. Document 01, "The stored image": a table of contents first, then
--- the bodies. Numbers are big-endian. Nothing here reads an image.
+-- the bodies. Numbers are big-endian. What depends on the edition takes its layout. Nothing here reads an image.
 use mathlib.Core.Path.{_≡_}
 use mathlib.Core.Bool.{Bool, true, false, _||_}
 use mathlib.Core.List.{List, [], _∷_, _++_}
@@ -13,7 +13,8 @@ use Rattle.descriptor.specs.declared.Reading.{Reading}
 use Rattle.descriptor.specs.declared.Reading.the-variants.{Read, Structure, Validity}
 use Rattle.descriptor.specs.Reader.{readOf}
 use Rattle.descriptor.specs.Answer.{readingOf}
-use Rattle.image.specs.Layout.{imageEdition, modeEdition, idSize, mostRows, rowPlace}
+use Rattle.image.specs.declared.layout.Layout.{Layout}
+use Rattle.image.specs.Layout.{modeEdition, headerWidth, idSize, bodyWidth, maskWidth, mostRows, zeroSize, rowPlace}
 
 -- ---- what reading says of a body
 
@@ -50,17 +51,20 @@ modesOf b = maskIn (reading b)
 -- ---- the image of a list of bodies
 
 -- image edition (2 bytes), mode edition (2), row count (2), zero (2)
-unfoldable pub header : ℕ → List ℕ
-header n = bigEndian 2 imageEdition ++ (bigEndian 2 modeEdition ++ (bigEndian 2 n ++ bigEndian 2 0))
+unfoldable pub header : Layout → ℕ → List ℕ
+header l n = bigEndian headerWidth (l .edition)
+    ++ (bigEndian headerWidth modeEdition ++ (bigEndian headerWidth n ++ bigEndian headerWidth 0))
 
--- the row of a body that lies at the place: descriptor id (16), body offset (4), body length (4), mask (1), zero (7)
-unfoldable pub row : ℕ → List ℕ → List ℕ
-row at b = idOf b ++ (bigEndian 4 at ++ (bigEndian 4 (length b) ++ (bigEndian 1 (modesOf b) ++ bigEndian 7 0)))
+-- the row of a body that lies at the place: descriptor id (16), body offset (4), body length (4), mask (1), and zero to
+-- the row's end
+unfoldable pub row : Layout → ℕ → List ℕ → List ℕ
+row l at b = idOf b
+    ++ (bigEndian bodyWidth at ++ (bigEndian bodyWidth (length b) ++ (bigEndian maskWidth (modesOf b) ++ bigEndian (zeroSize l) 0)))
 
 -- the rows of bodies that lie back to back from the place on
-unfoldable pub rowsOf : ℕ → List (List ℕ) → List ℕ
-rowsOf at [] = []
-rowsOf at (b ∷ bs) = row at b ++ rowsOf (at + length b) bs
+unfoldable pub rowsOf : Layout → ℕ → List (List ℕ) → List ℕ
+rowsOf l at [] = []
+rowsOf l at (b ∷ bs) = row l at b ++ rowsOf l (at + length b) bs
 
 -- bodies back to back
 unfoldable pub joined : List (List ℕ) → List ℕ
@@ -68,8 +72,8 @@ joined [] = []
 joined (b ∷ bs) = b ++ joined bs
 
 -- the image of a list of bodies
-unfoldable pub imageOf : List (List ℕ) → List ℕ
-imageOf bs = header (length bs) ++ (rowsOf (rowPlace (length bs)) bs ++ joined bs)
+unfoldable pub imageOf : Layout → List (List ℕ) → List ℕ
+imageOf l bs = header l (length bs) ++ (rowsOf l (rowPlace l (length bs)) bs ++ joined bs)
 
 -- ---- the lists that an image may hold
 
@@ -86,16 +90,16 @@ pub record BodyOk (seen : List (List ℕ)) (b : List ℕ) : Type 0 where
 abbrev pub seenWith : List (List ℕ) → List ℕ → List (List ℕ)
 seenWith seen b = seen ++ (b ∷ [])
 
--- at most 64 bodies that read with 0 and whose ids differ
-pub record BodiesOk (bs : List (List ℕ)) : Type 0 where
-  pub few : length bs ≤ mostRows
+-- no more bodies than there may be rows, which read with 0 and whose ids differ
+pub record BodiesOk (l : Layout) (bs : List (List ℕ)) : Type 0 where
+  pub few : length bs ≤ mostRows l
   pub each : AllFrom BodyOk seenWith [] bs
 
 -- the image of the bodies, followed by anything
-pub record Holds (s : List ℕ) (bs : List (List ℕ)) : Type 0 where
-  pub bodies : BodiesOk bs
+pub record Holds (l : Layout) (s : List ℕ) (bs : List (List ℕ)) : Type 0 where
+  pub bodies : BodiesOk l bs
   pub rest : List ℕ
-  pub whole : s ≡ imageOf bs ++ rest
+  pub whole : s ≡ imageOf l bs ++ rest
 
 -- the body that has the id
 unfoldable pub bodyWith : List ℕ → List (List ℕ) → Option (List ℕ)

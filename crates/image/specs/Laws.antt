@@ -1,4 +1,5 @@
--- What the crates above stand on, in the code's own answers. A reader of the promises does not need this page.
+-- What the crates above stand on, in the code's own answers; proofs/Laws.antt has it at edition 1. A reader of the promises does not
+-- need this page.
 use mathlib.Core.Path.{_≡_}
 use mathlib.Core.Logic.{_↔_, _⊎_}
 use mathlib.Core.Bool.{true, cond}
@@ -18,7 +19,8 @@ use Rattle.image.specs.declared.Held.the-variants.{Missing, Body}
 use Rattle.image.specs.declared.Survey.{Survey}
 use Rattle.image.specs.declared.Survey.the-variants.{Sound, Unsound}
 use Rattle.image.specs.declared.Added.the-variants.{Done, Full}
-use Rattle.image.specs.Layout.{imageEdition, modeEdition, idSize}
+use Rattle.image.specs.declared.layout.Layout.{Layout}
+use Rattle.image.specs.Layout.{modeEdition, headerWidth, editionPlace, modesPlace, idSize}
 use Rattle.image.specs.Image.{reading, isRead, idOf, modesOf, imageOf, BodiesOk, Holds, bodyWith}
 use Rattle.image.specs.Check.{surveyOf, bodiesOf}
 use Rattle.image.specs.Grow.{addedOf, afterAdd, hasRoom, withBody}
@@ -55,13 +57,13 @@ EncodingRead = (d : Descriptor) → AreBytes (encode d) → Allowed d
 -- ---- the body with an id
 
 -- the body that has an id is one that stands in the list and has it
-abbrev pub BodyWithExactly : Type 0
-BodyWithExactly = (id : List ℕ) (bs : List (List ℕ)) (b : List ℕ) → BodiesOk bs
+abbrev pub BodyWithExactly : Layout → Type 0
+BodyWithExactly l = (id : List ℕ) (bs : List (List ℕ)) (b : List ℕ) → BodiesOk l bs
     → (bodyWith id bs ≡ some b) ↔ ((idOf b ≡ id) × ((i : ℕ) × (i < length bs) × (getD bs i [] ≡ b)))
 
 -- the bodies that a buffer holds are those that its rows name
-abbrev pub BodiesNamed : Type 0
-BodiesNamed = (s : List ℕ) (bs : List (List ℕ)) → Holds s bs → bodiesOf s ≡ bs
+abbrev pub BodiesNamed : Layout → Type 0
+BodiesNamed l = (s : List ℕ) (bs : List (List ℕ)) → Holds l s bs → bodiesOf l s ≡ bs
 
 -- ---- what a survey says
 
@@ -77,28 +79,28 @@ HeldIs s id bs Missing = bodyWith id bs ≡ none
 HeldIs s id bs (Body at len f) = HeldBody s id bs at len f
 
 -- the survey of an image says how many bodies it has, where it ends, and which body has the id
-abbrev pub SurveyTells : Type 0
-SurveyTells = (s id : List ℕ) (bs : List (List ℕ)) → Holds s bs
-    → (h : Held) × (surveyOf s id ≡ Sound (length bs) (length (imageOf bs)) h) × HeldIs s id bs h
+abbrev pub SurveyTells : Layout → Type 0
+SurveyTells l = (s id : List ℕ) (bs : List (List ℕ)) → Holds l s bs
+    → (h : Held) × (surveyOf l s id ≡ Sound (length bs) (length (imageOf l bs)) h) × HeldIs s id bs h
 
 -- what is so of an image that a survey calls sound
-pub record Surveyed (s id : List ℕ) (n end : ℕ) (h : Held) : Type 0 where
-  pub holds : Holds s (bodiesOf s)
-  pub rows : n ≡ length (bodiesOf s)
-  pub ends : end ≡ length (imageOf (bodiesOf s))
-  pub held : HeldIs s id (bodiesOf s) h
+pub record Surveyed (l : Layout) (s id : List ℕ) (n end : ℕ) (h : Held) : Type 0 where
+  pub holds : Holds l s (bodiesOf l s)
+  pub rows : n ≡ length (bodiesOf l s)
+  pub ends : end ≡ length (imageOf l (bodiesOf l s))
+  pub held : HeldIs s id (bodiesOf l s) h
 
 -- bytes that a survey calls sound hold the bodies that their rows name, and what it says of them is so
-abbrev pub SurveySays : Type 0
-SurveySays = (s id : List ℕ) → AreBytes s → (n end : ℕ) (h : Held) → surveyOf s id ≡ Sound n end h → Surveyed s id n end h
+abbrev pub SurveySays : Layout → Type 0
+SurveySays l = (s id : List ℕ) → AreBytes s → (n end : ℕ) (h : Held) → surveyOf l s id ≡ Sound n end h → Surveyed l s id n end h
 
 -- bytes that a survey calls unsound hold no list of bodies
-abbrev pub SurveyUnsound : Type 0
-SurveyUnsound = (s id : List ℕ) → AreBytes s → (surveyOf s id ≡ Unsound) ↔ ((bs : List (List ℕ)) → Holds s bs → ⊥)
+abbrev pub SurveyUnsound : Layout → Type 0
+SurveyUnsound l = (s id : List ℕ) → AreBytes s → (surveyOf l s id ≡ Unsound) ↔ ((bs : List (List ℕ)) → Holds l s bs → ⊥)
 
 -- a survey calls an image of other editions unsound
-abbrev pub EditionsSurveyed : Type 0
-EditionsSurveyed = (s id : List ℕ) → (numberAt s 0 2 ≡ imageEdition → ⊥) ⊎ (numberAt s 2 2 ≡ modeEdition → ⊥) → surveyOf s id ≡ Unsound
+abbrev pub EditionsSurveyed : Layout → Type 0
+EditionsSurveyed l = (s id : List ℕ) → (numberAt s editionPlace headerWidth ≡ l .edition → ⊥) ⊎ (numberAt s modesPlace headerWidth ≡ modeEdition → ⊥) → surveyOf l s id ≡ Unsound
 
 -- the body that is held lies in the image, and its fields are those that were read of it
 abbrev pub HeldFits : List ℕ → Held → Type 0
@@ -111,23 +113,23 @@ SurveyFits s (Sound n end h) = (end ≤ length s) × HeldFits s h
 SurveyFits s Unsound = Unit {0}
 
 -- the places that a survey answers lie in the image
-abbrev pub SurveyInside : Type 0
-SurveyInside = (s id : List ℕ) → AreBytes s → SurveyFits s (surveyOf s id)
+abbrev pub SurveyInside : Layout → Type 0
+SurveyInside l = (s id : List ℕ) → AreBytes s → SurveyFits s (surveyOf l s id)
 
 -- ---- one body more
 
 -- A body that reads is added to a buffer that holds bodies exactly where there is room for it; the buffer is then the image of the bodies
 -- and the new one, and beyond it what stood there. Else no byte is changed.
-abbrev pub BodyAdded : Type 0
-BodyAdded = (d : List ℕ) (bs : List (List ℕ)) (b : List ℕ) (f : Fields) → Holds d bs → reading b ≡ Read f
-    → (addedOf d (length bs) (length (imageOf bs)) b (f .id) ≡ cond (hasRoom d bs b) Done Full)
-    × (afterAdd d (length bs) (length (imageOf bs)) b (f .id) (f .mask) ≡ cond (hasRoom d bs b) (withBody d bs b) d)
+abbrev pub BodyAdded : Layout → Type 0
+BodyAdded l = (d : List ℕ) (bs : List (List ℕ)) (b : List ℕ) (f : Fields) → Holds l d bs → reading b ≡ Read f
+    → (addedOf l d (length bs) (length (imageOf l bs)) b (f .id) ≡ cond (hasRoom l d bs b) Done Full)
+    × (afterAdd l d (length bs) (length (imageOf l bs)) b (f .id) (f .mask) ≡ cond (hasRoom l d bs b) (withBody l d bs b) d)
 
 -- where there is room, and none of the bodies has its id, the larger buffer holds the bodies and the new one; its id then has it, and
 -- any other id what it had
-pub record OneMore : Type 0 where
-  pub holds : (d : List ℕ) (bs : List (List ℕ)) (b : List ℕ) → Holds d bs → hasRoom d bs b ≡ true → isRead (reading b) ≡ true
+pub record OneMore (l : Layout) : Type 0 where
+  pub holds : (d : List ℕ) (bs : List (List ℕ)) (b : List ℕ) → Holds l d bs → hasRoom l d bs b ≡ true → isRead (reading b) ≡ true
       → bodyWith (idOf b) bs ≡ none
-      → Holds (withBody d bs b) (bs ++ (b ∷ []))
+      → Holds l (withBody l d bs b) (bs ++ (b ∷ []))
   pub mine : (bs : List (List ℕ)) (b : List ℕ) → bodyWith (idOf b) bs ≡ none → bodyWith (idOf b) (bs ++ (b ∷ [])) ≡ some b
   pub others : (id : List ℕ) (bs : List (List ℕ)) (b : List ℕ) → (idOf b ≡ id → ⊥) → bodyWith id (bs ++ (b ∷ [])) ≡ bodyWith id bs

@@ -3,5 +3,6 @@ pub mod Image
 pub mod Check
 pub mod Fresh
 pub mod Grow
+pub mod Edition1
 pub mod Promises
 pub mod Laws

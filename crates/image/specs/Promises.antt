@@ -16,9 +16,10 @@ use Rattle.descriptor.specs.Reader.{readOf}
 use Rattle.descriptor.specs.Answer.{readingOf}
 use Rattle.descriptor.specs.Numbers as descriptor
 use Rattle.image.specs.declared.StoredNumbers.{StoredNumbers}
-use Rattle.image.specs.Image.{idOf, modesOf, header, row, rowsOf, joined, imageOf, Holds, bodyWith}
-use Rattle.image.specs.Check.{findOf, bodySpan, numbersOf}
-use Rattle.image.specs.Fresh.{madeOf, afterNew, numberOf}
+use Rattle.image.specs.Image.{idOf, modesOf, joined, bodyWith}
+use Rattle.image.specs.Check.{bodySpan, numbersOf}
+use Rattle.image.specs.Fresh.{madeOf, numberOf}
+use Rattle.image.specs.Edition1.{header, row, rowsOf, imageOf, Holds, findOf, afterNew}
 
 -- ---- the layout
 

@@ -1,14 +1,22 @@
-// One more row and body in an image, in place.
+// A new image, and one more row and body in an image, in place.
 use crate::Added;
+use crate::Made;
+use crate::layout::BODY_WIDTH;
 use crate::layout::COUNT_PLACE;
+use crate::layout::EDITION_PLACE;
 use crate::layout::HEADER_SIZE;
+use crate::layout::HEADER_WIDTH;
+use crate::layout::HEADER_ZERO;
 use crate::layout::ID_SIZE;
 use crate::layout::LENGTH_PLACE;
+use crate::layout::Layout;
 use crate::layout::MASK_PLACE;
-use crate::layout::MOST_ROWS;
+use crate::layout::MASK_WIDTH;
+use crate::layout::MODE_EDITION;
+use crate::layout::MODES_PLACE;
 use crate::layout::OFFSET_PLACE;
-use crate::layout::ROW_SIZE;
 use crate::layout::ZERO_PLACE;
+use crate::layout::row_place;
 use octets::move_up;
 use octets::number_at;
 use octets::put;
@@ -16,68 +24,85 @@ use octets::put_number;
 ghost use mathlib.Core.Path.{_≡_};
 ghost use Prim.Native.Nat.{_+_, _≤_, _<_};
 ghost use lib.ListN.{length};
-ghost use Rattle.image.specs.Layout.{rowSize, idSize, mostRows, rowPlace};
+ghost use Rattle.image.specs.Layout.{idSize, rowSize, mostRows, rowPlace, LayoutOk};
+ghost use Rattle.image.specs.Fresh.{madeOf, afterNew};
 ghost use Rattle.image.specs.Grow.{raised, withRow, grown, fits, addedOf, afterAdd};
 
+// Makes a new image of no bodies; a buffer that is too short for its header is left as it was.
+pub(crate) fn new_image(layout: Layout, d: &mut [u8]) -> Made
+    ensures { λ r. ⌜ (r ≡ madeOf (now (d .entry))) × (now (d .exit) ≡ afterNew layout (now (d .entry))) ⌝ }
+{
+    if d.len() < HEADER_SIZE {
+        return Made::TooShort;
+    }
+    put_number(d, EDITION_PLACE, HEADER_WIDTH, layout.edition);
+    put_number(d, MODES_PLACE, HEADER_WIDTH, MODE_EDITION);
+    put_number(d, COUNT_PLACE, HEADER_WIDTH, 0);
+    put_number(d, HEADER_ZERO, HEADER_WIDTH, 0);
+    Made::Done
+}
+
 // Raises the offsets of the n rows by a row.
-fn raise(d: &mut [u8], n: usize)
-    requires { ⌜ n < mostRows ⌝ }
-    ensures { λ _. ⌜ now (d .exit) ≡ raised (now (d .entry)) n 0 ⌝ }
+fn raise(layout: Layout, d: &mut [u8], n: usize)
+    requires { ⌜ LayoutOk layout × (n < mostRows layout) ⌝ }
+    ensures { λ _. ⌜ now (d .exit) ≡ raised layout (now (d .entry)) n 0 ⌝ }
 {
     let mut i = 0;
     while i < n {
-        let r = HEADER_SIZE + ROW_SIZE * i + OFFSET_PLACE;
-        let offset = number_at(d, r, 4);
-        put_number(d, r, 4, offset + ROW_SIZE as u64);
+        let at = row_place(layout, i) + OFFSET_PLACE;
+        let offset = number_at(d, at, BODY_WIDTH);
+        put_number(d, at, BODY_WIDTH, offset + layout.row_size as u64);
         i += 1;
     }
 }
 
 // Writes the row at r of a body at `at`, whose id stands at `id` in it.
-fn put_row(d: &mut [u8], r: usize, at: usize, body: &[u8], id: usize, mask: u64)
-    requires { ⌜ (id + idSize ≤ length (now body)) × (r + rowSize ≤ length (now d)) ⌝ }
-    ensures { λ _. ⌜ now (d .exit) ≡ withRow (now (d .entry)) r at (now (body .entry)) id mask ⌝ }
+fn put_row(layout: Layout, d: &mut [u8], r: usize, at: usize, body: &[u8], id: usize, mask: u64)
+    requires { ⌜ LayoutOk layout × (id + idSize ≤ length (now body)) × (r + rowSize layout ≤ length (now d)) ⌝ }
+    ensures { λ _. ⌜ now (d .exit) ≡ withRow layout (now (d .entry)) r at (now (body .entry)) id mask ⌝ }
 {
     put(d, r, &body[id..id + ID_SIZE]);
-    put_number(d, r + OFFSET_PLACE, 4, at as u64);
-    put_number(d, r + LENGTH_PLACE, 4, body.len() as u64);
-    put_number(d, r + MASK_PLACE, 1, mask);
-    put_number(d, r + ZERO_PLACE, 7, 0);
+    put_number(d, r + OFFSET_PLACE, BODY_WIDTH, at as u64);
+    put_number(d, r + LENGTH_PLACE, BODY_WIDTH, body.len() as u64);
+    put_number(d, r + MASK_PLACE, MASK_WIDTH, mask);
+    put_number(d, r + ZERO_PLACE, layout.row_size - ZERO_PLACE, 0);
 }
 
 // Adds the body last: n rows are held, whose bodies end at `end`.
-fn grow(d: &mut [u8], rows: u64, end: usize, body: &[u8], id: usize, mask: u64)
-    requires { ⌜ (rows < mostRows) × (rowPlace rows ≤ end) × (end + rowSize + length (now body) ≤ length (now d)) × (id + idSize ≤ length (now body)) ⌝ }
-    ensures { λ _. ⌜ now (d .exit) ≡ grown (now (d .entry)) rows end (now (body .entry)) id mask ⌝ }
+fn grow(layout: Layout, d: &mut [u8], rows: u64, end: usize, body: &[u8], id: usize, mask: u64)
+    requires { ⌜ LayoutOk layout × (rows < mostRows layout) × (rowPlace layout rows ≤ end) × (end + rowSize layout + length (now body) ≤ length (now d)) × (id + idSize ≤ length (now body)) ⌝ }
+    ensures { λ _. ⌜ now (d .exit) ≡ grown layout (now (d .entry)) rows end (now (body .entry)) id mask ⌝ }
 {
     let n = rows as usize;
-    let start = HEADER_SIZE + ROW_SIZE * n;
-    move_up(d, start, end, ROW_SIZE);
-    raise(d, n);
-    put_row(d, start, end + ROW_SIZE, body, id, mask);
-    put(d, end + ROW_SIZE, body);
-    put_number(d, COUNT_PLACE, 2, rows + 1);
+    let start = row_place(layout, n);
+    let at = end + layout.row_size;
+    move_up(d, start, end, layout.row_size);
+    raise(layout, d, n);
+    put_row(layout, d, start, at, body, id, mask);
+    put(d, at, body);
+    put_number(d, COUNT_PLACE, HEADER_WIDTH, rows + 1);
 }
 
 // Whether a row and the body can be added: fewer rows than the most, whose bodies begin after them and end at `end`, room for the larger
 // image, and an id that lies in the body.
-fn can_grow(d: &[u8], rows: u64, end: usize, body: &[u8], id: usize) -> bool
-    ensures { λ r. ⌜ r ≡ fits (now (d .entry)) rows end (now (body .entry)) id ⌝ }
+fn can_grow(layout: Layout, d: &[u8], rows: u64, end: usize, body: &[u8], id: usize) -> bool
+    requires { ⌜ LayoutOk layout ⌝ }
+    ensures { λ r. ⌜ r ≡ fits layout (now (d .entry)) rows end (now (body .entry)) id ⌝ }
 {
-    if MOST_ROWS <= rows {
+    if layout.most_rows <= rows {
         return false;
     }
-    if end < HEADER_SIZE + ROW_SIZE * rows as usize {
+    if end < row_place(layout, rows as usize) {
         return false;
     }
     if d.len() < end {
         return false;
     }
     let left = d.len() - end;
-    if left < ROW_SIZE {
+    if left < layout.row_size {
         return false;
     }
-    if left - ROW_SIZE < body.len() {
+    if left - layout.row_size < body.len() {
         return false;
     }
     if body.len() < ID_SIZE {
@@ -91,6 +116,7 @@ fn can_grow(d: &[u8], rows: u64, end: usize, body: &[u8], id: usize) -> bool
 
 // Adds the body last, or answers that it cannot, and writes nothing.
 pub(crate) fn add_body(
+    layout: Layout,
     d: &mut [u8],
     rows: u64,
     end: usize,
@@ -98,11 +124,12 @@ pub(crate) fn add_body(
     id: usize,
     mask: u64,
 ) -> Added
-    ensures { λ r. ⌜ (r ≡ addedOf (now (d .entry)) rows end (now (body .entry)) id) × (now (d .exit) ≡ afterAdd (now (d .entry)) rows end (now (body .entry)) id mask) ⌝ }
+    requires { ⌜ LayoutOk layout ⌝ }
+    ensures { λ r. ⌜ (r ≡ addedOf layout (now (d .entry)) rows end (now (body .entry)) id) × (now (d .exit) ≡ afterAdd layout (now (d .entry)) rows end (now (body .entry)) id mask) ⌝ }
 {
-    if !can_grow(d, rows, end, body, id) {
+    if !can_grow(layout, d, rows, end, body, id) {
         return Added::Full;
     }
-    grow(d, rows, end, body, id, mask);
+    grow(layout, d, rows, end, body, id, mask);
     Added::Done
 }

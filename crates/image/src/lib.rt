@@ -4,11 +4,12 @@ pub mod layout;
 mod rows;
 
 use descriptor::Fields;
+use layout::EDITION1;
 ghost use mathlib.Core.Path.{_≡_};
 ghost use Rattle.octets.specs.Bytes.{PartOf};
-ghost use Rattle.image.specs.Check.{surveyOf, heldAt, findOf, bodySpan};
-ghost use Rattle.image.specs.Fresh.{madeOf, afterNew};
-ghost use Rattle.image.specs.Grow.{addedOf, afterAdd};
+ghost use Rattle.image.specs.Check.{bodySpan};
+ghost use Rattle.image.specs.Fresh.{madeOf};
+ghost use Rattle.image.specs.Edition1.{surveyOf, findOf, afterNew, addedOf, afterAdd};
 
 // The body with an id: where it lies in the image, how long it is, and what was read of it; or there is none.
 pub enum Held {
@@ -59,34 +60,14 @@ pub enum Added {
 pub fn check(image: &[u8], id: &[u8]) -> Survey
     ensures { λ r. ⌜ r ≡ surveyOf (now (image .entry)) (now (id .entry)) ⌝ }
 {
-    rows::check(image, id)
+    rows::check(EDITION1, image, id)
 }
 
 // Looks for the body with the id.
 pub fn find(image: &[u8], id: &[u8]) -> Finding
     ensures { λ r. ⌜ r ≡ findOf (now (image .entry)) (now (id .entry)) ⌝ }
 {
-    if id.len() != layout::ID_SIZE {
-        return Finding::BadId;
-    }
-    match rows::check(image, id) {
-        Survey::Sound {
-            rows: _,
-            end: _,
-            held,
-        } => found(held),
-        Survey::Unsound => Finding::BadImage,
-    }
-}
-
-// Where the body is held.
-fn found(held: Held) -> Finding
-    ensures { λ r. ⌜ r ≡ heldAt held ⌝ }
-{
-    match held {
-        Held::Body { at, len, fields: _ } => Finding::Found { at, len },
-        Held::Missing => Finding::NotHeld,
-    }
+    rows::find(EDITION1, image, id)
 }
 
 // The body that was found in the image, as the part of the image itself; the empty part at the start where none was.
@@ -105,11 +86,7 @@ pub fn body_part(image: &[u8], finding: Finding) -> &[u8]
 pub fn new_image(image: &mut [u8]) -> Made
     ensures { λ r. ⌜ (r ≡ madeOf (now (image .entry))) × (now (image .exit) ≡ afterNew (now (image .entry))) ⌝ }
 {
-    if image.len() < layout::HEADER_SIZE {
-        return Made::TooShort;
-    }
-    octets::put(image, 0, b"\x00\x01\x00\x01\x00\x00\x00\x00");
-    Made::Done
+    grow::new_image(EDITION1, image)
 }
 
 // Adds the body last to an image of so many rows, whose bodies end at `end`; its id stands at `id` in it. Where it cannot be added nothing
@@ -117,5 +94,5 @@ pub fn new_image(image: &mut [u8]) -> Made
 pub fn add_body(image: &mut [u8], rows: u64, end: usize, body: &[u8], id: usize, mask: u64) -> Added
     ensures { λ r. ⌜ (r ≡ addedOf (now (image .entry)) rows end (now (body .entry)) id) × (now (image .exit) ≡ afterAdd (now (image .entry)) rows end (now (body .entry)) id mask) ⌝ }
 {
-    grow::add_body(image, rows, end, body, id, mask)
+    grow::add_body(EDITION1, image, rows, end, body, id, mask)
 }

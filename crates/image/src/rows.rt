@@ -1,17 +1,23 @@
 // The check of an image, row by row.
+use crate::Finding;
 use crate::Held;
 use crate::Survey;
+use crate::layout::BODY_WIDTH;
 use crate::layout::COUNT_PLACE;
+use crate::layout::EDITION_PLACE;
 use crate::layout::HEADER_SIZE;
+use crate::layout::HEADER_WIDTH;
+use crate::layout::HEADER_ZERO;
 use crate::layout::ID_SIZE;
-use crate::layout::IMAGE_EDITION;
 use crate::layout::LENGTH_PLACE;
+use crate::layout::Layout;
 use crate::layout::MASK_PLACE;
+use crate::layout::MASK_WIDTH;
 use crate::layout::MODE_EDITION;
-use crate::layout::MOST_ROWS;
+use crate::layout::MODES_PLACE;
 use crate::layout::OFFSET_PLACE;
-use crate::layout::ROW_SIZE;
 use crate::layout::ZERO_PLACE;
+use crate::layout::row_place;
 use descriptor::Fields;
 use descriptor::Reading;
 use octets::number_at;
@@ -19,8 +25,10 @@ use octets::same_bytes;
 ghost use mathlib.Core.Path.{_≡_};
 ghost use Prim.Native.Nat.{_+_, _≤_, _<_};
 ghost use lib.ListN.{length};
-ghost use Rattle.image.specs.Layout.{headerSize, rowSize, idSize, mostRows, rowPlace};
-ghost use Rattle.image.specs.Check.{headerFits, idAmong, rowFits, rowAt, rowRead, noted, rowCount, rowsFrom, surveyed, surveyOf};
+ghost use lib.Dec.{eqb};
+ghost use Rattle.octets.specs.Number.{numberAt};
+ghost use Rattle.image.specs.Layout.{headerSize, idSize, rowSize, mostRows, rowPlace, LayoutOk};
+ghost use Rattle.image.specs.Check.{headerFits, idAmong, rowFits, rowAt, rowRead, noted, rowCount, rowsFrom, surveyed, surveyOf, heldAt, findOf};
 
 // What was read of a row's body, and the place after it.
 pub(crate) enum RowRead {
@@ -28,26 +36,26 @@ pub(crate) enum RowRead {
     NoRow,
 }
 
-// Whether the header has known editions, at most 64 rows and zero.
-fn header_fits(s: &[u8]) -> bool
+// Whether the header has these editions, no more rows than the most, and zero.
+fn header_fits(layout: Layout, s: &[u8]) -> bool
     requires { ⌜ headerSize ≤ length (now s) ⌝ }
-    ensures { λ r. ⌜ r ≡ headerFits (now (s .entry)) ⌝ }
+    ensures { λ r. ⌜ r ≡ headerFits layout (now (s .entry)) ⌝ }
 {
-    (number_at(s, 0, 2) == IMAGE_EDITION)
-        & (number_at(s, 2, 2) == MODE_EDITION)
-        & (number_at(s, COUNT_PLACE, 2) <= MOST_ROWS)
-        & (number_at(s, 6, 2) == 0)
+    (number_at(s, EDITION_PLACE, HEADER_WIDTH) == layout.edition)
+        & (number_at(s, MODES_PLACE, HEADER_WIDTH) == MODE_EDITION)
+        & (number_at(s, COUNT_PLACE, HEADER_WIDTH) <= layout.most_rows)
+        & (number_at(s, HEADER_ZERO, HEADER_WIDTH) == 0)
 }
 
 // Whether one of the first n rows has the id.
-fn id_among(s: &[u8], id: &[u8], n: usize) -> bool
-    requires { ⌜ (n ≤ mostRows) × (rowPlace n ≤ length (now s)) ⌝ }
-    ensures { λ r. ⌜ r ≡ idAmong (now (s .entry)) (now (id .entry)) n ⌝ }
+fn id_among(layout: Layout, s: &[u8], id: &[u8], n: usize) -> bool
+    requires { ⌜ LayoutOk layout × (n ≤ mostRows layout) × (rowPlace layout n ≤ length (now s)) ⌝ }
+    ensures { λ r. ⌜ r ≡ idAmong layout (now (s .entry)) (now (id .entry)) n ⌝ }
 {
     let mut i = n;
     while 0 < i {
         i -= 1;
-        let r = HEADER_SIZE + ROW_SIZE * i;
+        let r = row_place(layout, i);
         if same_bytes(&s[r..r + ID_SIZE], id) {
             return true;
         }
@@ -55,36 +63,51 @@ fn id_among(s: &[u8], id: &[u8], n: usize) -> bool
     false
 }
 
+// Whether the n bytes from a place on are zero.
+fn is_zero(s: &[u8], at: usize, n: usize) -> bool
+    requires { ⌜ at + n ≤ length (now s) ⌝ }
+    ensures { λ r. ⌜ r ≡ eqb (numberAt (now (s .entry)) at n) 0 ⌝ }
+{
+    let mut i = 0;
+    while i < n {
+        if s[at + i] != 0 {
+            return false;
+        }
+        i += 1;
+    }
+    true
+}
+
 // Whether the row at r is that of the body at `at`.
-fn row_fits(s: &[u8], r: usize, at: usize, fields: Fields) -> bool
-    requires { ⌜ (r + rowSize ≤ length (now s)) × (at + (fields .id + idSize) ≤ length (now s)) ⌝ }
-    ensures { λ o. ⌜ o ≡ rowFits (now (s .entry)) r at fields ⌝ }
+fn row_fits(layout: Layout, s: &[u8], r: usize, at: usize, fields: Fields) -> bool
+    requires { ⌜ LayoutOk layout × (r + rowSize layout ≤ length (now s)) × (at + (fields .id + idSize) ≤ length (now s)) ⌝ }
+    ensures { λ o. ⌜ o ≡ rowFits layout (now (s .entry)) r at fields ⌝ }
 {
     let id = at + fields.id;
     if !same_bytes(&s[r..r + ID_SIZE], &s[id..id + ID_SIZE]) {
         return false;
     }
-    (number_at(s, r + OFFSET_PLACE, 4) == at as u64)
-        & (number_at(s, r + MASK_PLACE, 1) == fields.mask)
-        & (number_at(s, r + ZERO_PLACE, 7) == 0)
+    (number_at(s, r + OFFSET_PLACE, BODY_WIDTH) == at as u64)
+        & (number_at(s, r + MASK_PLACE, MASK_WIDTH) == fields.mask)
+        & is_zero(s, r + ZERO_PLACE, layout.row_size - ZERO_PLACE)
 }
 
 // Row i, whose body begins at `at`.
-fn row_at(s: &[u8], i: usize, at: usize) -> RowRead
-    requires { ⌜ (i < mostRows) × (rowPlace i + rowSize ≤ length (now s)) × (at ≤ length (now s)) ⌝ }
-    ensures { λ o. ⌜ rowRead o ≡ rowAt (now (s .entry)) i at ⌝ }
+fn row_at(layout: Layout, s: &[u8], i: usize, at: usize) -> RowRead
+    requires { ⌜ LayoutOk layout × (i < mostRows layout) × (rowPlace layout i + rowSize layout ≤ length (now s)) × (at ≤ length (now s)) ⌝ }
+    ensures { λ o. ⌜ rowRead o ≡ rowAt layout (now (s .entry)) i at ⌝ }
 {
-    let r = HEADER_SIZE + ROW_SIZE * i;
-    let n = number_at(s, r + LENGTH_PLACE, 4) as usize;
+    let r = row_place(layout, i);
+    let n = number_at(s, r + LENGTH_PLACE, BODY_WIDTH) as usize;
     if s.len() - at < n {
         return RowRead::NoRow;
     }
     match descriptor::read_descriptor(&s[at..at + n]) {
         Reading::Read(fields) => {
-            if !row_fits(s, r, at, fields) {
+            if !row_fits(layout, s, r, at, fields) {
                 return RowRead::NoRow;
             }
-            if id_among(s, &s[r..r + ID_SIZE], i) {
+            if id_among(layout, s, &s[r..r + ID_SIZE], i) {
                 return RowRead::NoRow;
             }
             RowRead::IsRow {
@@ -108,17 +131,17 @@ fn note(hit: bool, held: Held, at: usize, len: usize, fields: Fields) -> Held
 }
 
 // All n rows, and the body with the id.
-fn all_rows(s: &[u8], id: &[u8], n: usize) -> Survey
-    requires { ⌜ (n ≤ mostRows) × (rowPlace n ≤ length (now s)) ⌝ }
-    ensures { λ r. ⌜ r ≡ surveyed n (rowsFrom (now (s .entry)) (now (id .entry)) n 0 (rowPlace n) Held.Missing) ⌝ }
+fn all_rows(layout: Layout, s: &[u8], id: &[u8], n: usize) -> Survey
+    requires { ⌜ LayoutOk layout × (n ≤ mostRows layout) × (rowPlace layout n ≤ length (now s)) ⌝ }
+    ensures { λ r. ⌜ r ≡ surveyed n (rowsFrom layout (now (s .entry)) (now (id .entry)) n 0 (rowPlace layout n) Held.Missing) ⌝ }
 {
     let mut i = 0;
-    let mut at = HEADER_SIZE + ROW_SIZE * n;
+    let mut at = row_place(layout, n);
     let mut held = Held::Missing;
     while i < n {
-        match row_at(s, i, at) {
+        match row_at(layout, s, i, at) {
             RowRead::IsRow { fields, next } => {
-                let r = HEADER_SIZE + ROW_SIZE * i;
+                let r = row_place(layout, i);
                 let hit = same_bytes(&s[r..r + ID_SIZE], id);
                 held = note(hit, held, at, next - at, fields);
                 at = next;
@@ -135,18 +158,47 @@ fn all_rows(s: &[u8], id: &[u8], n: usize) -> Survey
 }
 
 // The check of the whole image.
-pub(crate) fn check(s: &[u8], id: &[u8]) -> Survey
-    ensures { λ r. ⌜ r ≡ surveyOf (now (s .entry)) (now (id .entry)) ⌝ }
+pub(crate) fn check(layout: Layout, s: &[u8], id: &[u8]) -> Survey
+    requires { ⌜ LayoutOk layout ⌝ }
+    ensures { λ r. ⌜ r ≡ surveyOf layout (now (s .entry)) (now (id .entry)) ⌝ }
 {
     if s.len() < HEADER_SIZE {
         return Survey::Unsound;
     }
-    if !header_fits(s) {
+    if !header_fits(layout, s) {
         return Survey::Unsound;
     }
-    let n = number_at(s, COUNT_PLACE, 2) as usize;
-    if s.len() < HEADER_SIZE + ROW_SIZE * n {
+    let n = number_at(s, COUNT_PLACE, HEADER_WIDTH) as usize;
+    if s.len() < row_place(layout, n) {
         return Survey::Unsound;
     }
-    all_rows(s, id, n)
+    all_rows(layout, s, id, n)
+}
+
+// Looks for the body with the id.
+pub(crate) fn find(layout: Layout, s: &[u8], id: &[u8]) -> Finding
+    requires { ⌜ LayoutOk layout ⌝ }
+    ensures { λ r. ⌜ r ≡ findOf layout (now (s .entry)) (now (id .entry)) ⌝ }
+{
+    if id.len() != ID_SIZE {
+        return Finding::BadId;
+    }
+    match check(layout, s, id) {
+        Survey::Sound {
+            rows: _,
+            end: _,
+            held,
+        } => found(held),
+        Survey::Unsound => Finding::BadImage,
+    }
+}
+
+// Where the body is held.
+fn found(held: Held) -> Finding
+    ensures { λ r. ⌜ r ≡ heldAt held ⌝ }
+{
+    match held {
+        Held::Body { at, len, fields: _ } => Finding::Found { at, len },
+        Held::Missing => Finding::NotHeld,
+    }
 }

@@ -8,7 +8,7 @@ use Rattle.octets.proofs.PartLaws.{lent-part}
 use Rattle.descriptor.specs.declared.Fields.{Fields}
 use Rattle.image.specs.declared.Held.the-variants.{Body}
 use Rattle.image.specs.declared.Survey.the-variants.{Sound}
-use Rattle.image.specs.Check.{surveyOf}
+use Rattle.image.specs.Edition1.{surveyOf}
 use Rattle.image.specs.Laws.{HeldFits, SurveyFits}
 use Rattle.image.proofs.Laws.{read-in, survey-inside}
 use Rattle.request.specs.Stages.{BodyFits}

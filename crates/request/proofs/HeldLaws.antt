@@ -14,8 +14,9 @@ use Rattle.image.specs.declared.Held.{Held}
 use Rattle.image.specs.declared.Held.the-variants.{Missing, Body}
 use Rattle.image.specs.declared.Survey.{Survey}
 use Rattle.image.specs.declared.Survey.the-variants.{Sound}
-use Rattle.image.specs.Image.{reading, imageOf, Holds, bodyWith}
-use Rattle.image.specs.Check.{surveyOf, isSound, isHeld}
+use Rattle.image.specs.Image.{reading, bodyWith}
+use Rattle.image.specs.Check.{isSound, isHeld}
+use Rattle.image.specs.Edition1.{imageOf, Holds, surveyOf}
 use Rattle.image.specs.Laws.{HeldIs}
 use Rattle.image.proofs.Laws.{survey-tells}
 use Rattle.request.specs.declared.Decision.{Decision}

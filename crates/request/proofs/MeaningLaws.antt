@@ -14,7 +14,8 @@ use Rattle.descriptor.specs.Allowed.{Formed, Allowed}
 use Rattle.descriptor.specs.View.{descriptorView}
 use Rattle.descriptor.specs.Answer.{fieldsOf, readingOf}
 use Rattle.descriptor_laws.proofs.Laws.{reads-exactly, seen-handed}
-use Rattle.image.specs.Image.{reading, Holds, bodyWith}
+use Rattle.image.specs.Image.{reading, bodyWith}
+use Rattle.image.specs.Edition1.{Holds}
 use Rattle.request.specs.declared.search.Matched.{Matched}
 use Rattle.request.specs.Request.{Request, wellFormed}
 use Rattle.request.specs.Decision.{Facts, factsOf, matchedOn, decisionOf}

@@ -16,7 +16,7 @@ use Rattle.steps.specs.Laws.{mapped, passesBy}
 use Rattle.steps.proofs.Laws.{order-mapped, passed-end, same-end, passed-by, not-by}
 use Rattle.steps.proofs.Promises as order
 use Rattle.image.specs.declared.Survey.the-variants.{Unsound}
-use Rattle.image.specs.Check.{surveyOf}
+use Rattle.image.specs.Edition1.{surveyOf}
 use Rattle.image.proofs.Laws.{editions-surveyed}
 use Rattle.request.specs.declared.Decision.{Decision}
 use Rattle.request.specs.declared.Decision.the-variants as answers

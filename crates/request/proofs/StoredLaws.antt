@@ -10,7 +10,8 @@ use Rattle.octets.specs.Bytes.{AreBytes, part}
 use Rattle.descriptor.specs.Model.{Descriptor, encode}
 use Rattle.image.specs.declared.Held.{Held}
 use Rattle.image.specs.declared.Held.the-variants.{Missing, Body}
-use Rattle.image.specs.Image.{Holds, bodyWith}
+use Rattle.image.specs.Image.{bodyWith}
+use Rattle.image.specs.Edition1.{Holds}
 use Rattle.image.specs.Laws.{HeldIs}
 use Rattle.image.proofs.Laws.{survey-tells}
 use Rattle.submission.specs.declared.Submission.the-variants as submission

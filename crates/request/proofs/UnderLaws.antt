@@ -11,8 +11,8 @@ use Rattle.image.specs.declared.Held.{Held}
 use Rattle.image.specs.declared.Held.the-variants.{Missing, Body}
 use Rattle.image.specs.declared.Survey.{Survey}
 use Rattle.image.specs.declared.Survey.the-variants.{Sound, Unsound}
-use Rattle.image.specs.Image.{Holds, bodyWith, isRead, BodiesOk}
-use Rattle.image.specs.Check.{surveyOf, bodiesOf}
+use Rattle.image.specs.Image.{bodyWith, isRead}
+use Rattle.image.specs.Edition1.{Holds, BodiesOk, surveyOf, bodiesOf}
 use Rattle.image.specs.Laws.{HeldBody, HeldIs}
 use Rattle.image.proofs.Laws.{body-read, encoding-read, body-with-exactly, survey-tells, survey-says, survey-unsound}
 use Rattle.octets.proofs.PartLaws.{part-bytes}

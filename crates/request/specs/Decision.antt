@@ -16,7 +16,8 @@ use Rattle.steps.specs.Key.{bad, noKey, isThat, keyOpen}
 use Rattle.image.specs.declared.Held.the-variants.{Missing, Body}
 use Rattle.image.specs.declared.Survey.{Survey}
 use Rattle.image.specs.declared.Survey.the-variants.{Sound, Unsound}
-use Rattle.image.specs.Check.{surveyOf, isSound, isHeld}
+use Rattle.image.specs.Check.{isSound, isHeld}
+use Rattle.image.specs.Edition1.{surveyOf}
 use Rattle.request.specs.declared.Decision.{Decision}
 use Rattle.request.specs.declared.DecisionNumbers.{DecisionNumbers}
 use Rattle.request.specs.declared.Decision.the-variants as answers

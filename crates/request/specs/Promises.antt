@@ -16,7 +16,7 @@ use Rattle.descriptor.specs.Allowed.{isIn, Allowed}
 use Rattle.descriptor.specs.Modes.{unionOf}
 use Rattle.steps.specs.declared.Window.{Window}
 use Rattle.steps.specs.Order.{Step, step, inOrder, AllPass, FirstFails}
-use Rattle.image.specs.Image.{Holds}
+use Rattle.image.specs.Edition1.{Holds}
 use Rattle.submission.specs.Submission.{submitted, afterOf, numberOf}
 use Rattle.request.specs.declared.DecisionNumbers.{DecisionNumbers}
 use Rattle.request.specs.Request.{Request, requestOf, isListed}

@@ -21,8 +21,8 @@ use Rattle.image.specs.declared.Held.the-variants.{Missing, Body}
 use Rattle.image.specs.declared.Survey.{Survey}
 use Rattle.image.specs.declared.Survey.the-variants.{Sound, Unsound}
 use Rattle.image.specs.Image.{reading, idOf}
-use Rattle.image.specs.Check.{surveyOf, isHeld, bodiesOf}
-use Rattle.image.specs.Grow.{hasRoom}
+use Rattle.image.specs.Check.{isHeld}
+use Rattle.image.specs.Edition1.{surveyOf, bodiesOf, hasRoom}
 use Rattle.submission.specs.declared.Submission.{Submission}
 use Rattle.submission.specs.declared.Submission.the-variants as answers
 use Rattle.submission.specs.declared.choose.Choice.{Choice}

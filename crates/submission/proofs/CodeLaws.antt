@@ -19,7 +19,7 @@ use Rattle.image.specs.declared.Held.the-variants.{Missing, Body}
 use Rattle.image.specs.declared.Survey.{Survey}
 use Rattle.image.specs.declared.Survey.the-variants.{Sound, Unsound}
 use Rattle.image.specs.Image.{reading, idIn, idOf}
-use Rattle.image.specs.Check.{surveyOf}
+use Rattle.image.specs.Edition1.{surveyOf}
 use Rattle.image.specs.Laws.{HeldFits}
 use Rattle.image.proofs.Laws.{read-in}
 use Rattle.image.specs.Layout.{idSize}

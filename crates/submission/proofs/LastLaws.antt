@@ -17,9 +17,11 @@ use Rattle.steps.specs.Order.{Step}
 use Rattle.steps.specs.Laws.{allPass, failsBy}
 use Rattle.steps.proofs.Laws.{passed-end, all-pass, failed-by}
 use Rattle.image.specs.declared.StoredNumbers.{StoredNumbers}
-use Rattle.image.specs.Image.{idOf, imageOf, Holds, bodyWith}
-use Rattle.image.specs.Check.{findOf, numbersOf}
-use Rattle.image.specs.Grow.{withBody}
+use Rattle.image.specs.Layout.{idSize, edition1, mostRows}
+use Rattle.image.specs.Image.{idOf, bodyWith}
+use Rattle.image.specs.Check.{numbersOf}
+use Rattle.image.specs.Grow as grow
+use Rattle.image.specs.Edition1.{imageOf, Holds, findOf}
 use Rattle.image.specs.Promises.{refusal}
 use Rattle.octets.proofs.SameLaws.{equal-same, not-same}
 use Rattle.image.proofs.Promises.{layout-fixed, lookup-exactly}
@@ -90,10 +92,10 @@ module _ (d : List ℕ) (bs : List (List ℕ)) (c : Descriptor) (clock : ℕ) (w
 
     module _ (e : bodyWith (c .payload .id) bs ≡ none) where
       -- There is no room.
-      no-room : (length bs ≡ 64) ⊎ (length d < length (imageOf (larger bs c))) → Gives d (encode c) clock 0 window 6 d
+      no-room : (length bs ≡ mostRows edition1) ⊎ (length d < length (imageOf (larger bs c))) → Gives d (encode c) clock 0 window 6 d
       no-room f =
-          let t : (ltb (length bs) 64 && leb (length (imageOf (larger bs c))) (length d)) ≡ false
-          = ⊎-elim (λ x. rw (le-ltb (length bs) 64 (omega arith))) (λ x. rw (lt-leb (length (imageOf (larger bs c))) (length d) x) (and-no (ltb (length bs) 64))) f in
+          let t : (ltb (length bs) (mostRows edition1) && leb (length (imageOf (larger bs c))) (length d)) ≡ false
+          = ⊎-elim (λ x. rw (le-ltb (length bs) (mostRows edition1) (omega arith))) (λ x. rw (lt-leb (length (imageOf (larger bs c))) (length d) x) (and-no (ltb (length bs) (mostRows edition1)))) f in
           let q : numberOf (submitted d (encode c) clock 0 window) ≡ 6
           = fails-with 6 (rw (early, open-key, e, t)) in
           (q, refusal-keeps d (encode c) clock 0 window (λ z. omega arith))
@@ -103,13 +105,13 @@ module _ (d : List ℕ) (bs : List (List ℕ)) (c : Descriptor) (clock : ℕ) (w
           and-no false = refl
 
       -- The body is stored.
-      stores : length bs < 64 → length (imageOf (larger bs c)) ≤ length d
+      stores : length bs < mostRows edition1 → length (imageOf (larger bs c)) ≤ length d
           → Gives d (encode c) clock 0 window 0 (imageOf (larger bs c) ++ drop (length (imageOf (larger bs c))) d)
           × Holds (afterOf d (encode c) clock 0 window) (larger bs c)
-      unfolding withBody
+      unfolding grow.withBody
       stores few room =
           let q : numberOf (submitted d (encode c) clock 0 window) ≡ 0
-          = all-passed (rw (early, open-key, e, lt-ltb (length bs) 64 few, le-leb (length (imageOf (larger bs c))) (length d) room)) in
+          = all-passed (rw (early, open-key, e, lt-ltb (length bs) (mostRows edition1) few, le-leb (length (imageOf (larger bs c))) (length d) room)) in
           let k = stored-last d (encode c) clock 0 window bs (r .holds) q (ap (λ (id : List ℕ). bodyWith id bs) id-of ∙ e) in
           ((q, k .1), k .0)
 
@@ -152,7 +154,7 @@ Alike s d id =
     (n .answer ≡ m .answer) × (part s (n .«body_at») (n .«body_len») ≡ part d (m .«body_at») (m .«body_len»))
 
 -- Buffers in which the id has the same body, or none, are alike.
-same-body : (s d id : List ℕ) (cs bs : List (List ℕ)) → Holds s cs → Holds d bs → length id ≡ 16 → bodyWith id cs ≡ bodyWith id bs
+same-body : (s d id : List ℕ) (cs bs : List (List ℕ)) → Holds s cs → Holds d bs → length id ≡ idSize → bodyWith id cs ≡ bodyWith id bs
     → Alike s d id
 unfolding part
 same-body s d id cs bs k h l e = go (bodyWith id bs) refl

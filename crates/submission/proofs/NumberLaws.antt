@@ -23,9 +23,9 @@ use Rattle.image.specs.declared.Held.{Held}
 use Rattle.image.specs.declared.Held.the-variants.{Missing, Body}
 use Rattle.image.specs.declared.Survey.{Survey}
 use Rattle.image.specs.declared.Survey.the-variants.{Sound, Unsound}
-use Rattle.image.specs.Image.{reading, isRead, idOf, imageOf, Holds}
-use Rattle.image.specs.Check.{surveyOf, bodiesOf}
-use Rattle.image.specs.Grow.{hasRoom}
+use Rattle.image.specs.Image.{reading, isRead, idOf}
+use Rattle.image.specs.Grow as grow
+use Rattle.image.specs.Edition1.{imageOf, Holds, surveyOf, bodiesOf}
 use Rattle.image.specs.Promises.{answerOf}
 use Rattle.image.specs.Laws.{HeldIs}
 use Rattle.image.proofs.Laws.{body-read, encoding-read, survey-tells, survey-says, survey-unsound, bodies-named}
@@ -73,7 +73,7 @@ by-descriptor : (d : List ℕ) (clock verdict : ℕ) (window : Window) (bs : Lis
     → bodiesOf d ≡ bs → f .before ≡ c .payload .notBefore → HeldIs d (c .payload .id) bs h
     → numberBy d (encode c) clock verdict window (Read f) (Sound (length bs) (length (imageOf bs)) h)
     ≡ inOrder (stepsFor (bodies bs) (encoding c) (length d) clock verdict window) 0
-unfolding stepsBy isVerdict isThat keyOpen hasRoom
+unfolding stepsBy isVerdict isThat keyOpen grow.hasRoom
 by-descriptor d clock verdict window bs c f Missing q e k = ap (λ (l : List (Step ℕ)). inOrder l 0)
     (rw (e, k, q))
 by-descriptor d clock verdict window bs c f (Body at len g) q e k = ap (λ (l : List (Step ℕ)). inOrder l 0) (rw (e, k .which))

@@ -17,8 +17,8 @@ use Rattle.steps.proofs.Laws.{none-is, passed-by, failed-by}
 use Rattle.steps.proofs.Promises as order
 use Rattle.image.specs.declared.Survey.the-variants.{Unsound}
 use Rattle.image.specs.Image.{reading, isRead, idOf}
-use Rattle.image.specs.Check.{surveyOf, isSound, isHeld, bodiesOf}
-use Rattle.image.specs.Grow.{hasRoom}
+use Rattle.image.specs.Check.{isSound, isHeld}
+use Rattle.image.specs.Edition1.{surveyOf, bodiesOf, hasRoom}
 use Rattle.submission.specs.declared.Submission.{Submission}
 use Rattle.submission.specs.declared.Submission.the-variants as answers
 use Rattle.submission.specs.Submission.{isStructure, isValidity, agrees, stepsBy, steps, submitted, numberOf}

@@ -15,9 +15,9 @@ use Rattle.image.specs.declared.Held.{Held}
 use Rattle.image.specs.declared.Held.the-variants.{Missing, Body}
 use Rattle.image.specs.declared.Survey.{Survey}
 use Rattle.image.specs.declared.Survey.the-variants.{Sound, Unsound}
-use Rattle.image.specs.Image.{idOf, imageOf, Holds, bodyWith}
-use Rattle.image.specs.Check.{surveyOf, isSound, isHeld, bodiesOf}
-use Rattle.image.specs.Grow.{hasRoom, withBody}
+use Rattle.image.specs.Image.{idOf, bodyWith}
+use Rattle.image.specs.Check.{isSound, isHeld}
+use Rattle.image.specs.Edition1.{imageOf, Holds, surveyOf, bodiesOf, hasRoom, withBody}
 use Rattle.octets.proofs.OptionLaws.{some-same, none-some}
 use Rattle.octets.proofs.SameLaws.{same-equal}
 use Rattle.image.specs.Laws.{HeldIs}

@@ -12,9 +12,9 @@ use Rattle.image.specs.declared.Held.the-variants.{Missing}
 use Rattle.image.specs.declared.Survey.{Survey}
 use Rattle.image.specs.declared.Added.{Added}
 use Rattle.image.specs.declared.Added.the-variants.{Done, Full}
-use Rattle.image.specs.Image.{reading, idOf, imageOf}
-use Rattle.image.specs.Check.{surveyOf, bodiesOf, isHeld}
-use Rattle.image.specs.Grow.{addedOf, afterAdd, hasRoom, withBody}
+use Rattle.image.specs.Image.{reading, idOf}
+use Rattle.image.specs.Check.{isHeld}
+use Rattle.image.specs.Edition1.{imageOf, surveyOf, bodiesOf, addedOf, afterAdd, hasRoom, withBody}
 use Rattle.image.proofs.Laws.{survey-says, body-added}
 use Rattle.submission.specs.declared.Submission.{Submission}
 use Rattle.submission.specs.declared.Submission.the-variants as answers

@@ -7,7 +7,8 @@ use Rattle.octets.specs.Bytes.{AreBytes}
 use Rattle.descriptor.specs.Model.{Descriptor, encode}
 use Rattle.descriptor.specs.Allowed.{Allowed}
 use Rattle.steps.specs.declared.Window.{Window}
-use Rattle.image.specs.Image.{idOf, Holds, bodyWith}
+use Rattle.image.specs.Image.{idOf, bodyWith}
+use Rattle.image.specs.Edition1.{Holds}
 use Rattle.submission.specs.Submission.{submitted, afterOf, numberOf}
 
 -- an answer of 0 says that the buffer holds a list of bodies, and that what was submitted is the encoding of an allowed descriptor and

@@ -14,8 +14,9 @@ use Rattle.descriptor.specs.Model.{Descriptor, encode}
 use Rattle.descriptor.specs.Allowed.{Allowed}
 use Rattle.steps.specs.declared.Window.{Window}
 use Rattle.steps.specs.Order.{Step, step, inOrder, AllPass, FirstFails}
-use Rattle.image.specs.Image.{idOf, imageOf, Holds, bodyWith}
-use Rattle.image.specs.Check.{findOf, numbersOf}
+use Rattle.image.specs.Image.{idOf, bodyWith}
+use Rattle.image.specs.Check.{numbersOf}
+use Rattle.image.specs.Edition1.{imageOf, Holds, findOf}
 use Rattle.image.specs.Promises.{answerOf, FoundAt}
 use Rattle.submission.specs.Submission.{submitted, afterOf, numberOf}
 

@@ -9,13 +9,12 @@ use Rattle.descriptor.specs.declared.Reading.the-variants.{Read, Structure, Val
 use Rattle.steps.specs.declared.Window.{Window}
 use Rattle.steps.specs.Order.{Step, step, inOrder}
 use Rattle.steps.specs.Key.{bad, noKey, isVerdict, isThat, keyOpen}
-use Rattle.image.specs.declared.Held.{Held}
 use Rattle.image.specs.declared.Held.the-variants.{Missing, Body}
 use Rattle.image.specs.declared.Survey.{Survey}
 use Rattle.image.specs.declared.Survey.the-variants.{Sound, Unsound}
 use Rattle.image.specs.Image.{reading, idOf}
-use Rattle.image.specs.Check.{surveyOf, isSound, isHeld, bodiesOf}
-use Rattle.image.specs.Grow.{hasRoom, withBody}
+use Rattle.image.specs.Check.{isSound, isHeld}
+use Rattle.image.specs.Edition1.{surveyOf, bodiesOf, hasRoom, withBody}
 use Rattle.submission.specs.declared.Submission.{Submission}
 use Rattle.submission.specs.declared.Submission.the-variants as answers
 

@@ -9,7 +9,7 @@ use steps::Window;
 ghost use mathlib.Core.Path.{_≡_};
 ghost use Prim.Native.Nat.{_+_, _≤_};
 ghost use lib.ListN.{length, replicate};
-ghost use Rattle.image.specs.Check.{surveyOf};
+ghost use Rattle.image.specs.Edition1.{surveyOf};
 ghost use Rattle.image.specs.Layout.{idSize};
 ghost use Rattle.image.specs.Laws.{HeldFits, SurveyFits};
 ghost use Rattle.octets.specs.Bytes.{AreBytes};

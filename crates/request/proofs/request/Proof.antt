@@ -10,7 +10,7 @@ use Rattle.octets.specs.Bytes.{AreBytes}
 use Rattle.octets.proofs.BytesLaws.{are-bytes}
 use Rattle.image.specs.declared.Held.the-variants.{Body}
 use Rattle.image.specs.declared.Survey.the-variants.{Sound}
-use Rattle.image.specs.Check.{surveyOf}
+use Rattle.image.specs.Edition1.{surveyOf}
 use Rattle.request.specs.Request.{Request, requestOf, wellFormed}
 use Rattle.request.proofs.ArgumentLaws.{formed-mode, formed-resource}
 use Rattle.request.proofs.DecideLaws.{decide-malformed, decide-unsound, decide-missing, decide-body}

@@ -6,31 +6,31 @@ use Rattle.image.proofs.grow.can_grow.Statement.{statement}
 use Rattle.image.proofs.grow.can_grow.Tie as tie
 
 returns : tie.Need-returns
-returns c = fits-full _ _ _ _ _ (omega arith)
+returns c = fits-full _ _ _ _ _ _ (omega arith)
 
 returns-2 : tie.Need-returns-2
-returns-2 c = fits-early _ _ _ _ _ (omega arith) (omega arith)
+returns-2 c = fits-early _ _ _ _ _ _ (omega arith) (omega arith)
 
 returns-3 : tie.Need-returns-3
-returns-3 c = fits-long _ _ _ _ _ (omega arith) (omega arith) (omega arith)
+returns-3 c = fits-long _ _ _ _ _ _ (omega arith) (omega arith) (omega arith)
 
 returns-4 : tie.Need-returns-4
-returns-4 c = fits-long _ _ _ _ _ (omega arith) (omega arith) (omega arith)
+returns-4 c = fits-long _ _ _ _ _ _ (omega arith) (omega arith) (omega arith)
 
 returns-5 : tie.Need-returns-5
-returns-5 c = fits-long _ _ _ _ _ (omega arith) (omega arith) (omega arith)
+returns-5 c = fits-long _ _ _ _ _ _ (omega arith) (omega arith) (omega arith)
 
 returns-6 : tie.Need-returns-6
-returns-6 c = fits-outside _ _ _ _ _ (omega arith) (omega arith) (omega arith) (omega arith)
+returns-6 c = fits-outside _ _ _ _ _ _ (omega arith) (omega arith) (omega arith) (omega arith)
 
 returns-7 : tie.Need-returns-7
-returns-7 c = fits-outside _ _ _ _ _ (omega arith) (omega arith) (omega arith) (omega arith)
+returns-7 c = fits-outside _ _ _ _ _ _ (omega arith) (omega arith) (omega arith) (omega arith)
 
 returns-8 : tie.Need-returns-8
-returns-8 c = fits-all _ _ _ _ _ (omega arith) (omega arith) (omega arith) (omega arith)
+returns-8 c = fits-all _ _ _ _ _ _ (omega arith) (omega arith) (omega arith) (omega arith)
 
 pub can-grow-spec : {M : Type 1} → statement M
 can-grow-spec =
     tie.close
-    (tie.spec returns (λ c. search needs) (λ c. search needs) returns-2 returns-3 (λ c. search needs) returns-4 returns-5
-    returns-6 (λ c. search needs) returns-7 returns-8)
+    (tie.spec returns (λ c κs. search needs) returns-2 returns-3 (λ c. search needs) returns-4 returns-5 returns-6
+    (λ c. search needs) returns-7 returns-8)

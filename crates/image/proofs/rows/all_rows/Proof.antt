@@ -1,57 +1,78 @@
 -- `all_rows` meets its contract. Assumes nothing.
 use mathlib.Core.Path.{_≡_, sym, ap, _∙_}
-use Prim.Native.Nat.{_+_, _-_, _*_, _≤_}
+use Prim.Native.Nat.{_+_, _-_, _≤_}
 use native.Mathlib.Omega.{arith}
 use lib.ListN.{length}
 use Rattle.image.specs.declared.Held.the-variants.{Missing}
+use Rattle.image.specs.Layout.{idSize, rowPlace}
 use Rattle.image.specs.Check.{rowRead, rowsFrom, surveyed}
+use Rattle.image.proofs.RowPlaceLaws.{place-order, row-inside}
 use Rattle.image.proofs.StepLaws.{row-next-is, rows-stop, rows-done, rows-begin}
 use Rattle.image.proofs.CodeLaws.{rows-noted}
 use borrow.Author.Needs.{needs}
-use Rattle.image.specs.Layout.{rowPlace}
 use Rattle.image.proofs.rows.all_rows.Statement.{statement}
 use Rattle.image.proofs.rows.all_rows.Tie as tie
 
 abbrev Inv-loop : tie.InvT-loop
-Inv-loop s id n i₀ at₀ held₀ i at held =
-    (i ≤ n) × (at ≤ length s) × (rowsFrom s id n 0 (rowPlace n) Missing ≡ rowsFrom s id (n - i) i at held)
+Inv-loop l s id n i₀ at₀ held₀ i at held =
+    (i ≤ n) × (at ≤ length s) × (rowsFrom l s id n 0 (rowPlace l n) Missing ≡ rowsFrom l s id (n - i) i at held)
 
 abbrev μ-loop : tie.MeasureT-loop
-μ-loop s id n i₀ at₀ held₀ i at held = n - i
+μ-loop l s id n i₀ at₀ held₀ i at held = n - i
+
+-- the row lies in the bytes
+inside : (k : tie.After-row-place2 Inv-loop μ-loop) → let t = k .before .before .before .before .before in
+    k .row-place2 .result + idSize ≤ length (t .before .before .before .before .before .args .s .now)
+inside k =
+    let t = k .before .before .before .before .before in
+    let p = t .before .before .before .before .before .pre in
+    row-inside _ (p .0) _ _ _ _ (t .loop-test .taken) (k .row-place2 .ensures .0) (p .2)
 
 loop-holds : tie.Need-loop-holds Inv-loop μ-loop
-loop-holds c = (omega arith, omega arith, rows-begin _ _ _ _ _)
+loop-holds c = (omega arith, omega arith, rows-begin _ _ _ _ _ _ _ (c .row-place .ensures .0))
+
+row-at-requires : tie.Need-row-at-requires Inv-loop μ-loop
+row-at-requires c κs =
+    let s = c .before .before .before .before .before in
+    (s .pre .0, omega arith, omega (arith, place-order (s .args .layout) (c .before .loop .i) (s .args .n) (c .loop-test .taken), s .pre .2), c .before .loop .inv .1)
+
+add-same-bytes : tie.Need-add-same-bytes Inv-loop μ-loop
+add-same-bytes c = omega (arith, inside c)
+
+part-same-bytes-end : tie.Need-part-same-bytes-end Inv-loop μ-loop
+part-same-bytes-end c = omega (arith, inside c)
 
 sub-note : tie.Need-sub-note Inv-loop μ-loop
 sub-note c =
-    let f = c .before .before .before in
-    omega (arith, row-next-is _ _ _ _ _ (sym (ap rowRead (f .fields .given .1)) ∙ f .before .before .row-at .ensures) .0)
+    let f = c .before .before .before .before in
+    omega (arith, row-next-is _ _ _ _ _ _ (sym (ap rowRead (f .fields .given .1)) ∙ f .before .before .row-at .ensures) .0)
 
 returns : tie.Need-returns Inv-loop μ-loop
 returns c =
     let r = c .before .before in
     let t = r .before in
     let l = t .before .loop in
-    sym (ap (surveyed (t .before .before .before .before .args .n)) (l .inv .2 ∙ rows-stop _ _ _ _ _ _ (t .loop-test .taken) (sym (ap rowRead (c .enum-told .given .1)) ∙ r .row-at .ensures)))
+    sym (ap (surveyed (t .before .before .before .before .before .args .n)) (l .inv .2 ∙ rows-stop _ _ _ _ _ _ _ (t .loop-test .taken) (sym (ap rowRead (c .enum-told .given .1)) ∙ r .row-at .ensures)))
 
 loop-again : tie.Need-loop-again Inv-loop μ-loop
 loop-again c =
-    let f = c .before .before .before .before in
+    let k = c .before .before .before in
+    let f = k .before .before in
     let r = f .before .before in
     let t = r .before in
     let l = t .before .loop in
     let e = sym (ap rowRead (f .fields .given .1)) ∙ r .row-at .ensures in
-    (omega arith, row-next-is _ _ _ _ _ e .1, l .inv .2 ∙ rows-noted _ _ _ _ _ _ _ _ _ _ (t .loop-test .taken) e (c .before .same-bytes .ensures) (c .note .ensures))
+    (omega arith, row-next-is _ _ _ _ _ _ e .1, l .inv .2 ∙ rows-noted _ _ _ _ _ _ _ _ _ _ _ _ (t .loop-test .taken) e (k .row-place2 .ensures .0) (c .before .same-bytes .ensures) (c .note .ensures))
 
 returns-2 : tie.Need-returns-2 Inv-loop μ-loop
 returns-2 c =
     let l = c .before .loop in
-    sym (ap (surveyed (c .before .before .before .before .args .n)) (l .inv .2 ∙ rows-done _ _ _ _ _ _ (omega arith)))
+    sym (ap (surveyed (c .before .before .before .before .before .args .n)) (l .inv .2 ∙ rows-done _ _ _ _ _ _ _ (omega arith)))
 
 pub all-rows-spec : {M : Type 1} → statement M
 all-rows-spec =
     tie.close
-    (tie.spec Inv-loop μ-loop (λ c. search needs) (λ c. search needs) loop-holds (λ c κs. search needs)
-    (λ c. search needs) (λ c. search needs) (λ c. search needs) (λ c. search needs) (λ c. search needs)
-    (λ c. search needs) (λ c. search needs) (λ c κs. search needs) sub-note (λ c κs. search needs) (λ c. search needs)
-    returns (λ c. search needs) (λ c. search needs) loop-again returns-2)
+    (tie.spec Inv-loop μ-loop (λ c κs. search needs) loop-holds row-at-requires (λ c. search needs)
+    (λ c κs. search needs) add-same-bytes (λ c. search needs) (λ c. search needs) part-same-bytes-end
+    (λ c κs. search needs) sub-note (λ c κs. search needs) (λ c. search needs) returns (λ c. search needs)
+    (λ c. search needs) loop-again returns-2)

@@ -1,7 +1,7 @@
 -- `found` meets its contract. Assumes nothing.
 use borrow.Author.Needs.{needs}
-use Rattle.image.proofs.found.Statement.{statement}
-use Rattle.image.proofs.found.Tie as tie
+use Rattle.image.proofs.rows.found.Statement.{statement}
+use Rattle.image.proofs.rows.found.Tie as tie
 
 returns : tie.Need-returns
 returns c = rw (c .before .held .given .1)

@@ -1,0 +1,58 @@
+-- The image of edition 1: what depends on the edition, at its layout. It is what the promises and the crates above name.
+use mathlib.Core.Bool.{Bool}
+use mathlib.Core.List.{List}
+use Prim.Native.Nat.{ℕ}
+use Rattle.image.specs.declared.Survey.{Survey}
+use Rattle.image.specs.declared.Finding.{Finding}
+use Rattle.image.specs.declared.Added.{Added}
+use Rattle.image.specs.Layout.{edition1}
+use Rattle.image.specs.Image as image
+use Rattle.image.specs.Check as check
+use Rattle.image.specs.Fresh as fresh
+use Rattle.image.specs.Grow as grow
+
+-- ---- the image of a list of bodies
+
+abbrev pub header : ℕ → List ℕ
+header = image.header edition1
+
+abbrev pub row : ℕ → List ℕ → List ℕ
+row = image.row edition1
+
+abbrev pub rowsOf : ℕ → List (List ℕ) → List ℕ
+rowsOf = image.rowsOf edition1
+
+abbrev pub imageOf : List (List ℕ) → List ℕ
+imageOf = image.imageOf edition1
+
+abbrev pub BodiesOk : List (List ℕ) → Type 0
+BodiesOk = image.BodiesOk edition1
+
+abbrev pub Holds : List ℕ → List (List ℕ) → Type 0
+Holds = image.Holds edition1
+
+-- ---- what is answered and written
+
+abbrev pub surveyOf : List ℕ → List ℕ → Survey
+surveyOf = check.surveyOf edition1
+
+abbrev pub findOf : List ℕ → List ℕ → Finding
+findOf = check.findOf edition1
+
+abbrev pub bodiesOf : List ℕ → List (List ℕ)
+bodiesOf = check.bodiesOf edition1
+
+abbrev pub afterNew : List ℕ → List ℕ
+afterNew = fresh.afterNew edition1
+
+abbrev pub addedOf : List ℕ → ℕ → ℕ → List ℕ → ℕ → Added
+addedOf = grow.addedOf edition1
+
+abbrev pub afterAdd : List ℕ → ℕ → ℕ → List ℕ → ℕ → ℕ → List ℕ
+afterAdd = grow.afterAdd edition1
+
+abbrev pub hasRoom : List ℕ → List (List ℕ) → List ℕ → Bool
+hasRoom = grow.hasRoom edition1
+
+abbrev pub withBody : List ℕ → List (List ℕ) → List ℕ → List ℕ
+withBody = grow.withBody edition1

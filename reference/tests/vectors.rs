@@ -118,7 +118,7 @@ fn descriptor(bytes: &[u8], count: u64) -> String {
     ];
     let mut out = answered(d.answer, line, &numbers);
     for index in 0..count {
-        write!(out, "\n    grant {index}{}", grant(bytes, index)).unwrap();
+        out.push_str(&grant(bytes, index));
     }
     out
 }
@@ -128,7 +128,7 @@ fn grant(bytes: &[u8], index: u64) -> String {
     #[rustfmt::skip]
     let numbers = [g.pattern_len, g.pattern_at, g.mask, g.modes_at, g.constraint_pairs, g.constraints_at];
     let line = ", pattern # at #, mask #, modes_at #, constraints # at #";
-    answered(g.found, line, &numbers)
+    format!("\n    grant {index}{}", answered(g.found, line, &numbers))
 }
 
 fn matched(pattern: &[u8], resource: &[u8]) -> String {

@@ -9,7 +9,7 @@ import cbor2
 
 from make_items import Bad, Items, need
 from make_matching import T, U, UUID, is_pattern
-from records import DESCRIPTOR, GRANT, answered, written
+from records import DESCRIPTOR, GRANT, answered, summed, written
 
 FAY = "fay:01927b34-7e21-7c4d-a89f-1234567890ab"
 MODES = ["read", "write", "execute", "configure"]
@@ -329,7 +329,7 @@ def described(s):
     """What is written of a descriptor."""
     answer, f = read(s)
     if answer != 0:
-        return answered(answer)
+        return answered(answer) + "\n    payload part of 0 bytes, sum 7"
     grants, mask = f["grants"], 0
     for g in grants:
         mask |= g["mask"]
@@ -339,7 +339,9 @@ def described(s):
         dict(grants=len(grants), metadata=f["metadata"][::-1], constraint_pairs=sum(g["constraints"][1] for g in grants), mask=mask),
         dict(key_id=f["key"][::-1], algorithm=f["algorithm"], signature=f["signature"][::-1]),
     ]
-    return ": 0" + "".join("\n    " + written(line) for line in lines)
+    at, n = f["payload"]
+    lines = [*map(written, lines), f"payload part of {n} bytes, sum {summed(s[at : at + n])}"]
+    return ": 0" + "".join("\n    " + line for line in lines)
 
 
 def descriptors(v):

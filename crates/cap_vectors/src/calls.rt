@@ -1,4 +1,4 @@
-// The calls that take no image.
+// The calls that take no image. With an item and a descriptor go the parts of the bytes that `cbor_item` and `descriptor` hand back.
 use crate::record::number;
 use crate::record::part;
 use crate::show;
@@ -18,9 +18,13 @@ pub(crate) fn made(call: u64, s: &[u8], at: usize) {
     let b = part(s, at, 3);
     let n = number(s, at, 1);
     match call {
-        1 => show::item(a, cap::cap_item_read(a, n)),
+        1 => {
+            show::item(cap::cap_item_read(a, n));
+            show::content(cbor_item::content(a, cbor_item::read_item(a, n as usize)));
+        }
         2 => {
             show::descriptor(cap::cap_descriptor_read(a));
+            show::payload(descriptor::payload_part(a, descriptor::read_descriptor(a)));
             grants(a, n);
         }
         3 => show::grant(n, cap::cap_grant_at(a, n)),

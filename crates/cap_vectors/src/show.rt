@@ -44,24 +44,24 @@ fn answer(n: u64, s: &[u8], numbers: &[u64]) {
     io::write_all(1, b", all else 0");
 }
 
-fn hex(s: &[u8]) {
-    let mut i: usize = 0;
-    while i < s.len() {
-        io::print_hex(1, octets::number_at(s, i, 1), 2);
-        i += 1;
-    }
-}
-
-// An item of some bytes, with its content.
-pub(crate) fn item(s: &[u8], i: ItemNumbers) {
+pub(crate) fn item(i: ItemNumbers) {
     answer(
         i.answer,
         b", kind #, number #, content # at #, next #",
         &[i.kind, i.number, i.content_len, i.content_at, i.next],
     );
-    if 0 < i.content_len {
-        io::write_all(1, b": ");
-        hex(octets::part_at(s, i.content_at as usize, i.content_len as usize));
+}
+
+// The bytes of a string's content, in hexadecimal.
+pub(crate) fn content(s: &[u8]) {
+    if s.len() == 0 {
+        return;
+    }
+    io::write_all(1, b": ");
+    let mut i: usize = 0;
+    while i < s.len() {
+        io::print_hex(1, octets::number_at(s, i, 1), 2);
+        i += 1;
     }
 }
 
@@ -150,6 +150,14 @@ fn sum(s: &[u8]) -> u64 {
         i += 1;
     }
     n % 4294967291
+}
+
+// How long the payload part of a descriptor is, and the sum over its bytes.
+pub(crate) fn payload(s: &[u8]) {
+    line(
+        b"\n    payload part of # bytes, sum #",
+        &[s.len() as u64, sum(s)],
+    );
 }
 
 // How long the image is, how many rows its header names, and the sum over its bytes.

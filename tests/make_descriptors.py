@@ -9,7 +9,7 @@ import cbor2
 
 from make_items import Bad, Items, need
 from make_matching import T, U, UUID, is_pattern
-from records import DESCRIPTOR, GRANT, answered, written
+from records import DESCRIPTOR, GRANT, answered, summed, written
 
 FAY = "fay:01927b34-7e21-7c4d-a89f-1234567890ab"
 MODES = ["read", "write", "execute", "configure"]
@@ -315,18 +315,21 @@ def vectors():
     return [("Read", 0, ok), ("Valid for too long", 2, late), ("Refused", 1, bad)]
 
 
-def of_grant(g):
-    """What is written of a grant, or of none."""
-    if g is None:
-        return answered(0)
-    return answered(1, pattern=g["pattern"][1::-1], mask=g["mask"], modes_at=g["modes"], constraints=g["constraints"][::-1])
+def of_grant(s, index):
+    """What is written of the grant with the index."""
+    f = read(s)[1]
+    out = f"\n    grant {index}"
+    if f is None or index >= len(f["grants"]):
+        return out + answered(0)
+    g = f["grants"][index]
+    return out + answered(1, pattern=g["pattern"][1::-1], mask=g["mask"], modes_at=g["modes"], constraints=g["constraints"][::-1])
 
 
-def described(s, count):
-    """What is written of a descriptor, and of its grants with the first indices."""
+def described(s):
+    """What is written of a descriptor."""
     answer, f = read(s)
     if answer != 0:
-        return answered(answer) + "".join(f"\n    grant {i}" + of_grant(None) for i in range(count))
+        return answered(answer) + "\n    payload part of 0 bytes, sum 7"
     grants, mask = f["grants"], 0
     for g in grants:
         mask |= g["mask"]
@@ -336,8 +339,9 @@ def described(s, count):
         dict(grants=len(grants), metadata=f["metadata"][::-1], constraint_pairs=sum(g["constraints"][1] for g in grants), mask=mask),
         dict(key_id=f["key"][::-1], algorithm=f["algorithm"], signature=f["signature"][::-1]),
     ]
-    out = ": 0" + "".join("\n    " + written(line) for line in lines)
-    return out + "".join(f"\n    grant {i}" + of_grant(grants[i] if i < len(grants) else None) for i in range(count))
+    at, n = f["payload"]
+    lines = [*map(written, lines), f"payload part of {n} bytes, sum {summed(s[at : at + n])}"]
+    return ": 0" + "".join("\n    " + line for line in lines)
 
 
 def descriptors(v):
@@ -347,11 +351,11 @@ def descriptors(v):
             got, f = read(s)
             assert got == answer, name
             count = min(3, len(f["grants"]) + 1) if f else 1
-            v.add(DESCRIPTOR, f"{name}, {len(s)} bytes", described(s, count), [count], [s])
+            expected = described(s) + "".join(of_grant(s, i) for i in range(count))
+            v.add(DESCRIPTOR, f"{name}, {len(s)} bytes", expected, [count], [s])
     v.heading("## Grants by their index")
     for n, indices in ((3, (0, 2, 3, 2**32, 2**64 - 1)), (256, (255, 256))):
         s = encode(payload(grants=[grant(["execute"], T + f"/g/{i}") for i in range(n)]))
-        grants = read(s)[1]["grants"]
         for i in indices:
-            v.add(GRANT, f"grant {i} of {n}", of_grant(grants[i] if i < n else None), [i], [s])
-    v.add(GRANT, "grant 0 of no descriptor", of_grant(None), [0], [b""])
+            v.add(GRANT, f"{n} grants", of_grant(s, i), [i], [s])
+    v.add(GRANT, "no descriptor", of_grant(b"", 0), [0], [b""])

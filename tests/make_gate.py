@@ -7,7 +7,7 @@ import re
 
 from make_descriptors import FAY, encode, grant, payload, read
 from make_matching import T, U, UUID, is_resource, matches
-from records import FIND, LEND, NEW, REQUEST, SUBMIT, answered
+from records import FIND, LEND, NEW, REQUEST, SUBMIT, answered, summed
 
 DAY = 86400
 LAST = 2**64 - 1
@@ -160,11 +160,8 @@ class Run:
         self.v, self.image, self.store = v, b"", bytes(65536)
 
     def shown(self):
-        n = 7
-        for b in self.image:
-            n = n % 4294967291 * 257 + b
         rows = number(self.image, 4, 2) if len(self.image) >= 6 else 0
-        return f"; {len(self.image)} bytes, rows {rows}, sum {n % 4294967291}"
+        return f"; {len(self.image)} bytes, rows {rows}, sum {summed(self.image)}"
 
     def load(self, name, s):
         self.store = self.image + self.store[len(self.image) :]

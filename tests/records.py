@@ -4,8 +4,9 @@ A record has seven parts: a name, numbers of eight bytes, of which the first say
 four bytes with its length and so many bytes; numbers and lengths have their highest byte first. The calls are those of include/cap.h,
 with their arguments in its order:
   0 no call: the name is a heading
-  1 cap_item_read
-  2 cap_descriptor_read, then cap_grant_at for so many indices as the number says
+  1 cap_item_read, with the bytes that the reader hands back as a string's content
+  2 cap_descriptor_read, with a sum over the bytes that the reader hands back as the payload; then cap_grant_at for so many indices as the
+    number says
   3 cap_grant_at
   4 cap_match
   5 cap_narrow
@@ -48,6 +49,14 @@ class Vectors:
 def written(numbers):
     """Numbers by name; a pair is a length and its place."""
     return ", ".join(f"{name} {n[0]} at {n[1]}" if isinstance(n, tuple) else f"{name} {n}" for name, n in numbers.items())
+
+
+def summed(s):
+    """A sum over all the bytes, which changes with each of them and with their order."""
+    n = 7
+    for b in s:
+        n = n % 4294967291 * 257 + b
+    return n % 4294967291
 
 
 def answered(answer, **numbers):

@@ -117,8 +117,16 @@ fn descriptor(bytes: &[u8], count: u64) -> String {
         d.key_id_len, d.key_id_at, d.algorithm, d.signature_len, d.signature_at,
     ];
     let mut out = answered(d.answer, line, &numbers);
+    let payload = &bytes[d.payload_at as usize..][..d.payload_len as usize];
+    write!(
+        out,
+        "\n    payload part of {} bytes, sum {}",
+        payload.len(),
+        sum(payload)
+    )
+    .unwrap();
     for index in 0..count {
-        write!(out, "\n    grant {index}{}", grant(bytes, index)).unwrap();
+        out.push_str(&grant(bytes, index));
     }
     out
 }
@@ -128,7 +136,7 @@ fn grant(bytes: &[u8], index: u64) -> String {
     #[rustfmt::skip]
     let numbers = [g.pattern_len, g.pattern_at, g.mask, g.modes_at, g.constraint_pairs, g.constraints_at];
     let line = ", pattern # at #, mask #, modes_at #, constraints # at #";
-    answered(g.found, line, &numbers)
+    format!("\n    grant {index}{}", answered(g.found, line, &numbers))
 }
 
 fn matched(pattern: &[u8], resource: &[u8]) -> String {
@@ -140,6 +148,12 @@ fn narrowed(parent: &[u8], child: &[u8]) -> String {
     let n = narrow(parent, child);
     let numbers = [n.grant, n.mode, n.levels];
     answered(n.answer, ", grant #, mode #, levels #", &numbers)
+}
+
+/// A sum over all the bytes, which changes with each of them and with their order.
+fn sum(bytes: &[u8]) -> u64 {
+    let next = |sum, &byte| sum % 4_294_967_291 * 257 + u64::from(byte);
+    bytes.iter().fold(7, next) % 4_294_967_291
 }
 
 /// The buffer of which the first bytes are lent as the image.
@@ -215,17 +229,10 @@ impl Gate {
     /// The length, the number of rows and a sum of the image.
     fn shown(&mut self) -> String {
         let image = self.image();
-        let sum = image
-            .iter()
-            .fold(7, |sum, &byte| sum % 4_294_967_291 * 257 + u64::from(byte));
         let rows = image
             .get(4..6)
             .map_or(0, |n| u16::from_be_bytes([n[0], n[1]]));
-        format!(
-            "; {} bytes, rows {rows}, sum {}",
-            image.len(),
-            sum % 4_294_967_291
-        )
+        format!("; {} bytes, rows {rows}, sum {}", image.len(), sum(image))
     }
 }
 

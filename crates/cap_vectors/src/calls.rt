@@ -1,4 +1,4 @@
-// The calls that take no image.
+// The calls that take no image. With an item and a descriptor go the parts of the bytes that `cbor_item` and `descriptor` hand back.
 use crate::record::number;
 use crate::record::part;
 use crate::show;
@@ -7,26 +7,29 @@ use crate::show;
 fn grants(bytes: &[u8], count: u64) {
     let mut index: u64 = 0;
     while index < count {
-        show::index(index);
-        show::grant(cap::cap_grant_at(bytes, index));
+        show::grant(index, cap::cap_grant_at(bytes, index));
         index += 1;
     }
 }
 
-// Makes the call of the record at the place.
-pub(crate) fn made(s: &[u8], at: usize) {
+// Makes the call with the number, of the record at the place, where it takes no image.
+pub(crate) fn made(call: u64, s: &[u8], at: usize) {
     let a = part(s, at, 2);
-    let first = number(s, at, 1);
-    let call = number(s, at, 0);
+    let b = part(s, at, 3);
+    let n = number(s, at, 1);
     match call {
-        0 => return,
-        1 => show::item(a, cap::cap_item_read(a, first)),
+        1 => {
+            show::item(cap::cap_item_read(a, n));
+            show::content(cbor_item::content(a, cbor_item::read_item(a, n as usize)));
+        }
         2 => {
             show::descriptor(cap::cap_descriptor_read(a));
-            grants(a, first);
+            show::payload(descriptor::payload_part(a, descriptor::read_descriptor(a)));
+            grants(a, n);
         }
-        3 => show::grant(cap::cap_grant_at(a, first)),
-        4 => show::matching(cap::cap_match(a, part(s, at, 3))),
-        _ => show::narrowing(cap::cap_narrow(a, part(s, at, 3))),
+        3 => show::grant(n, cap::cap_grant_at(a, n)),
+        4 => show::matching(cap::cap_match(a, b)),
+        5 => show::narrowing(cap::cap_narrow(a, b)),
+        _ => return,
     }
 }

@@ -11,13 +11,8 @@ fn lend(bytes: &[u8], n: u64, image: &mut [u8]) -> usize {
     len
 }
 
-fn new(image: &mut [u8]) {
-    show::number(b": ", cap::cap_image_new(image));
-    show::image(image);
-}
-
-fn submit(s: &[u8], at: usize, image: &mut [u8]) {
-    let answer = cap::cap_submit(
+fn submit(s: &[u8], at: usize, image: &mut [u8]) -> u64 {
+    cap::cap_submit(
         image,
         part(s, at, 2),
         number(s, at, 1),
@@ -25,9 +20,7 @@ fn submit(s: &[u8], at: usize, image: &mut [u8]) {
         number(s, at, 3),
         number(s, at, 4),
         number(s, at, 5),
-    );
-    show::number(b": ", answer);
-    show::image(image);
+    )
 }
 
 fn request(s: &[u8], at: usize, image: &[u8]) {
@@ -48,26 +41,26 @@ fn request(s: &[u8], at: usize, image: &[u8]) {
     ));
 }
 
-// Makes the call of the record at the place on the image.
-fn call(s: &[u8], at: usize, image: &mut [u8]) {
-    let call = number(s, at, 0);
+// Makes the call with the number, of the record at the place, on the image, where it takes one.
+fn on_image(call: u64, s: &[u8], at: usize, image: &mut [u8]) {
     match call {
-        7 => new(image),
+        7 => show::written(cap::cap_image_new(image), image),
         8 => show::stored(cap::cap_image_find(image, part(s, at, 2))),
-        9 => submit(s, at, image),
+        9 => show::written(submit(s, at, image), image),
         10 => request(s, at, image),
-        _ => show::text(b": no such call"),
+        _ => return,
     }
 }
 
-// Makes the call of the record at the place on the first `len` bytes of the image; the answer is how many are lent from then on.
-pub(crate) fn made(s: &[u8], at: usize, image: &mut [u8], len: usize) -> usize {
-    if number(s, at, 0) == 6 {
+// Makes the call with the number, of the record at the place, on the first `len` bytes of the image; the answer is how many are lent from
+// then on.
+pub(crate) fn made(call: u64, s: &[u8], at: usize, image: &mut [u8], len: usize) -> usize {
+    if call == 6 {
         return lend(part(s, at, 2), number(s, at, 1), image);
     }
     if image.len() < len {
         return len;
     }
-    call(s, at, &mut image[..len]);
+    on_image(call, s, at, &mut image[..len]);
     len
 }

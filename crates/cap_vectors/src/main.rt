@@ -15,12 +15,12 @@ fn store() -> [u8; 65536] {
 
 // Makes the call of the record at the place, on the first `len` bytes of the image; the answer is how many are lent from then on.
 fn one(s: &[u8], at: usize, image: &mut [u8], len: usize) -> usize {
-    show::text(record::part(s, at, 0));
-    if record::number(s, at, 0) < 6 {
-        calls::made(s, at);
-        return len;
-    }
-    images::made(s, at, image, len)
+    io::write_all(1, record::part(s, at, 0));
+    let call = record::number(s, at, 0);
+    calls::made(call, s, at);
+    let lent = images::made(call, s, at, image, len);
+    io::write_all(1, b"\n");
+    lent
 }
 
 // Makes the call of every record.
@@ -29,7 +29,6 @@ fn all(s: &[u8], image: &mut [u8]) {
     let mut len: usize = 0;
     while at < s.len() {
         len = one(s, at, image, len);
-        show::end();
         let next = record::place(s, at, 7);
         if next <= at {
             return;

@@ -1,13 +1,5 @@
 // Records of seven parts: a name, numbers of eight bytes, and five byte strings. A part is four bytes with its length, the highest
 // first, and so many bytes.
-ghost use Prim.Native.Nat.{_^_, _<_};
-
-// The length of the part at the place.
-fn size(s: &[u8], at: usize) -> usize
-    ensures { λ r. ⌜ r < 256 ^ 4 ⌝ }
-{
-    octets::number_at(s, at, 4) as usize
-}
 
 // The place after so many parts, or past the end.
 pub(crate) fn place(s: &[u8], at: usize, parts: usize) -> usize {
@@ -17,7 +9,7 @@ pub(crate) fn place(s: &[u8], at: usize, parts: usize) -> usize {
         if s.len() <= place {
             return place;
         }
-        place = place + 4 + size(s, place);
+        place = place + 4 + octets::number_at(s, place, 4) as usize;
         left -= 1;
     }
     place
@@ -30,7 +22,7 @@ pub(crate) fn part(s: &[u8], at: usize, i: usize) -> &[u8] {
     if s.len() <= start {
         return octets::part_at(s, 0, 0);
     }
-    octets::part_at(s, start + 4, size(s, start))
+    octets::part_at(s, start + 4, octets::number_at(s, start, 4) as usize)
 }
 
 // Its number with the index.

@@ -8,30 +8,9 @@ use narrowing::NarrowingNumbers;
 use request::DecisionNumbers;
 use resource::MatchingNumbers;
 
-pub(crate) fn text(s: &[u8]) {
-    io::write_all(1, s);
-}
-
-// The end of a line.
-pub(crate) fn end() {
-    text(b"\n");
-}
-
-pub(crate) fn number(name: &[u8], n: u64) {
-    text(name);
+fn number(name: &[u8], n: u64) {
+    io::write_all(1, name);
     io::print_decimal(1, n);
-}
-
-// The place of the first number that is not 0, or the end.
-fn zeros(numbers: &[u64]) -> usize {
-    let mut i: usize = 0;
-    while i < numbers.len() {
-        if numbers[i] != 0 {
-            return i;
-        }
-        i += 1;
-    }
-    i
 }
 
 // The line, with a number for each '#' in it.
@@ -43,42 +22,46 @@ fn line(s: &[u8], numbers: &[u64]) {
         if s.len() <= to {
             return;
         }
-        text(&s[from..to]);
+        io::write_all(1, &s[from..to]);
         io::print_decimal(1, numbers[i]);
         from = to + 1;
         i += 1;
     }
-    text(&s[from..]);
+    io::write_all(1, &s[from..]);
 }
 
 // The answer, then the line; or, where all numbers are 0, that they are.
 fn answer(n: u64, s: &[u8], numbers: &[u64]) {
     number(b": ", n);
-    if zeros(numbers) == numbers.len() {
-        text(b", all else 0");
-        return;
-    }
-    line(s, numbers);
-}
-
-fn hex(s: &[u8]) {
     let mut i: usize = 0;
-    while i < s.len() {
-        io::print_hex(1, octets::number_at(s, i, 1), 2);
+    while i < numbers.len() {
+        if numbers[i] != 0 {
+            line(s, numbers);
+            return;
+        }
         i += 1;
     }
+    io::write_all(1, b", all else 0");
 }
 
-// An item of some bytes, with its content.
-pub(crate) fn item(s: &[u8], i: ItemNumbers) {
+pub(crate) fn item(i: ItemNumbers) {
     answer(
         i.answer,
         b", kind #, number #, content # at #, next #",
         &[i.kind, i.number, i.content_len, i.content_at, i.next],
     );
-    if 0 < i.content_len {
-        text(b": ");
-        hex(octets::part_at(s, i.content_at as usize, i.content_len as usize));
+}
+
+// The bytes of a string's content, in hexadecimal.
+pub(crate) fn content(s: &[u8]) {
+    if s.len() == 0 {
+        return;
+    }
+    io::write_all(1, b": ");
+    let mut i: usize = 0;
+    while i < s.len() {
+        io::print_hex(1, octets::number_at(s, i, 1), 2);
+        i += 1;
     }
 }
 
@@ -117,11 +100,9 @@ pub(crate) fn descriptor(d: DescriptorNumbers) {
     );
 }
 
-pub(crate) fn index(n: u64) {
-    number(b"\n    grant ", n);
-}
-
-pub(crate) fn grant(g: GrantNumbers) {
+// The grant with the index.
+pub(crate) fn grant(index: u64, g: GrantNumbers) {
+    number(b"\n    grant ", index);
     answer(
         g.found,
         b", pattern # at #, mask #, modes_at #, constraints # at #",
@@ -171,10 +152,24 @@ fn sum(s: &[u8]) -> u64 {
     n % 4294967291
 }
 
+// How long the payload part of a descriptor is, and the sum over its bytes.
+pub(crate) fn payload(s: &[u8]) {
+    line(
+        b"\n    payload part of # bytes, sum #",
+        &[s.len() as u64, sum(s)],
+    );
+}
+
 // How long the image is, how many rows its header names, and the sum over its bytes.
 pub(crate) fn image(s: &[u8]) {
     line(
         b"; # bytes, rows #, sum #",
         &[s.len() as u64, octets::number_at(s, 4, 2), sum(s)],
     );
+}
+
+// The answer of a call that may write, and the image after it.
+pub(crate) fn written(n: u64, s: &[u8]) {
+    number(b": ", n);
+    image(s);
 }

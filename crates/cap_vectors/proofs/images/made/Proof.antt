@@ -6,12 +6,12 @@ use borrow.Author.Needs.{needs}
 use Rattle.cap_vectors.proofs.images.made.Statement.{statement}
 use Rattle.cap_vectors.proofs.images.made.Tie as tie
 
-slice-aggregate-call : tie.Need-slice-aggregate-call
-slice-aggregate-call c = sym (length-take-le _ _ (omega arith))
+slice-aggregate-on-image : tie.Need-slice-aggregate-on-image
+slice-aggregate-on-image c = sym (length-take-le _ _ (omega arith))
 
 pub made-spec : {M : Type 1} → statement M
 made-spec =
     tie.close
-    (tie.spec (λ c κs. search needs) (λ c κs. search needs) (λ c κs. search needs) (λ c κs. search needs)
-    (λ c. search needs) (λ c. search needs) (λ c. search needs) (λ c. search needs) slice-aggregate-call
-    (λ c κs. search needs) (λ c. search needs) (λ c. search needs))
+    (tie.spec (λ c κs. search needs) (λ c κs. search needs) (λ c κs. search needs) (λ c. search needs)
+    (λ c. search needs) (λ c. search needs) (λ c. search needs) slice-aggregate-on-image (λ c κs. search needs)
+    (λ c. search needs) (λ c. search needs))

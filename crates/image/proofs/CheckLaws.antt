@@ -17,7 +17,7 @@ use Rattle.descriptor.specs.declared.Fields.{Fields}
 use Rattle.descriptor.specs.declared.Reading.the-variants.{Read}
 use Rattle.image.specs.declared.layout.Layout.{Layout}
 use Rattle.image.specs.Layout.{idSize, maskWidth, maskPlace, zeroPlace, rowSize, zeroSize, rowPlace, LayoutOk}
-use Rattle.image.specs.Image.{reading, idOf, row, hasId}
+use Rattle.image.specs.Image.{Row, rowOf, reading, idOf, row, hasId}
 use Rattle.image.specs.Check.{rowId, rowOffset, rowLength, idAmong, rowFits, rowAt}
 use Rattle.image.specs.Laws.{BodyIn}
 use Rattle.image.proofs.BodyLaws.{read-in}
@@ -31,7 +31,7 @@ module _ (l : Layout) (ok : LayoutOk l) where
   -- ---- the bodies before
 
   -- The bodies of the i rows before: an id is among the ids of the rows exactly where one of them has it.
-  pub record Past (s : List ℕ) (seen : List (List ℕ)) (i : ℕ) : Type 0 where
+  pub record Past (s : List ℕ) (seen : List Row) (i : ℕ) : Type 0 where
     pub count : length seen ≡ i
     pub ids : (id : List ℕ) → idAmong l s id i ≡ hasId id seen
 
@@ -41,15 +41,15 @@ module _ (l : Layout) (ok : LayoutOk l) where
   past-none s = record { count = refl; ids = λ id. refl }
 
   -- A row with a body's id makes one more.
-  pub past-more : (s : List ℕ) (seen : List (List ℕ)) (i : ℕ) (b : List ℕ) → Past s seen i → rowId s (rowPlace l i) ≡ idOf b
+  pub past-more : (s : List ℕ) (seen : List Row) (i : ℕ) (b : Row) → Past s seen i → rowId s (rowPlace l i) ≡ idOf (b .body)
       → Past s (seen ++ (b ∷ [])) (i + 1)
   past-more s seen i b p e =
       record {
         count = omega (arith, length-append seen (b ∷ []), p .count);
-        ids = λ id. ap (idAmong l s id) (add-one i) ∙ go id (same (idOf b) id) refl ∙ sym (has-snoc id seen b);
+        ids = λ id. ap (idAmong l s id) (add-one i) ∙ go id (same (idOf (b .body)) id) refl ∙ sym (has-snoc id seen b);
       }
     where
-      go : (id : List ℕ) (t : Bool) → same (idOf b) id ≡ t → idAmong l s id (suc i) ≡ (hasId id seen || t)
+      go : (id : List ℕ) (t : Bool) → same (idOf (b .body)) id ≡ t → idAmong l s id (suc i) ≡ (hasId id seen || t)
       go id true h = hit-suc l s id i (ap (λ (x : List ℕ). same x id) e ∙ h) ∙ sym (or-true (hasId id seen))
       go id false h = among-suc l s id i (ap (λ (x : List ℕ). same x id) e ∙ h) ∙ p .ids id ∙ sym (or-false (hasId id seen))
 
@@ -91,26 +91,26 @@ module _ (l : Layout) (ok : LayoutOk l) where
       )
 
   -- A body that stands with its row, after those of `seen`.
-  pub record Stands (s : List ℕ) (seen : List (List ℕ)) (i at : ℕ) (b : List ℕ) (f : Fields) : Type 0 where
-    pub reads : reading b ≡ Read f
-    pub new : hasId (idOf b) seen ≡ false
+  pub record Stands (s : List ℕ) (seen : List Row) (i at : ℕ) (b : Row) (f : Fields) : Type 0 where
+    pub reads : reading (b .body) ≡ Read f
+    pub new : hasId (idOf (b .body)) seen ≡ false
     pub has-row : Has s (rowPlace l i) (row l at b)
-    pub has-body : Has s at b
+    pub has-body : Has s at (b .body)
 
   -- A row that passes the check stands with its body.
-  pub row-sound : (s : List ℕ) (seen : List (List ℕ)) (i at : ℕ) (f : Fields) (next : ℕ) → AreBytes s → rowPlace l i + rowSize l ≤ length s
+  pub row-sound : (s : List ℕ) (seen : List Row) (i at : ℕ) (f : Fields) (next : ℕ) → AreBytes s → rowPlace l i + rowSize l ≤ length s
       → Past s seen i
-      → got f next ≡ rowAt l s i at → (b : List ℕ) × Stands s seen i at b f × (next ≡ at + length b)
+      → got f next ≡ rowAt l s i at → (b : Row) × Stands s seen i at b f × (next ≡ at + length (b .body))
   row-sound s seen i at f next bytes room p e =
       let r : ℕ = rowPlace l i in
       let n : ℕ = rowLength s r in
-      let b : List ℕ = part s at n in
+      let b : Row = rowOf (part s at n) in
       let k : RowOk l s i at f next = row-is l s i at f next e in
       let q : Fits s r at f = fits-says s r at f (k .fits) in
       let h = part-has s at n (k .inside) in
-      let w : BodyIn b f = read-in b f (k .reads) in
-      let d : rowId s r ≡ idOf b
-      = q .id ∙ sym (part-part s at n (f .id) idSize (omega (arith, w .id, h .1))) ∙ sym (id-read b f (k .reads)) in (
+      let w : BodyIn (b .body) f = read-in (b .body) f (k .reads) in
+      let d : rowId s r ≡ idOf (b .body)
+      = q .id ∙ sym (part-part s at n (f .id) idSize (omega (arith, w .id, h .1))) ∙ sym (id-read (b .body) f (k .reads)) in (
         b,
         record {
           reads = k .reads;
@@ -120,7 +120,7 @@ module _ (l : Layout) (ok : LayoutOk l) where
             id = d;
             offset = q .offset;
             size = sym (h .1);
-            mask = q .mask ∙ sym (modes-read b f (k .reads));
+            mask = q .mask ∙ sym (modes-read (b .body) f (k .reads));
             zeros = q .zeros;
           });
           has-body = h .0;
@@ -129,24 +129,24 @@ module _ (l : Layout) (ok : LayoutOk l) where
       )
 
   -- The row of a body that stands says where it lies.
-  pub stands-says : (s : List ℕ) (seen : List (List ℕ)) (i at : ℕ) (b : List ℕ) (f : Fields) → at < 4294967296 → Stands s seen i at b f
+  pub stands-says : (s : List ℕ) (seen : List Row) (i at : ℕ) (b : Row) (f : Fields) → at < 4294967296 → Stands s seen i at b f
       → RowSays l ok s (rowPlace l i) at b
-  stands-says s seen i at b f small h = row-says l ok s (rowPlace l i) at b small (omega (arith, read-in b f (h .reads) .short)) (h .has-row)
+  stands-says s seen i at b f small h = row-says l ok s (rowPlace l i) at b small (omega (arith, read-in (b .body) f (h .reads) .short)) (h .has-row)
 
   -- A body that stands with its row passes the check.
-  pub row-complete : (s : List ℕ) (seen : List (List ℕ)) (i at : ℕ) (b : List ℕ) (f : Fields) → at < 4294967296 → Past s seen i
+  pub row-complete : (s : List ℕ) (seen : List Row) (i at : ℕ) (b : Row) (f : Fields) → at < 4294967296 → Past s seen i
       → Stands s seen i at b f
-      → got f (at + length b) ≡ rowAt l s i at
+      → got f (at + length (b .body)) ≡ rowAt l s i at
   unfolding rowAt guard
   row-complete s seen i at b f small p h =
       let r : ℕ = rowPlace l i in
       let q : RowSays l ok s r at b = stands-says s seen i at b f small h in
-      let w : BodyIn b f = read-in b f (h .reads) in
-      let body : part s at (length b) ≡ b = has-part s at b (h .has-body) in
-      let inside : at + length b ≤ length s = has-fits s at b (w .filled) (h .has-body) in
-      let mine : idOf b ≡ part s (at + f .id) idSize
-      = id-read b f (h .reads) ∙ ap (λ (x : List ℕ). part x (f .id) idSize) (sym body) ∙ part-part s at (length b) (f .id) idSize (w .id) in
+      let w : BodyIn (b .body) f = read-in (b .body) f (h .reads) in
+      let body : part s at (length (b .body)) ≡ b .body = has-part s at (b .body) (h .has-body) in
+      let inside : at + length (b .body) ≤ length s = has-fits s at (b .body) (w .filled) (h .has-body) in
+      let mine : idOf (b .body) ≡ part s (at + f .id) idSize
+      = id-read (b .body) f (h .reads) ∙ ap (λ (x : List ℕ). part x (f .id) idSize) (sym body) ∙ part-part s at (length (b .body)) (f .id) idSize (w .id) in
       let fits : rowFits l s r at f ≡ true
-      = says-fits s r at f (record { id = q .id ∙ mine; offset = q .offset; mask = q .mask ∙ modes-read b f (h .reads); zeros = q .zeros }) in
+      = says-fits s r at f (record { id = q .id ∙ mine; offset = q .offset; mask = q .mask ∙ modes-read (b .body) f (h .reads); zeros = q .zeros }) in
       let new : idAmong l s (rowId s r) i ≡ false = p .ids (rowId s r) ∙ ap (λ (x : List ℕ). hasId x seen) (q .id) ∙ h .new in
-      rw (q .size, body, h .reads, le-leb (at + length b) (length s) inside, fits, new)
+      rw (q .size, body, h .reads, le-leb (at + length (b .body)) (length s) inside, fits, new)

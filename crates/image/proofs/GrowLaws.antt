@@ -20,7 +20,7 @@ use Rattle.descriptor.specs.declared.Fields.{Fields}
 use Rattle.descriptor.specs.declared.Reading.the-variants.{Read}
 use Rattle.image.specs.declared.layout.Layout.{Layout}
 use Rattle.image.specs.Layout.{headerSize, headerWidth, countPlace, idSize, rowSize, mostRows, rowPlace, LayoutOk}
-use Rattle.image.specs.Image.{reading, idOf, header, row, rowsOf, joined, imageOf, Holds}
+use Rattle.image.specs.Image.{Row, reading, idOf, header, row, rowsOf, joined, imageOf, Holds}
 use Rattle.image.specs.Grow.{raised, withRow, grown, fits, addedOf, afterAdd, hasRoom, withBody}
 use Rattle.image.specs.Laws.{BodyAdded, OneMore}
 use Rattle.image.proofs.BodyLaws.{read-in}
@@ -42,9 +42,9 @@ module _ (l : Layout) (ok : LayoutOk l) where
 
   -- In the image of the bodies bs, with room for a row and the body, the writes leave the image of those bodies and the new one, and the
   -- old bytes beyond its end.
-  pub grown-image : (d : List ℕ) (bs : List (List ℕ)) (b : List ℕ) (f : Fields) → Holds l d bs → reading b ≡ Read f
-      → length (imageOf l bs) + rowSize l + length b ≤ length d
-      → grown l d (length bs) (length (imageOf l bs)) b (f .id) (f .mask) ≡ imageOf l (bs ++ (b ∷ [])) ++ drop (length (imageOf l (bs ++ (b ∷ [])))) d
+  pub grown-image : (d : List ℕ) (bs : List Row) (b : Row) (f : Fields) → Holds l d bs → reading (b .body) ≡ Read f
+      → length (imageOf l bs) + rowSize l + length (b .body) ≤ length d
+      → grown l d (length bs) (length (imageOf l bs)) (b .body) (f .id) (f .mask) ≡ imageOf l (bs ++ (b ∷ [])) ++ drop (length (imageOf l (bs ++ (b ∷ [])))) d
   unfolding moved
   grown-image d bs b f h e room =
       let n : ℕ = length bs in
@@ -55,8 +55,8 @@ module _ (l : Layout) (ok : LayoutOk l) where
       let w : ImageParts l ok d bs = image-stands l ok d bs h in
       let il : end ≡ start + length (joined bs) = image-length l ok bs in
       let rl : length r ≡ rowSize l = row-length l ok (end + rowSize l) b in
-      let few : n ≤ mostRows l = h .bodies .few in
-      let short : length (joined bs) ≤ 32768 * n = joined-short [] bs (h .bodies .each) in
+      let few : n ≤ mostRows l = h .rows .few in
+      let short : length (joined bs) ≤ 32768 * n = joined-short [] bs (h .rows .each) in
       let low : rowPlace l 0 + length (rowsOf l start bs) ≡ start = rows-end l ok start bs in
       let up : rowPlace l 0 + length (rowsOf l (start + rowSize l) bs) ≡ start = rows-end l ok (start + rowSize l) bs in
       let hl : length (header l n) ≡ headerSize = header-length l ok n in
@@ -82,22 +82,22 @@ module _ (l : Layout) (ok : LayoutOk l) where
       -- the row
       let d₃ : List ℕ = over d₂ start r in
       let f₃ : start + length r ≤ length d₂ = omega (arith, k₂ .long, k₁ .long) in
-      let e₃ : withRow l d₂ start (end + rowSize l) b (f .id) (f .mask) ≡ d₃ = with-row l ok d₂ start (end + rowSize l) b f e (omega arith) in
+      let e₃ : withRow l d₂ start (end + rowSize l) (b .body) (f .id) (f .mask) ≡ d₃ = with-row l ok d₂ start (end + rowSize l) b f e (omega arith) in
       let k₃ : Kept d₂ d₃ start (start + length r) = kept-over d₂ start r f₃ in
       let head₃ : Has d₃ 0 (header l n) = k₃ .before 0 (header l n) (omega arith) head₂ in
       let rows₃ : Has d₃ (rowPlace l 0) (rowsOf l (start + rowSize l) bs) = k₃ .before (rowPlace l 0) (rowsOf l (start + rowSize l) bs) (omega arith) rows₂ in
       let row₃ : Has d₃ start r = over-has d₂ start r f₃ in
       let bod₃ : Has d₃ (start + rowSize l) (joined bs) = kept-has d₂ d₃ start (start + length r) (start + rowSize l) (joined bs) k₃ (omega arith) bod₂ in
       -- the body
-      let d₄ : List ℕ = over d₃ (end + rowSize l) b in
-      let f₄ : (end + rowSize l) + length b ≤ length d₃ = omega (arith, k₃ .long, k₂ .long, k₁ .long) in
-      let e₄ : putAt d₃ (end + rowSize l) b ≡ d₄ = put-fits d₃ (end + rowSize l) b f₄ in
-      let k₄ : Kept d₃ d₄ (end + rowSize l) ((end + rowSize l) + length b) = kept-over d₃ (end + rowSize l) b f₄ in
+      let d₄ : List ℕ = over d₃ (end + rowSize l) (b .body) in
+      let f₄ : (end + rowSize l) + length (b .body) ≤ length d₃ = omega (arith, k₃ .long, k₂ .long, k₁ .long) in
+      let e₄ : putAt d₃ (end + rowSize l) (b .body) ≡ d₄ = put-fits d₃ (end + rowSize l) (b .body) f₄ in
+      let k₄ : Kept d₃ d₄ (end + rowSize l) ((end + rowSize l) + length (b .body)) = kept-over d₃ (end + rowSize l) (b .body) f₄ in
       let head₄ : Has d₄ 0 (header l n) = k₄ .before 0 (header l n) (omega arith) head₃ in
       let rows₄ : Has d₄ (rowPlace l 0) (rowsOf l (start + rowSize l) bs) = k₄ .before (rowPlace l 0) (rowsOf l (start + rowSize l) bs) (omega arith) rows₃ in
       let row₄ : Has d₄ start r = k₄ .before start r (omega arith) row₃ in
       let bod₄ : Has d₄ (start + rowSize l) (joined bs) = k₄ .before (start + rowSize l) (joined bs) (omega arith) bod₃ in
-      let new₄ : Has d₄ (end + rowSize l) b = over-has d₃ (end + rowSize l) b f₄ in
+      let new₄ : Has d₄ (end + rowSize l) (b .body) = over-has d₃ (end + rowSize l) (b .body) f₄ in
       -- the row count
       let d₅ : List ℕ = over d₄ countPlace count in
       let cl : length count ≡ headerWidth = length-bigEndian headerWidth (n + 1) in
@@ -110,21 +110,21 @@ module _ (l : Layout) (ok : LayoutOk l) where
       (kept-has d₄ d₅ countPlace (countPlace + length count) (rowPlace l 0) _ k₅ (omega arith) rows₄)
       (kept-has d₄ d₅ countPlace (countPlace + length count) start r k₅ (omega arith) row₄)
       (kept-has d₄ d₅ countPlace (countPlace + length count) (start + rowSize l) (joined bs) k₅ (omega arith) bod₄)
-      (kept-has d₄ d₅ countPlace (countPlace + length count) (end + rowSize l) b k₅ (omega arith) new₄) in
+      (kept-has d₄ d₅ countPlace (countPlace + length count) (end + rowSize l) (b .body) k₅ (omega arith) new₄) in
       let m : ℕ = length (imageOf l (bs ++ (b ∷ []))) in
-      let ml : m ≡ end + rowSize l + length b = length-more l ok bs b in
+      let ml : m ≡ end + rowSize l + length (b .body) = length-more l ok bs b in
       let rest : drop m d₅ ≡ drop m d
       = k₅ .after m (omega arith) ∙ k₄ .after m (omega arith) ∙ k₃ .after m (omega arith) ∙ k₂ .after m (omega arith)
       ∙ k₁ .after m (omega arith) in
-      writes d n end b (f .id) (f .mask) d₁ d₃ d₄ d₅ e₁ e₃ e₄ e₅
+      writes d n end (b .body) (f .id) (f .mask) d₁ d₃ d₄ d₅ e₁ e₃ e₄ e₅
       ∙ has-front d₅ (imageOf l (bs ++ (b ∷ []))) has
       ∙ ap (λ (x : List ℕ). imageOf l (bs ++ (b ∷ [])) ++ x) rest
 
   -- ---- over a buffer that holds bodies
 
   -- Where there is room fewer than 64 bodies are held, and the larger image does not exceed the buffer.
-  room-says : (d : List ℕ) (bs : List (List ℕ)) (b : List ℕ) → hasRoom l d bs b ≡ true
-      → (length bs < mostRows l) × (length (imageOf l bs) + rowSize l + length b ≤ length d)
+  room-says : (d : List ℕ) (bs : List Row) (b : Row) → hasRoom l d bs b ≡ true
+      → (length bs < mostRows l) × (length (imageOf l bs) + rowSize l + length (b .body) ≤ length d)
   unfolding hasRoom
   room-says d bs b e =
       let larger : ℕ = length (imageOf l (bs ++ (b ∷ []))) in (
@@ -133,25 +133,25 @@ module _ (l : Layout) (ok : LayoutOk l) where
       )
 
   -- A body that reads fits where there is room for it.
-  fits-room : (d : List ℕ) (bs : List (List ℕ)) (b : List ℕ) (f : Fields) → reading b ≡ Read f
-      → fits l d (length bs) (length (imageOf l bs)) b (f .id) ≡ hasRoom l d bs b
+  fits-room : (d : List ℕ) (bs : List Row) (b : Row) (f : Fields) → reading (b .body) ≡ Read f
+      → fits l d (length bs) (length (imageOf l bs)) (b .body) (f .id) ≡ hasRoom l d bs b
   unfolding fits hasRoom
   fits-room d bs b f e =
       rw (
         le-leb (rowPlace l (length bs)) (length (imageOf l bs)) (omega (arith, image-length l ok bs)),
-        le-leb (f .id + idSize) (length b) (read-in b f e .id),
+        le-leb (f .id + idSize) (length (b .body)) (read-in (b .body) f e .id),
         length-more l ok bs b,
       )
-      (ap (λ (t : Bool). ltb (length bs) (mostRows l) && t) (and-true (leb (length (imageOf l bs) + rowSize l + length b) (length d))))
+      (ap (λ (t : Bool). ltb (length bs) (mostRows l) && t) (and-true (leb (length (imageOf l bs) + rowSize l + length (b .body)) (length d))))
 
   -- `BodyAdded`.
   pub body-added : BodyAdded l
   unfolding addedOf afterAdd withBody
   body-added d bs b f h e =
-      let t : fits l d (length bs) (length (imageOf l bs)) b (f .id) ≡ hasRoom l d bs b = fits-room d bs b f e in
+      let t : fits l d (length bs) (length (imageOf l bs)) (b .body) (f .id) ≡ hasRoom l d bs b = fits-room d bs b f e in
       (rw t, rw t (go (hasRoom l d bs b) refl))
     where
-      go : (t : Bool) → hasRoom l d bs b ≡ t → cond t (grown l d (length bs) (length (imageOf l bs)) b (f .id) (f .mask)) d ≡ cond t (withBody l d bs b) d
+      go : (t : Bool) → hasRoom l d bs b ≡ t → cond t (grown l d (length bs) (length (imageOf l bs)) (b .body) (f .id) (f .mask)) d ≡ cond t (withBody l d bs b) d
       go true u = grown-image d bs b f h e (room-says d bs b u .1)
       go false u = refl
 
@@ -160,10 +160,10 @@ module _ (l : Layout) (ok : LayoutOk l) where
   unfolding withBody
   one-more = record {
     holds = λ d bs b h room reads new. record {
-      bodies = bodies-more l ok bs b (h .bodies) (room-says d bs b room .0) reads new;
+      rows = bodies-more l ok bs b (h .rows) (room-says d bs b room .0) reads new;
       rest = drop (length (imageOf l (bs ++ (b ∷ [])))) d;
       whole = refl;
     };
-    mine = λ bs b e. with-new (idOf b) bs b e (equal-same (idOf b) (idOf b) refl);
-    others = λ id bs b o. with-other id bs b (not-same (idOf b) id o);
+    mine = λ bs b e. with-new (idOf (b .body)) bs b e (equal-same (idOf (b .body)) (idOf (b .body)) refl);
+    others = λ id bs b o. with-other id bs b (not-same (idOf (b .body)) id o);
   }

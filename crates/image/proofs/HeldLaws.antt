@@ -15,7 +15,7 @@ use Rattle.image.specs.declared.Held.{Held}
 use Rattle.image.specs.declared.Held.the-variants.{Missing, Body}
 use Rattle.image.specs.declared.layout.Layout.{Layout}
 use Rattle.image.specs.Layout.{rowPlace}
-use Rattle.image.specs.Image.{reading, idOf, joined, hasId, BodyOk, seenWith, bodyWith}
+use Rattle.image.specs.Image.{Row, reading, idOf, joined, hasId, BodyOk, seenWith, bodyWith}
 use Rattle.image.specs.Check.{noted}
 use Rattle.image.specs.Laws.{HeldBody, HeldIs}
 use Rattle.image.proofs.BodyLaws.{read-in}
@@ -31,70 +31,70 @@ heldAfter hit h at n Structure = h
 heldAfter hit h at n Validity = h
 
 -- What is held after bodies that lie back to back from a place on.
-unfoldable pub heldFrom : List ℕ → ℕ → Held → List (List ℕ) → Held
+unfoldable pub heldFrom : List ℕ → ℕ → Held → List Row → Held
 heldFrom id at h [] = h
-heldFrom id at h (b ∷ bs) = heldFrom id (at + length b) (heldAfter (same (idOf b) id) h at (length b) (reading b)) bs
+heldFrom id at h (b ∷ bs) = heldFrom id (at + length (b .body)) (heldAfter (same (idOf (b .body)) id) h at (length (b .body)) (reading (b .body))) bs
 
 -- What is held of the bodies of an image.
-unfoldable pub heldIn : Layout → List ℕ → List (List ℕ) → Held
+unfoldable pub heldIn : Layout → List ℕ → List Row → Held
 heldIn l id bs = heldFrom id (rowPlace l (length bs)) Missing bs
 
 -- ---- it is the body with the id
 
 -- After a body that reads, with the id or not.
-held-hit : (id : List ℕ) (at : ℕ) (h : Held) (b : List ℕ) (bs : List (List ℕ)) (f : Fields) (t : Bool) → reading b ≡ Read f
-    → same (idOf b) id ≡ t
-    → heldFrom id at h (b ∷ bs) ≡ heldFrom id (at + length b) (noted t h at (length b) f) bs
+held-hit : (id : List ℕ) (at : ℕ) (h : Held) (b : Row) (bs : List Row) (f : Fields) (t : Bool) → reading (b .body) ≡ Read f
+    → same (idOf (b .body)) id ≡ t
+    → heldFrom id at h (b ∷ bs) ≡ heldFrom id (at + length (b .body)) (noted t h at (length (b .body)) f) bs
 unfolding heldFrom
 held-hit id at h b bs f t e i = rw (e, i)
 
 -- Bodies of which none has the id change nothing.
-held-none : (id : List ℕ) (at : ℕ) (h : Held) (bs : List (List ℕ)) → hasId id bs ≡ false → heldFrom id at h bs ≡ h
+held-none : (id : List ℕ) (at : ℕ) (h : Held) (bs : List Row) → hasId id bs ≡ false → heldFrom id at h bs ≡ h
 unfolding heldFrom hasId
 held-none id at h [] i = refl
 held-none id at h (b ∷ bs) i =
-    let e : same (idOf b) id ≡ false = or-no-left (same (idOf b) id) (hasId id bs) i in
-    ap (λ (t : Bool). heldFrom id (at + length b) (heldAfter t h at (length b) (reading b)) bs) e
-    ∙ ap (λ (g : Held). heldFrom id (at + length b) g bs) (passed (reading b))
-    ∙ held-none id (at + length b) h bs (or-no-right (same (idOf b) id) (hasId id bs) i)
+    let e : same (idOf (b .body)) id ≡ false = or-no-left (same (idOf (b .body)) id) (hasId id bs) i in
+    ap (λ (t : Bool). heldFrom id (at + length (b .body)) (heldAfter t h at (length (b .body)) (reading (b .body))) bs) e
+    ∙ ap (λ (g : Held). heldFrom id (at + length (b .body)) g bs) (passed (reading (b .body)))
+    ∙ held-none id (at + length (b .body)) h bs (or-no-right (same (idOf (b .body)) id) (hasId id bs) i)
   where
-    passed : (r : Reading) → heldAfter false h at (length b) r ≡ h
+    passed : (r : Reading) → heldAfter false h at (length (b .body)) r ≡ h
     passed (Read f) = refl
     passed Structure = refl
     passed Validity = refl
 
 -- Where the first body has another id, what is held of the rest is held of all.
-held-rest : (s id b : List ℕ) (bs : List (List ℕ)) (h : Held) → same (idOf b) id ≡ false → HeldIs s id bs h → HeldIs s id (b ∷ bs) h
+held-rest : (s id : List ℕ) (b : Row) (bs : List Row) (h : Held) → same (idOf (b .body)) id ≡ false → HeldIs s id bs h → HeldIs s id (b ∷ bs) h
 held-rest s id b bs Missing e k = with-rest id b bs e .0 ∙ k
 held-rest s id b bs (Body at len f) e k = record { which = with-rest id b bs e .0 ∙ k .which; inside = k .inside; reads = k .reads }
 
 -- A first body with the id is held.
-held-first : (s id : List ℕ) (at : ℕ) (b : List ℕ) (bs : List (List ℕ)) (f : Fields) → Has s at b → reading b ≡ Read f
-    → same (idOf b) id ≡ true
-    → HeldBody s id (b ∷ bs) at (length b) f
+held-first : (s id : List ℕ) (at : ℕ) (b : Row) (bs : List Row) (f : Fields) → Has s at (b .body) → reading (b .body) ≡ Read f
+    → same (idOf (b .body)) id ≡ true
+    → HeldBody s id (b ∷ bs) at (length (b .body)) f
 held-first s id at b bs f h e i =
-    let p : part s at (length b) ≡ b = has-part s at b h in
+    let p : part s at (length (b .body)) ≡ b .body = has-part s at (b .body) h in
     record {
       which = with-first id b bs i .0 ∙ ap some (sym p);
-      inside = has-fits s at b (read-in b f e .filled) h;
+      inside = has-fits s at (b .body) (read-in (b .body) f e .filled) h;
       reads = ap reading p ∙ e;
     }
 
 -- What is held of bodies that stand back to back from a place on is the one with the id.
-pub held-is : (s id : List ℕ) (at : ℕ) (seen bs : List (List ℕ)) → AllFrom BodyOk seenWith seen bs → Has s at (joined bs)
+pub held-is : (s id : List ℕ) (at : ℕ) (seen bs : List Row) → AllFrom BodyOk seenWith seen bs → Has s at (joined bs)
     → HeldIs s id bs (heldFrom id at Missing bs)
 unfolding heldFrom joined bodyWith
 held-is s id at seen [] a h = refl
 held-is s id at seen (b ∷ bs) a h =
-    let r = read-is b (a .0 .reads) in
-    go (same (idOf b) id) refl (r .0) (r .1) (held-is s id (at + length b) (seen ++ (b ∷ [])) bs (a .1) (has-right s at b (joined bs) h))
+    let r = read-is (b .body) (a .0 .reads) in
+    go (same (idOf (b .body)) id) refl (r .0) (r .1) (held-is s id (at + length (b .body)) (seen ++ (b ∷ [])) bs (a .1) (has-right s at (b .body) (joined bs) h))
   where
-    go : (t : Bool) → same (idOf b) id ≡ t → (f : Fields) → reading b ≡ Read f → HeldIs s id bs (heldFrom id (at + length b) Missing bs)
+    go : (t : Bool) → same (idOf (b .body)) id ≡ t → (f : Fields) → reading (b .body) ≡ Read f → HeldIs s id bs (heldFrom id (at + length (b .body)) Missing bs)
         → HeldIs s id (b ∷ bs) (heldFrom id at Missing (b ∷ bs))
     go true e f i k =
         let m : hasId id (seen ++ (b ∷ [])) ≡ true = has-snoc id seen b ∙ rw e (or-true (hasId id seen)) in
-        let w : heldFrom id at Missing (b ∷ bs) ≡ Body at (length b) f
-        = held-hit id at Missing b bs f true i e ∙ held-none id (at + length b) (Body at (length b) f) bs (rest-new id (seen ++ (b ∷ [])) bs (a .1) m) in
-        subst (HeldIs s id (b ∷ bs)) (sym w) (held-first s id at b bs f (has-left s at b (joined bs) h) i e)
+        let w : heldFrom id at Missing (b ∷ bs) ≡ Body at (length (b .body)) f
+        = held-hit id at Missing b bs f true i e ∙ held-none id (at + length (b .body)) (Body at (length (b .body)) f) bs (rest-new id (seen ++ (b ∷ [])) bs (a .1) m) in
+        subst (HeldIs s id (b ∷ bs)) (sym w) (held-first s id at b bs f (has-left s at (b .body) (joined bs) h) i e)
     go false e f i k = subst (HeldIs s id (b ∷ bs)) (sym (held-hit id at Missing b bs f false i e))
-        (held-rest s id b bs (heldFrom id (at + length b) Missing bs) e k)
+        (held-rest s id b bs (heldFrom id (at + length (b .body)) Missing bs) e k)

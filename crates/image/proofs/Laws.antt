@@ -1,6 +1,6 @@
 -- The statements of specs/Laws.antt at edition 1, each from its law. Assumes nothing.
 use Rattle.image.specs.Layout.{edition1}
-use Rattle.image.specs.Laws.{ReadIn, ReadNamed, BodyRead, EncodingRead, BodyWithExactly, BodiesNamed, SurveyTells, SurveySays}
+use Rattle.image.specs.Laws.{ReadIn, ReadNamed, BodyRead, EncodingRead, BodyWithExactly, RowsNamed, SurveyTells, SurveySays}
 use Rattle.image.specs.Laws.{SurveyUnsound, EditionsSurveyed, SurveyInside, BodyAdded, OneMore}
 use Rattle.image.proofs.RowPlaceLaws.{edition1-ok}
 use Rattle.image.proofs.BodyLaws as body
@@ -29,8 +29,8 @@ encoding-read = read.encoding-read
 pub body-with-exactly : BodyWithExactly edition1
 body-with-exactly = place.body-with-exactly edition1
 
-pub bodies-named : BodiesNamed edition1
-bodies-named = survey.bodies-named edition1 edition1-ok
+pub rows-named : RowsNamed edition1
+rows-named = survey.rows-named edition1 edition1-ok
 
 -- ---- what a survey says
 

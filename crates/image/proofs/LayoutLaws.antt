@@ -9,7 +9,7 @@ use Rattle.octets.specs.Bytes.{same}
 use Rattle.octets.specs.Number.{bigEndian}
 use Rattle.exact.specs.Reads.{AllFrom}
 use Rattle.image.specs.Layout.{bodyWidth, maskWidth, edition1, zeroSize, rowPlace}
-use Rattle.image.specs.Image.{idOf, modesOf, header, row, rowsOf, joined, imageOf, hasId, BodyOk, seenWith, bodyWith}
+use Rattle.image.specs.Image.{Row, rowOf, idOf, modesOf, header, row, rowsOf, joined, imageOf, hasId, BodyOk, seenWith, bodyWith}
 use Rattle.image.specs.Promises.{four, LayoutFixed, answerOf, Every, IdsDiffer, HoldsExactly, BodyOfId}
 use Rattle.image.proofs.RowLaws.{id-length, modes-small}
 use Rattle.octets.proofs.Tests.{or-no-left, or-no-right, or-true}
@@ -39,7 +39,7 @@ unfolding header row rowsOf joined imageOf bigEndian rowPlace
 layout-fixed = (
   λ n. refl,
   id-length,
-  λ at b.
+  λ at r. let b : List ℕ = r .body in
       ap (λ (l : List ℕ). idOf b ++ l)
       (ap₂ (λ (x y : List ℕ). x ++ y) (in-four at)
       (ap₂ (λ (x y : List ℕ). x ++ y) (in-four (length b))
@@ -54,45 +54,45 @@ layout-fixed = (
 -- ---- which bodies a buffer holds
 
 -- Bodies of which none has the id have other ids.
-has-none : (id : List ℕ) (bs : List (List ℕ)) → hasId id bs ≡ false → Every (λ c. idOf c ≡ id → ⊥) bs
+has-none : (id : List ℕ) (bs : List Row) → hasId id bs ≡ false → Every (λ c. idOf (c .body) ≡ id → ⊥) bs
 unfolding hasId
 has-none id [] e = tt
 has-none id (b ∷ bs) e = (
-  λ q. false≢true (sym (or-no-left (same (idOf b) id) (hasId id bs) e) ∙ equal-same (idOf b) id q),
-  has-none id bs (or-no-right (same (idOf b) id) (hasId id bs) e),
+  λ q. false≢true (sym (or-no-left (same (idOf (b .body)) id) (hasId id bs) e) ∙ equal-same (idOf (b .body)) id q),
+  has-none id bs (or-no-right (same (idOf (b .body)) id) (hasId id bs) e),
 )
 
 -- Bodies that are allowed one after the other read with 0.
-all-read : (seen bs : List (List ℕ)) → AllFrom BodyOk seenWith seen bs → Every (λ b. answerOf b ≡ 0) bs
+all-read : (seen bs : List Row) → AllFrom BodyOk seenWith seen bs → Every (λ b. answerOf (b .body) ≡ 0) bs
 all-read seen [] a = tt
-all-read seen (b ∷ bs) a = (read-zero b (a .0 .reads), all-read (seen ++ (b ∷ [])) bs (a .1))
+all-read seen (b ∷ bs) a = (read-zero (b .body) (a .0 .reads), all-read (seen ++ (b ∷ [])) bs (a .1))
 
 -- Their ids differ.
-all-differ : (seen bs : List (List ℕ)) → AllFrom BodyOk seenWith seen bs → IdsDiffer bs
+all-differ : (seen bs : List Row) → AllFrom BodyOk seenWith seen bs → IdsDiffer bs
 all-differ seen [] a = tt
 all-differ seen (b ∷ bs) a =
-    let m : hasId (idOf b) (seen ++ (b ∷ [])) ≡ true = has-snoc (idOf b) seen b ∙ rw (equal-same (idOf b) (idOf b) refl) (or-true (hasId (idOf b) seen)) in
-    (has-none (idOf b) bs (rest-new (idOf b) (seen ++ (b ∷ [])) bs (a .1) m), all-differ (seen ++ (b ∷ [])) bs (a .1))
+    let m : hasId (idOf (b .body)) (seen ++ (b ∷ [])) ≡ true = has-snoc (idOf (b .body)) seen b ∙ rw (equal-same (idOf (b .body)) (idOf (b .body)) refl) (or-true (hasId (idOf (b .body)) seen)) in
+    (has-none (idOf (b .body)) bs (rest-new (idOf (b .body)) (seen ++ (b ∷ [])) bs (a .1) m), all-differ (seen ++ (b ∷ [])) bs (a .1))
 
 -- Bodies whose ids are new stay so after a body with another id.
-still-new : (seen : List (List ℕ)) (b : List ℕ) (bs : List (List ℕ)) → Every (λ c. hasId (idOf c) seen ≡ false) bs
-    → Every (λ c. idOf c ≡ idOf b → ⊥) bs
-    → Every (λ c. hasId (idOf c) (seen ++ (b ∷ [])) ≡ false) bs
+still-new : (seen : List Row) (b : Row) (bs : List Row) → Every (λ c. hasId (idOf (c .body)) seen ≡ false) bs
+    → Every (λ c. idOf (c .body) ≡ idOf (b .body) → ⊥) bs
+    → Every (λ c. hasId (idOf (c .body)) (seen ++ (b ∷ [])) ≡ false) bs
 still-new seen b [] n o = tt
 still-new seen b (c ∷ bs) n o = (
-  has-snoc (idOf c) seen b ∙ rw (n .0, not-same (idOf b) (idOf c) (λ e. o .0 (sym e))),
+  has-snoc (idOf (c .body)) seen b ∙ rw (n .0, not-same (idOf (b .body)) (idOf (c .body)) (λ e. o .0 (sym e))),
   still-new seen b bs (n .1) (o .1),
 )
 
 -- Bodies that read with 0, whose ids are new and differ, are allowed one after the other.
-all-from : (seen bs : List (List ℕ)) → Every (λ b. answerOf b ≡ 0) bs → IdsDiffer bs → Every (λ c. hasId (idOf c) seen ≡ false) bs
+all-from : (seen bs : List Row) → Every (λ b. answerOf (b .body) ≡ 0) bs → IdsDiffer bs → Every (λ c. hasId (idOf (c .body)) seen ≡ false) bs
     → AllFrom BodyOk seenWith seen bs
 all-from seen [] r o n = tt
 all-from seen (b ∷ bs) r o n =
-    (record { reads = zero-read b (r .0); new = n .0 }, all-from (seen ++ (b ∷ [])) bs (r .1) (o .1) (still-new seen b bs (n .1) (o .0)))
+    (record { reads = zero-read (b .body) (r .0); new = n .0 }, all-from (seen ++ (b ∷ [])) bs (r .1) (o .1) (still-new seen b bs (n .1) (o .0)))
 
 -- At first every id is new.
-all-new : (bs : List (List ℕ)) → Every (λ c. hasId (idOf c) [] ≡ false) bs
+all-new : (bs : List Row) → Every (λ c. hasId (idOf (c .body)) [] ≡ false) bs
 unfolding hasId
 all-new [] = tt
 all-new (b ∷ bs) = (refl, all-new bs)
@@ -100,8 +100,8 @@ all-new (b ∷ bs) = (refl, all-new bs)
 -- `HoldsExactly`.
 pub holds-exactly : HoldsExactly
 holds-exactly s bs = (
-  λ h. (h .bodies .few, all-read [] bs (h .bodies .each), all-differ [] bs (h .bodies .each), (h .rest, h .whole)),
-  λ x. record { bodies = record { few = x .0; each = all-from [] bs (x .1) (x .2) (all-new bs) }; rest = x .3 .0; whole = x .3 .1 },
+  λ h. (h .rows .few, all-read [] bs (h .rows .each), all-differ [] bs (h .rows .each), (h .rest, h .whole)),
+  λ x. record { rows = record { few = x .0; each = all-from [] bs (x .1) (x .2) (all-new bs) }; rest = x .3 .0; whole = x .3 .1 },
 )
 
 -- `BodyOfId`.
@@ -109,6 +109,6 @@ pub body-of-id : BodyOfId
 unfolding bodyWith
 body-of-id id = (
   refl,
-  λ b bs e. with-first id b bs (equal-same (idOf b) id e) .0,
-  λ b bs n. with-rest id b bs (not-same (idOf b) id n) .0,
+  λ b bs e. with-first id b bs (equal-same (idOf (b .body)) id e) .0,
+  λ b bs n. with-rest id b bs (not-same (idOf (b .body)) id n) .0,
 )

@@ -14,7 +14,7 @@ use Rattle.octets.proofs.Tests.{or-assoc}
 use Rattle.descriptor.specs.declared.Fields.{Fields}
 use Rattle.descriptor.specs.declared.Reading.{Reading}
 use Rattle.descriptor.specs.declared.Reading.the-variants.{Read, Structure, Validity}
-use Rattle.image.specs.Image.{reading, isRead, idOf, joined, hasId, BodyOk, seenWith, bodyWith}
+use Rattle.image.specs.Image.{Row, reading, isRead, idOf, joined, hasId, BodyOk, seenWith, bodyWith}
 use Rattle.image.proofs.BodyLaws.{read-in}
 
 -- ---- a body that reads
@@ -33,70 +33,70 @@ pub is-read : (b : List ℕ) (f : Fields) → reading b ≡ Read f → isRead (r
 is-read b f e = ap isRead e
 
 -- Bodies that read have at most 32768 bytes each.
-pub joined-short : (seen bs : List (List ℕ)) → AllFrom BodyOk seenWith seen bs → length (joined bs) ≤ 32768 * length bs
+pub joined-short : (seen bs : List Row) → AllFrom BodyOk seenWith seen bs → length (joined bs) ≤ 32768 * length bs
 unfolding joined
 joined-short seen [] a = omega arith
 joined-short seen (b ∷ bs) a =
-    let r = read-is b (a .0 .reads) in
-    omega (arith, length-append b (joined bs), read-in b (r .0) (r .1) .short, joined-short (seen ++ (b ∷ [])) bs (a .1))
+    let r = read-is (b .body) (a .0 .reads) in
+    omega (arith, length-append (b .body) (joined bs), read-in (b .body) (r .0) (r .1) .short, joined-short (seen ++ (b ∷ [])) bs (a .1))
 
 -- ---- ids
 
 -- The ids of the bodies and one more.
-pub has-snoc : (id : List ℕ) (bs : List (List ℕ)) (b : List ℕ) → hasId id (bs ++ (b ∷ [])) ≡ (hasId id bs || same (idOf b) id)
+pub has-snoc : (id : List ℕ) (bs : List Row) (b : Row) → hasId id (bs ++ (b ∷ [])) ≡ (hasId id bs || same (idOf (b .body)) id)
 unfolding hasId
-has-snoc id [] b = or-false (same (idOf b) id)
-has-snoc id (x ∷ bs) b = ap (λ (t : Bool). same (idOf x) id || t) (has-snoc id bs b)
-    ∙ or-assoc (same (idOf x) id) (hasId id bs) (same (idOf b) id)
+has-snoc id [] b = or-false (same (idOf (b .body)) id)
+has-snoc id (x ∷ bs) b = ap (λ (t : Bool). same (idOf (x .body)) id || t) (has-snoc id bs b)
+    ∙ or-assoc (same (idOf (x .body)) id) (hasId id bs) (same (idOf (b .body)) id)
 
 -- An id that a body before has, none of the bodies has.
-pub rest-new : (id : List ℕ) (seen bs : List (List ℕ)) → AllFrom BodyOk seenWith seen bs → hasId id seen ≡ true → hasId id bs ≡ false
+pub rest-new : (id : List ℕ) (seen bs : List Row) → AllFrom BodyOk seenWith seen bs → hasId id seen ≡ true → hasId id bs ≡ false
 unfolding hasId
 rest-new id seen [] a h = refl
 rest-new id seen (b ∷ bs) a h =
-    let more : hasId id (seen ++ (b ∷ [])) ≡ true = has-snoc id seen b ∙ ap (λ (t : Bool). t || same (idOf b) id) h in
-    go (same (idOf b) id) refl (rest-new id (seen ++ (b ∷ [])) bs (a .1) more)
+    let more : hasId id (seen ++ (b ∷ [])) ≡ true = has-snoc id seen b ∙ ap (λ (t : Bool). t || same (idOf (b .body)) id) h in
+    go (same (idOf (b .body)) id) refl (rest-new id (seen ++ (b ∷ [])) bs (a .1) more)
   where
-    go : (t : Bool) → same (idOf b) id ≡ t → hasId id bs ≡ false → (t || hasId id bs) ≡ false
-    go true e r = absurd (false≢true (sym (a .0 .new) ∙ ap (λ (x : List ℕ). hasId x seen) (same-equal (idOf b) id e) ∙ h))
+    go : (t : Bool) → same (idOf (b .body)) id ≡ t → hasId id bs ≡ false → (t || hasId id bs) ≡ false
+    go true e r = absurd (false≢true (sym (a .0 .new) ∙ ap (λ (x : List ℕ). hasId x seen) (same-equal (idOf (b .body)) id e) ∙ h))
     go false e r = r
 
 -- Bodies and one more that is allowed after them are allowed.
-pub each-snoc : (seen bs : List (List ℕ)) (b : List ℕ) → AllFrom BodyOk seenWith seen bs → BodyOk (seen ++ bs) b
+pub each-snoc : (seen bs : List Row) (b : Row) → AllFrom BodyOk seenWith seen bs → BodyOk (seen ++ bs) b
     → AllFrom BodyOk seenWith seen (bs ++ (b ∷ []))
-each-snoc seen [] b a o = (subst (λ (l : List (List ℕ)). BodyOk l b) (append-nil seen) o, tt)
+each-snoc seen [] b a o = (subst (λ (l : List Row). BodyOk l b) (append-nil seen) o, tt)
 each-snoc seen (x ∷ bs) b a o =
-    (a .0, each-snoc (seen ++ (x ∷ [])) bs b (a .1) (subst (λ (l : List (List ℕ)). BodyOk l b) (sym (append-assoc seen (x ∷ []) bs)) o))
+    (a .0, each-snoc (seen ++ (x ∷ [])) bs b (a .1) (subst (λ (l : List Row). BodyOk l b) (sym (append-assoc seen (x ∷ []) bs)) o))
 
 -- ---- the body with an id
 
 -- After one more body its id finds it, where it found none before.
-pub with-new : (id : List ℕ) (bs : List (List ℕ)) (b : List ℕ) → bodyWith id bs ≡ none → same (idOf b) id ≡ true
-    → bodyWith id (bs ++ (b ∷ [])) ≡ some b
+pub with-new : (id : List ℕ) (bs : List Row) (b : Row) → bodyWith id bs ≡ none → same (idOf (b .body)) id ≡ true
+    → bodyWith id (bs ++ (b ∷ [])) ≡ some (b .body)
 unfolding bodyWith
 with-new id [] b h e = rw (e, bodyWith)
-with-new id (x ∷ bs) b h e = go (same (idOf x) id) h (with-new id bs b)
+with-new id (x ∷ bs) b h e = go (same (idOf (x .body)) id) h (with-new id bs b)
   where
-    go : (t : Bool) → _≡_ {A = Option (List ℕ)} (elim t as (λ t. Option (List ℕ)) [ true ↦ some x | false ↦ bodyWith id bs ]) none
-        → (bodyWith id bs ≡ none → same (idOf b) id ≡ true → bodyWith id (bs ++ (b ∷ [])) ≡ some b)
-        → elim t as (λ t. Option (List ℕ)) [ true ↦ some x | false ↦ bodyWith id (bs ++ (b ∷ [])) ] ≡ some b
-    go true h r = absurd (none-some x (sym h))
+    go : (t : Bool) → _≡_ {A = Option (List ℕ)} (elim t as (λ t. Option (List ℕ)) [ true ↦ some (x .body) | false ↦ bodyWith id bs ]) none
+        → (bodyWith id bs ≡ none → same (idOf (b .body)) id ≡ true → bodyWith id (bs ++ (b ∷ [])) ≡ some (b .body))
+        → elim t as (λ t. Option (List ℕ)) [ true ↦ some (x .body) | false ↦ bodyWith id (bs ++ (b ∷ [])) ] ≡ some (b .body)
+    go true h r = absurd (none-some (x .body) (sym h))
     go false h r = r h e
 
 -- Any other id finds what it found before.
-pub with-other : (id : List ℕ) (bs : List (List ℕ)) (b : List ℕ) → same (idOf b) id ≡ false → bodyWith id (bs ++ (b ∷ [])) ≡ bodyWith id bs
+pub with-other : (id : List ℕ) (bs : List Row) (b : Row) → same (idOf (b .body)) id ≡ false → bodyWith id (bs ++ (b ∷ [])) ≡ bodyWith id bs
 unfolding bodyWith
 with-other id [] b e = rw (e, bodyWith)
-with-other id (x ∷ bs) b e = ap (λ (o : Option (List ℕ)). elim (same (idOf x) id) as (λ t. Option (List ℕ)) [ true ↦ some x | false ↦ o ]) (with-other id bs b e)
+with-other id (x ∷ bs) b e = ap (λ (o : Option (List ℕ)). elim (same (idOf (x .body)) id) as (λ t. Option (List ℕ)) [ true ↦ some (x .body) | false ↦ o ]) (with-other id bs b e)
 
 -- The first body is found by its id.
-pub with-first : (id b : List ℕ) (bs : List (List ℕ)) → same (idOf b) id ≡ true
-    → (bodyWith id (b ∷ bs) ≡ some b) × (hasId id (b ∷ bs) ≡ true)
+pub with-first : (id : List ℕ) (b : Row) (bs : List Row) → same (idOf (b .body)) id ≡ true
+    → (bodyWith id (b ∷ bs) ≡ some (b .body)) × (hasId id (b ∷ bs) ≡ true)
 unfolding bodyWith hasId
 with-first id b bs e = (rw (e, bodyWith), rw e)
 
 -- By another id the rest is searched.
-pub with-rest : (id b : List ℕ) (bs : List (List ℕ)) → same (idOf b) id ≡ false
+pub with-rest : (id : List ℕ) (b : Row) (bs : List Row) → same (idOf (b .body)) id ≡ false
     → (bodyWith id (b ∷ bs) ≡ bodyWith id bs) × (hasId id (b ∷ bs) ≡ hasId id bs)
 unfolding bodyWith hasId
 with-rest id b bs e = (rw (e, bodyWith), rw e)

@@ -20,9 +20,9 @@ use Rattle.image.specs.declared.Survey.the-variants.{Sound, Unsound}
 use Rattle.image.specs.declared.Finding.{Finding}
 use Rattle.image.specs.declared.Finding.the-variants.{Found, BadId, BadImage, NotHeld}
 use Rattle.image.specs.Layout.{idSize}
-use Rattle.image.specs.Image.{bodyWith}
+use Rattle.image.specs.Image.{Row, bodyWith}
 use Rattle.image.specs.Check.{heldAt, foundIn, findOf as find-of, bodySpan, numbersOf}
-use Rattle.image.specs.Edition1.{imageOf, Holds, surveyOf, bodiesOf, findOf}
+use Rattle.image.specs.Edition1.{imageOf, Holds, surveyOf, rowsHeld, findOf}
 use Rattle.image.specs.Promises.{refusal, FoundAt, LookupExactly, SoundExactly, EditionsKnown, BodyHanded}
 use Rattle.image.specs.Laws.{HeldIs, SurveyFits}
 use Rattle.image.proofs.Laws.{survey-tells, survey-says, survey-unsound, survey-inside, editions-surveyed}
@@ -52,12 +52,12 @@ lookup-exactly = record {
   held = λ s id bs b l h e. subst (λ n. FoundAt s b n) (sym (ap numbersOf (find-in s id l))) (let w = survey-tells s id bs h in subst (λ (v : Survey). FoundAt s b (numbersOf (foundIn v))) (sym (w .1)) (found s id bs b e (w .0) (w .2)));
 }
   where
-    missing : (s id : List ℕ) (bs : List (List ℕ)) → bodyWith id bs ≡ none → (h : Held) → HeldIs s id bs h
+    missing : (s id : List ℕ) (bs : List Row) → bodyWith id bs ≡ none → (h : Held) → HeldIs s id bs h
         → numbersOf (heldAt h) ≡ refusal 7
     missing s id bs e Missing k = refl
     missing s id bs e (Body at len f) k = absurd (none-some (part s at len) (sym e ∙ k .which))
 
-    found : (s id : List ℕ) (bs : List (List ℕ)) (b : List ℕ) → bodyWith id bs ≡ some b → (h : Held) → HeldIs s id bs h
+    found : (s id : List ℕ) (bs : List Row) (b : List ℕ) → bodyWith id bs ≡ some b → (h : Held) → HeldIs s id bs h
         → FoundAt s b (numbersOf (heldAt h))
     found s id bs b e Missing k = absurd (none-some b (sym k ∙ e))
     found s id bs b e (Body at len f) k =
@@ -78,8 +78,8 @@ sound-exactly s id bytes l = (
       (ap (λ (v : Survey). numbersOf (foundIn v) .answer) (sym (w .1)) ∙ sym (ap (λ r. r .answer) (ap numbersOf (find-in s id l))) ∙ e),
 )
   where
-    go : (v : Survey) → surveyOf s id ≡ v → (numbersOf (findOf s id) .answer ≡ 16 → ⊥) → (bs : List (List ℕ)) × Holds s bs
-    go (Sound k end h) e n = (bodiesOf s, survey-says s id bytes k end h e .holds)
+    go : (v : Survey) → surveyOf s id ≡ v → (numbersOf (findOf s id) .answer ≡ 16 → ⊥) → (bs : List Row) × Holds s bs
+    go (Sound k end h) e n = (rowsHeld s, survey-says s id bytes k end h e .holds)
     go Unsound e n = absurd (n (ap (λ r. r .answer) (unsound-16 s id l e)))
 
 -- `EditionsKnown`.

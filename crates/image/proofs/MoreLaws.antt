@@ -11,30 +11,30 @@ use Rattle.octets.proofs.BytesLaws.{has-both}
 use Rattle.octets.proofs.OptionLaws.{none-some}
 use Rattle.image.specs.declared.layout.Layout.{Layout}
 use Rattle.image.specs.Layout.{rowSize, mostRows, rowPlace, LayoutOk}
-use Rattle.image.specs.Image.{reading, isRead, idOf, header, row, rowsOf, joined, imageOf, hasId, BodiesOk, bodyWith}
+use Rattle.image.specs.Image.{Row, reading, isRead, idOf, header, row, rowsOf, joined, imageOf, hasId, RowsOk, bodyWith}
 use Rattle.image.proofs.RowPlaceLaws.{place-next}
 use Rattle.image.proofs.RowLaws.{rows-end, image-length, joined-snoc, rows-snoc}
 use Rattle.image.proofs.ListLaws.{each-snoc}
 use Rattle.image.proofs.SoundLaws.{run-whole}
 
 -- An id that has no body is none of the bodies'.
-none-has : (id : List ℕ) (bs : List (List ℕ)) → bodyWith id bs ≡ none → hasId id bs ≡ false
+none-has : (id : List ℕ) (bs : List Row) → bodyWith id bs ≡ none → hasId id bs ≡ false
 unfolding bodyWith hasId
 none-has id [] e = refl
-none-has id (b ∷ bs) e = go (same (idOf b) id) e (none-has id bs)
+none-has id (b ∷ bs) e = go (same (idOf (b .body)) id) e (none-has id bs)
   where
-    go : (t : Bool) → _≡_ {A = Option (List ℕ)} (elim t as (λ t. Option (List ℕ)) [ true ↦ some b | false ↦ bodyWith id bs ]) none
+    go : (t : Bool) → _≡_ {A = Option (List ℕ)} (elim t as (λ t. Option (List ℕ)) [ true ↦ some (b .body) | false ↦ bodyWith id bs ]) none
         → (bodyWith id bs ≡ none → hasId id bs ≡ false) → (t || hasId id bs) ≡ false
-    go true e k = absurd (none-some b (sym e))
+    go true e k = absurd (none-some (b .body) (sym e))
     go false e k = k e
 
 module _ (l : Layout) (ok : LayoutOk l) where
   -- The bodies of one more begin a row later.
-  place-more : (bs : List (List ℕ)) (b : List ℕ) → rowPlace l (length bs) + rowSize l ≡ rowPlace l (length (bs ++ (b ∷ [])))
+  place-more : (bs : List Row) (b : Row) → rowPlace l (length bs) + rowSize l ≡ rowPlace l (length (bs ++ (b ∷ [])))
   place-more bs b = sym (ap (rowPlace l) (length-append bs (b ∷ [])) ∙ place-next l (length bs))
 
   -- The image of one body more is longer by a row and the body.
-  pub length-more : (bs : List (List ℕ)) (b : List ℕ) → length (imageOf l (bs ++ (b ∷ []))) ≡ length (imageOf l bs) + rowSize l + length b
+  pub length-more : (bs : List Row) (b : Row) → length (imageOf l (bs ++ (b ∷ []))) ≡ length (imageOf l bs) + rowSize l + length (b .body)
   length-more bs b =
       omega (
         arith,
@@ -42,18 +42,18 @@ module _ (l : Layout) (ok : LayoutOk l) where
         image-length l ok (bs ++ (b ∷ [])),
         place-more bs b,
         ap length (joined-snoc bs b),
-        length-append (joined bs) b,
+        length-append (joined bs) (b .body),
       )
 
   -- Where the pieces of the larger image stand, it stands.
-  pub pieces : (d : List ℕ) (bs : List (List ℕ)) (b : List ℕ) → Has d 0 (header l (length bs + 1))
+  pub pieces : (d : List ℕ) (bs : List Row) (b : Row) → Has d 0 (header l (length bs + 1))
       → Has d (rowPlace l 0) (rowsOf l (rowPlace l (length bs) + rowSize l) bs)
       → Has d (rowPlace l (length bs)) (row l (length (imageOf l bs) + rowSize l) b) → Has d (rowPlace l (length bs) + rowSize l) (joined bs)
-      → Has d (length (imageOf l bs) + rowSize l) b
+      → Has d (length (imageOf l bs) + rowSize l) (b .body)
       → Has d 0 (imageOf l (bs ++ (b ∷ [])))
   pieces d bs b h₁ h₂ h₃ h₄ h₅ =
       let n : ℕ = length bs in
-      let more : List (List ℕ) = bs ++ (b ∷ []) in
+      let more : List Row = bs ++ (b ∷ []) in
       let up : ℕ = rowPlace l n + rowSize l in
       let m : length more ≡ n + 1 = length-append bs (b ∷ []) in
       let start : up ≡ rowPlace l (length more) = place-more bs b in
@@ -64,7 +64,7 @@ module _ (l : Layout) (ok : LayoutOk l) where
       (has-both d (rowPlace l 0) (length (rowsOf l up bs)) (rowPlace l n) (rowsOf l up bs) (row l (up + length (joined bs)) b) refl (rows-end l ok up bs) h₂ last) in
       let bodies : Has d up (joined more)
       = subst (Has d up) (sym (joined-snoc bs b))
-      (has-both d up (length (joined bs)) (length (imageOf l bs) + rowSize l) (joined bs) b refl (sym at) h₄ h₅) in
+      (has-both d up (length (joined bs)) (length (imageOf l bs) + rowSize l) (joined bs) (b .body) refl (sym at) h₄ h₅) in
       run-whole l ok d more (record {
         has-header = subst (λ (k : ℕ). Has d 0 (header l k)) (sym m) h₁;
         has-rows = subst (λ (k : ℕ). Has d (rowPlace l 0) (rowsOf l k more)) start rows;
@@ -72,9 +72,9 @@ module _ (l : Layout) (ok : LayoutOk l) where
       })
 
   -- Fewer bodies than there may be rows and one more that reads, whose id none of them has, are allowed.
-  pub bodies-more : (bs : List (List ℕ)) (b : List ℕ) → BodiesOk l bs → length bs < mostRows l → isRead (reading b) ≡ true
-      → bodyWith (idOf b) bs ≡ none → BodiesOk l (bs ++ (b ∷ []))
+  pub bodies-more : (bs : List Row) (b : Row) → RowsOk l bs → length bs < mostRows l → isRead (reading (b .body)) ≡ true
+      → bodyWith (idOf (b .body)) bs ≡ none → RowsOk l (bs ++ (b ∷ []))
   bodies-more bs b o few reads new = record {
     few = omega (arith, length-append bs (b ∷ []));
-    each = each-snoc [] bs b (o .each) (record { reads = reads; new = none-has (idOf b) bs new });
+    each = each-snoc [] bs b (o .each) (record { reads = reads; new = none-has (idOf (b .body)) bs new });
   }

@@ -17,7 +17,7 @@ use Rattle.image.specs.declared.layout.Layout.{Layout}
 use Rattle.image.specs.Layout.{modeEdition, headerSize, headerWidth, editionPlace, modesPlace, countPlace, headerZero, idSize}
 use Rattle.image.specs.Layout.{bodyWidth, maskWidth, offsetPlace, lengthPlace, maskPlace, zeroPlace, rowSize, zeroSize}
 use Rattle.image.specs.Layout.{rowPlace, LayoutOk}
-use Rattle.image.specs.Image.{reading, idOf, modesOf, header, row, rowsOf, joined}
+use Rattle.image.specs.Image.{Row, reading, idOf, modesOf, header, row, rowsOf, joined}
 use Rattle.image.specs.Grow.{raised, withRow}
 use Rattle.image.proofs.RowLaws.{id-read, modes-read, id-length, row-length, header-parts, parts-header, RowParts}
 use Rattle.image.proofs.RowLaws.{row-parts, parts-row}
@@ -42,7 +42,7 @@ five a b c d e = simp append-assoc
 
 module _ (l : Layout) (ok : LayoutOk l) where
   -- The offset of a row raised by a row's size: the row of the body that lies so much higher, and no other byte is changed.
-  pub row-raised : (d : List ℕ) (r at : ℕ) (b : List ℕ) → at < 4294967296 → Has d r (row l at b)
+  pub row-raised : (d : List ℕ) (r at : ℕ) (b : Row) → at < 4294967296 → Has d r (row l at b)
       → Has (putAt d (r + offsetPlace) (bigEndian bodyWidth (numberIn d (r + offsetPlace) bodyWidth + rowSize l))) r (row l (at + rowSize l) b)
       × Kept d (putAt d (r + offsetPlace) (bigEndian bodyWidth (numberIn d (r + offsetPlace) bodyWidth + rowSize l))) r (r + rowSize l)
   row-raised d r at b small h =
@@ -57,7 +57,7 @@ module _ (l : Layout) (ok : LayoutOk l) where
       let d′ : List ℕ = over d (r + offsetPlace) new in
       let k : Kept d d′ (r + offsetPlace) ((r + offsetPlace) + length new) = kept-over d (r + offsetPlace) new fit in
       let q : RowParts l ok d′ r (at + rowSize l) b = record {
-        id = k .before r (idOf b) (omega (arith, id-length b)) (p .id);
+        id = k .before r (idOf (b .body)) (omega (arith, id-length (b .body))) (p .id);
         offset = over-has d (r + offsetPlace) new fit;
         size = kept-has d d′ _ _ (r + lengthPlace) _ k (omega arith) (p .size);
         mask = kept-has d d′ _ _ (r + maskPlace) _ k (omega arith) (p .mask);
@@ -69,7 +69,7 @@ module _ (l : Layout) (ok : LayoutOk l) where
       (parts-row l ok d′ r (at + rowSize l) b q, kept-wide d d′ (r + offsetPlace) ((r + offsetPlace) + length new) r (r + rowSize l) k (omega arith) (omega arith))
 
   -- The offsets of all rows raised: the rows of the bodies that lie so much higher, and no other byte is changed.
-  pub rows-raised : (d : List ℕ) (i at : ℕ) (bs : List (List ℕ)) → at + length (joined bs) < 4294967296 → Has d (rowPlace l i) (rowsOf l at bs)
+  pub rows-raised : (d : List ℕ) (i at : ℕ) (bs : List Row) → at + length (joined bs) < 4294967296 → Has d (rowPlace l i) (rowsOf l at bs)
       → Has (raised l d (length bs) i) (rowPlace l i) (rowsOf l (at + rowSize l) bs)
       × Kept d (raised l d (length bs) i) (rowPlace l i) (rowPlace l (i + length bs))
   unfolding raised rowsOf joined
@@ -80,16 +80,16 @@ module _ (l : Layout) (ok : LayoutOk l) where
       let step : r + rowSize l ≡ next = sym (place-next l i) in
       let last : (i + 1) + length bs ≡ i + suc (length bs) = omega arith in
       let more : next ≤ rowPlace l (i + suc (length bs)) = omega (arith, place-order l i (i + suc (length bs)) (omega arith)) in
-      let rest : List ℕ = rowsOf l (at + length b) bs in
-      let short : at + (length b + length (joined bs)) < 4294967296 = omega (arith, length-append b (joined bs)) in
+      let rest : List ℕ = rowsOf l (at + length (b .body)) bs in
+      let short : at + (length (b .body) + length (joined bs)) < 4294967296 = omega (arith, length-append (b .body) (joined bs)) in
       let d′ : List ℕ = putAt d (r + offsetPlace) (bigEndian bodyWidth (numberIn d (r + offsetPlace) bodyWidth + rowSize l)) in
       let x = row-raised d r at b (omega arith) (has-left d r (row l at b) rest h) in
       let g : Has d′ next rest = kept-has d d′ r (r + rowSize l) next rest (x .1) (omega arith) (has-after d r (rowSize l) next (row l at b) rest (row-length l ok at b) step h) in
-      let y = rows-raised d′ (i + 1) (at + length b) bs (omega arith) g in
+      let y = rows-raised d′ (i + 1) (at + length (b .body)) bs (omega arith) g in
       let d″ : List ℕ = raised l d′ (length bs) (i + 1) in
-      let s : (at + length b) + rowSize l ≡ (at + rowSize l) + length b = omega arith in
+      let s : (at + length (b .body)) + rowSize l ≡ (at + rowSize l) + length (b .body) = omega arith in
       let first : Has d″ r (row l (at + rowSize l) b) = y .1 .before r (row l (at + rowSize l) b) (omega (arith, row-length l ok (at + rowSize l) b)) (x .0) in (
-        has-both d″ r (rowSize l) next (row l (at + rowSize l) b) (rowsOf l ((at + rowSize l) + length b) bs)
+        has-both d″ r (rowSize l) next (row l (at + rowSize l) b) (rowsOf l ((at + rowSize l) + length (b .body)) bs)
             (row-length l ok (at + rowSize l) b) step first (subst (λ (n : ℕ). Has d″ next (rowsOf l n bs)) s (y .0)),
         kept-join d d′ d″ r (r + rowSize l) next (rowPlace l ((i + 1) + length bs)) r (rowPlace l (i + suc (length bs))) (x .1) (y .1)
             (omega arith) (omega arith) (omega arith) (omega (arith, ap (rowPlace l) last)),
@@ -98,31 +98,31 @@ module _ (l : Layout) (ok : LayoutOk l) where
   -- ---- a row in pieces
 
   -- The row of a body, written in its five pieces, is the row written.
-  pub with-row : (d : List ℕ) (r at : ℕ) (b : List ℕ) (f : Fields) → reading b ≡ Read f → r + rowSize l ≤ length d
-      → withRow l d r at b (f .id) (f .mask) ≡ over d r (row l at b)
+  pub with-row : (d : List ℕ) (r at : ℕ) (b : Row) (f : Fields) → reading (b .body) ≡ Read f → r + rowSize l ≤ length d
+      → withRow l d r at (b .body) (f .id) (f .mask) ≡ over d r (row l at b)
   unfolding withRow row
   with-row d r at b f e room =
       let wide : zeroPlace ≤ rowSize l = ok .wide in
-      let i : List ℕ = idOf b in
+      let i : List ℕ = idOf (b .body) in
       let o : List ℕ = bigEndian bodyWidth at in
-      let n : List ℕ = bigEndian bodyWidth (length b) in
-      let m : List ℕ = bigEndian maskWidth (modesOf b) in
+      let n : List ℕ = bigEndian bodyWidth (length (b .body)) in
+      let m : List ℕ = bigEndian maskWidth (modesOf (b .body)) in
       let z : List ℕ = bigEndian (zeroSize l) 0 in
-      let li : length i ≡ idSize = id-length b in
+      let li : length i ≡ idSize = id-length (b .body) in
       let lo : length o ≡ bodyWidth = length-bigEndian bodyWidth at in
-      let ln : length n ≡ bodyWidth = length-bigEndian bodyWidth (length b) in
-      let lm : length m ≡ maskWidth = length-bigEndian maskWidth (modesOf b) in
+      let ln : length n ≡ bodyWidth = length-bigEndian bodyWidth (length (b .body)) in
+      let lm : length m ≡ maskWidth = length-bigEndian maskWidth (modesOf (b .body)) in
       let lz : length z ≡ zeroSize l = length-bigEndian (zeroSize l) 0 in
       let l₂ : length (i ++ o) ≡ lengthPlace = omega (arith, length-append i o) in
       let l₃ : length ((i ++ o) ++ n) ≡ maskPlace = omega (arith, length-append (i ++ o) n) in
       let l₄ : length (((i ++ o) ++ n) ++ m) ≡ zeroPlace = omega (arith, length-append ((i ++ o) ++ n) m) in
-      let e₁ : putAt d r (part b (f .id) idSize) ≡ over d r i = ap (putAt d r) (sym (id-read b f e)) ∙ put-fits d r i (omega arith) in
+      let e₁ : putAt d r (part (b .body) (f .id) idSize) ≡ over d r i = ap (putAt d r) (sym (id-read (b .body) f e)) ∙ put-fits d r i (omega arith) in
       let e₂ : putAt (over d r i) (r + offsetPlace) o ≡ over d r (i ++ o) = put-next d r i o (r + offsetPlace) (omega arith) (omega arith) in
       let e₃ : putAt (over d r (i ++ o)) (r + lengthPlace) n ≡ over d r ((i ++ o) ++ n) = put-next d r (i ++ o) n (r + lengthPlace) (omega arith) (omega arith) in
       let e₄ : putAt (over d r ((i ++ o) ++ n)) (r + maskPlace) m ≡ over d r (((i ++ o) ++ n) ++ m) = put-next d r ((i ++ o) ++ n) m (r + maskPlace) (omega arith) (omega arith) in
       let e₅ : putAt (over d r (((i ++ o) ++ n) ++ m)) (r + zeroPlace) z ≡ over d r ((((i ++ o) ++ n) ++ m) ++ z)
       = put-next d r (((i ++ o) ++ n) ++ m) z (r + zeroPlace) (omega arith) (omega arith) in
-      rw (e₁, e₂, e₃, ← modes-read b f e, e₄, e₅) (ap (over d r) (five i o n m z))
+      rw (e₁, e₂, e₃, ← modes-read (b .body) f e, e₄, e₅) (ap (over d r) (five i o n m z))
 
   -- ---- the row count
 

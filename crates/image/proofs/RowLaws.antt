@@ -19,7 +19,7 @@ use Rattle.image.specs.declared.layout.Layout.{Layout}
 use Rattle.image.specs.Layout.{modeEdition, headerSize, headerWidth, editionPlace, modesPlace, countPlace, headerZero, idSize}
 use Rattle.image.specs.Layout.{bodyWidth, maskWidth, offsetPlace, lengthPlace, maskPlace, zeroPlace, rowSize, zeroSize}
 use Rattle.image.specs.Layout.{rowPlace, LayoutOk}
-use Rattle.image.specs.Image.{reading, idIn, maskIn, idOf, modesOf, header, row, rowsOf, joined, imageOf}
+use Rattle.image.specs.Image.{Row, reading, idIn, maskIn, idOf, modesOf, header, row, rowsOf, joined, imageOf}
 use Rattle.image.specs.Check.{rowId, rowOffset, rowLength}
 use Rattle.image.proofs.RowPlaceLaws.{place-first, place-next}
 use Rattle.image.proofs.BodyLaws.{read-in}
@@ -57,10 +57,10 @@ modes-small b = go (reading b) refl
     go Validity e = omega arith
 
 -- The bodies and one more are joined by the body's bytes.
-pub joined-snoc : (bs : List (List ℕ)) (b : List ℕ) → joined (bs ++ (b ∷ [])) ≡ joined bs ++ b
+pub joined-snoc : (bs : List Row) (b : Row) → joined (bs ++ (b ∷ [])) ≡ joined bs ++ b .body
 unfolding joined
-joined-snoc [] b = append-nil b
-joined-snoc (x ∷ bs) b = ap (λ (m : List ℕ). x ++ m) (joined-snoc bs b) ∙ sym (append-assoc x (joined bs) b)
+joined-snoc [] b = append-nil (b .body)
+joined-snoc (x ∷ bs) b = ap (λ (m : List ℕ). x .body ++ m) (joined-snoc bs b) ∙ sym (append-assoc (x .body) (joined bs) (b .body))
 
 -- Zero fits any bytes.
 zero-fits : (w : ℕ) → 0 < 256 ^ w
@@ -76,28 +76,28 @@ module _ (l : Layout) (ok : LayoutOk l) where
   header-length n = simp (length-append, length-bigEndian)
 
   -- A row has its bytes.
-  pub row-length : (at : ℕ) (b : List ℕ) → length (row l at b) ≡ rowSize l
+  pub row-length : (at : ℕ) (b : Row) → length (row l at b) ≡ rowSize l
   unfolding row
   row-length at b =
       let wide : zeroPlace ≤ rowSize l = ok .wide in
       simp (length-append, id-length, length-bigEndian) (omega arith)
 
   -- The rows end where the bodies begin.
-  pub rows-end : (at : ℕ) (bs : List (List ℕ)) → rowPlace l 0 + length (rowsOf l at bs) ≡ rowPlace l (length bs)
+  pub rows-end : (at : ℕ) (bs : List Row) → rowPlace l 0 + length (rowsOf l at bs) ≡ rowPlace l (length bs)
   unfolding rowsOf
   rows-end at [] = omega arith
   rows-end at (b ∷ bs) =
       omega (
         arith,
-        length-append (row l at b) (rowsOf l (at + length b) bs),
+        length-append (row l at b) (rowsOf l (at + length (b .body)) bs),
         row-length at b,
-        rows-end (at + length b) bs,
+        rows-end (at + length (b .body)) bs,
         place-next l (length bs),
         ap (rowPlace l) (add-one (length bs)),
       )
 
   -- An image ends where its last body ends.
-  pub image-length : (bs : List (List ℕ)) → length (imageOf l bs) ≡ rowPlace l (length bs) + length (joined bs)
+  pub image-length : (bs : List Row) → length (imageOf l bs) ≡ rowPlace l (length bs) + length (joined bs)
   unfolding imageOf
   image-length bs =
       let n : ℕ = length bs in
@@ -147,38 +147,38 @@ module _ (l : Layout) (ok : LayoutOk l) where
   -- ---- one body more
 
   -- The rows of the bodies and one more are their rows and its row.
-  pub rows-snoc : (at : ℕ) (bs : List (List ℕ)) (b : List ℕ) → rowsOf l at (bs ++ (b ∷ [])) ≡ rowsOf l at bs ++ row l (at + length (joined bs)) b
+  pub rows-snoc : (at : ℕ) (bs : List Row) (b : Row) → rowsOf l at (bs ++ (b ∷ [])) ≡ rowsOf l at bs ++ row l (at + length (joined bs)) b
   unfolding rowsOf joined
   rows-snoc at [] b = append-nil (row l at b) ∙ ap (λ (n : ℕ). row l n b) (sym (add-zero at))
   rows-snoc at (x ∷ bs) b =
-      let e : (at + length x) + length (joined bs) ≡ at + length (x ++ joined bs) = omega (arith, length-append x (joined bs)) in
-      ap (λ (m : List ℕ). row l at x ++ m) (rows-snoc (at + length x) bs b ∙ ap (λ (n : ℕ). rowsOf l (at + length x) bs ++ row l n b) e)
-      ∙ sym (append-assoc (row l at x) (rowsOf l (at + length x) bs) (row l (at + length (x ++ joined bs)) b))
+      let e : (at + length (x .body)) + length (joined bs) ≡ at + length (x .body ++ joined bs) = omega (arith, length-append (x .body) (joined bs)) in
+      ap (λ (m : List ℕ). row l at x ++ m) (rows-snoc (at + length (x .body)) bs b ∙ ap (λ (n : ℕ). rowsOf l (at + length (x .body)) bs ++ row l n b) e)
+      ∙ sym (append-assoc (row l at x) (rowsOf l (at + length (x .body)) bs) (row l (at + length (x .body ++ joined bs)) b))
 
   -- ---- the fields of a row
 
   -- The five fields of a row stand at r one after the other.
-  pub record RowParts (s : List ℕ) (r at : ℕ) (b : List ℕ) : Type 0 where
-    pub id : Has s r (idOf b)
+  pub record RowParts (s : List ℕ) (r at : ℕ) (b : Row) : Type 0 where
+    pub id : Has s r (idOf (b .body))
     pub offset : Has s (r + offsetPlace) (bigEndian bodyWidth at)
-    pub size : Has s (r + lengthPlace) (bigEndian bodyWidth (length b))
-    pub mask : Has s (r + maskPlace) (bigEndian maskWidth (modesOf b))
+    pub size : Has s (r + lengthPlace) (bigEndian bodyWidth (length (b .body)))
+    pub mask : Has s (r + maskPlace) (bigEndian maskWidth (modesOf (b .body)))
     pub zeros : Has s (r + zeroPlace) (bigEndian (zeroSize l) 0)
 
   -- The five fields of a row stand one after the other.
-  pub row-parts : (s : List ℕ) (r at : ℕ) (b : List ℕ) → Has s r (row l at b) → RowParts s r at b
+  pub row-parts : (s : List ℕ) (r at : ℕ) (b : Row) → Has s r (row l at b) → RowParts s r at b
   unfolding row
   row-parts s r at b h =
       let z : List ℕ = bigEndian (zeroSize l) 0 in
-      let m : List ℕ = bigEndian maskWidth (modesOf b) in
-      let n : List ℕ = bigEndian bodyWidth (length b) in
+      let m : List ℕ = bigEndian maskWidth (modesOf (b .body)) in
+      let n : List ℕ = bigEndian bodyWidth (length (b .body)) in
       let o : List ℕ = bigEndian bodyWidth at in
-      let h₁ : Has s (r + offsetPlace) (o ++ (n ++ (m ++ z))) = has-after s r idSize (r + offsetPlace) (idOf b) _ (id-length b) refl h in
+      let h₁ : Has s (r + offsetPlace) (o ++ (n ++ (m ++ z))) = has-after s r idSize (r + offsetPlace) (idOf (b .body)) _ (id-length (b .body)) refl h in
       let h₂ : Has s (r + lengthPlace) (n ++ (m ++ z)) = has-after s (r + offsetPlace) bodyWidth (r + lengthPlace) o _ (length-bigEndian bodyWidth at) (omega arith) h₁ in
-      let h₃ : Has s (r + maskPlace) (m ++ z) = has-after s (r + lengthPlace) bodyWidth (r + maskPlace) n _ (length-bigEndian bodyWidth (length b)) (omega arith) h₂ in
-      let h₄ : Has s (r + zeroPlace) z = has-after s (r + maskPlace) maskWidth (r + zeroPlace) m z (length-bigEndian maskWidth (modesOf b)) (omega arith) h₃ in
+      let h₃ : Has s (r + maskPlace) (m ++ z) = has-after s (r + lengthPlace) bodyWidth (r + maskPlace) n _ (length-bigEndian bodyWidth (length (b .body))) (omega arith) h₂ in
+      let h₄ : Has s (r + zeroPlace) z = has-after s (r + maskPlace) maskWidth (r + zeroPlace) m z (length-bigEndian maskWidth (modesOf (b .body))) (omega arith) h₃ in
       record {
-        id = has-left s r (idOf b) _ h;
+        id = has-left s r (idOf (b .body)) _ h;
         offset = has-left s (r + offsetPlace) o _ h₁;
         size = has-left s (r + lengthPlace) n _ h₂;
         mask = has-left s (r + maskPlace) m z h₃;
@@ -186,25 +186,25 @@ module _ (l : Layout) (ok : LayoutOk l) where
       }
 
   -- Where they stand one after the other the row stands.
-  pub parts-row : (s : List ℕ) (r at : ℕ) (b : List ℕ) → RowParts s r at b → Has s r (row l at b)
+  pub parts-row : (s : List ℕ) (r at : ℕ) (b : Row) → RowParts s r at b → Has s r (row l at b)
   unfolding row
   parts-row s r at b p =
-      has-both s r idSize (r + offsetPlace) (idOf b) _ (id-length b) refl (p .id)
+      has-both s r idSize (r + offsetPlace) (idOf (b .body)) _ (id-length (b .body)) refl (p .id)
       (has-both s (r + offsetPlace) bodyWidth (r + lengthPlace) (bigEndian bodyWidth at) _ (length-bigEndian bodyWidth at) (omega arith) (p .offset)
-      (has-both s (r + lengthPlace) bodyWidth (r + maskPlace) (bigEndian bodyWidth (length b)) _ (length-bigEndian bodyWidth (length b)) (omega arith) (p .size)
-      (has-both s (r + maskPlace) maskWidth (r + zeroPlace) (bigEndian maskWidth (modesOf b)) _ (length-bigEndian maskWidth (modesOf b)) (omega arith) (p .mask) (p .zeros))))
+      (has-both s (r + lengthPlace) bodyWidth (r + maskPlace) (bigEndian bodyWidth (length (b .body))) _ (length-bigEndian bodyWidth (length (b .body))) (omega arith) (p .size)
+      (has-both s (r + maskPlace) maskWidth (r + zeroPlace) (bigEndian maskWidth (modesOf (b .body))) _ (length-bigEndian maskWidth (modesOf (b .body))) (omega arith) (p .mask) (p .zeros))))
 
   -- What the numbers of the row at r say.
-  pub record RowSays (s : List ℕ) (r at : ℕ) (b : List ℕ) : Type 0 where
+  pub record RowSays (s : List ℕ) (r at : ℕ) (b : Row) : Type 0 where
     pub inside : r + rowSize l ≤ length s
-    pub id : rowId s r ≡ idOf b
+    pub id : rowId s r ≡ idOf (b .body)
     pub offset : rowOffset s r ≡ at
-    pub size : rowLength s r ≡ length b
-    pub mask : numberAt s (r + maskPlace) maskWidth ≡ modesOf b
+    pub size : rowLength s r ≡ length (b .body)
+    pub mask : numberAt s (r + maskPlace) maskWidth ≡ modesOf (b .body)
     pub zeros : numberAt s (r + zeroPlace) (zeroSize l) ≡ 0
 
   -- The row of a body that lies below 2 ^ 32 and is shorter than that says where it lies and how long it is.
-  pub row-says : (s : List ℕ) (r at : ℕ) (b : List ℕ) → at < 4294967296 → length b < 4294967296 → Has s r (row l at b) → RowSays s r at b
+  pub row-says : (s : List ℕ) (r at : ℕ) (b : Row) → at < 4294967296 → length (b .body) < 4294967296 → Has s r (row l at b) → RowSays s r at b
   row-says s r at b small short h =
       let p : RowParts s r at b = row-parts s r at b h in
       let m : length (row l at b) ≡ rowSize l = row-length at b in
@@ -212,15 +212,15 @@ module _ (l : Layout) (ok : LayoutOk l) where
       let i : r + rowSize l ≤ length s = omega (arith, has-fits s r (row l at b) (omega arith) h) in
       record {
         inside = i;
-        id = ap (part s r) (sym (id-length b)) ∙ has-part s r (idOf b) (p .id);
+        id = ap (part s r) (sym (id-length (b .body))) ∙ has-part s r (idOf (b .body)) (p .id);
         offset = number-of-has s (r + offsetPlace) bodyWidth at small (omega arith) (p .offset);
-        size = number-of-has s (r + lengthPlace) bodyWidth (length b) short (omega arith) (p .size);
-        mask = number-of-has s (r + maskPlace) maskWidth (modesOf b) (omega (arith, modes-small b)) (omega arith) (p .mask);
+        size = number-of-has s (r + lengthPlace) bodyWidth (length (b .body)) short (omega arith) (p .size);
+        mask = number-of-has s (r + maskPlace) maskWidth (modesOf (b .body)) (omega (arith, modes-small (b .body))) (omega arith) (p .mask);
         zeros = number-of-has s (r + zeroPlace) (zeroSize l) 0 (zero-fits (zeroSize l)) (omega arith) (p .zeros);
       }
 
   -- Bytes of which the numbers say so are the row of the body.
-  pub says-row : (s : List ℕ) (r at : ℕ) (b : List ℕ) → AreBytes s → RowSays s r at b → Has s r (row l at b)
+  pub says-row : (s : List ℕ) (r at : ℕ) (b : Row) → AreBytes s → RowSays s r at b → Has s r (row l at b)
   says-row s r at b bytes q =
       let wide : zeroPlace ≤ rowSize l = ok .wide in
       let i : r + rowSize l ≤ length s = q .inside in

@@ -13,8 +13,8 @@ use Rattle.descriptor.specs.declared.Fields.{Fields}
 use Rattle.image.specs.declared.Held.{Held}
 use Rattle.image.specs.declared.layout.Layout.{Layout}
 use Rattle.image.specs.Layout.{rowSize, rowPlace, LayoutOk}
-use Rattle.image.specs.Image.{reading, idOf, row, rowsOf, joined, BodyOk, seenWith}
-use Rattle.image.specs.Check.{rowId, rowOffset, rowLength, rowAt, noted, rowsFrom, bodiesFrom}
+use Rattle.image.specs.Image.{Row, rowOf, reading, idOf, row, rowsOf, joined, BodyOk, seenWith}
+use Rattle.image.specs.Check.{rowId, rowOffset, rowLength, rowAt, noted, rowsFrom, rowsHeldFrom}
 use Rattle.image.proofs.BodyLaws.{read-in}
 use Rattle.image.proofs.RowPlaceLaws.{place-next, place-order}
 use Rattle.image.proofs.RowLaws.{id-length, row-length, row-parts, RowSays}
@@ -35,66 +35,66 @@ place-same h h′ n n′ e = cc
 
 module _ (l : Layout) (ok : LayoutOk l) where
   -- The rows of the bodies stand from row i on, and the bodies from `at` on; they are allowed after those of `seen`.
-  pub record Run (s : List ℕ) (seen : List (List ℕ)) (i at : ℕ) (bs : List (List ℕ)) : Type 0 where
+  pub record Run (s : List ℕ) (seen : List Row) (i at : ℕ) (bs : List Row) : Type 0 where
     pub each : AllFrom BodyOk seenWith seen bs
     pub has-rows : Has s (rowPlace l i) (rowsOf l at bs)
     pub has-bodies : Has s at (joined bs)
 
   -- No body stands everywhere.
-  pub run-none : (s : List ℕ) (seen : List (List ℕ)) (i at : ℕ) → Run s seen i at []
+  pub run-none : (s : List ℕ) (seen : List Row) (i at : ℕ) → Run s seen i at []
   unfolding rowsOf joined
   run-none s seen i at = record { each = tt; has-rows = has-nil s (rowPlace l i); has-bodies = has-nil s at }
 
   -- The first body stands with its row.
-  pub run-first : (s : List ℕ) (seen : List (List ℕ)) (i at : ℕ) (b : List ℕ) (bs : List (List ℕ)) → Run s seen i at (b ∷ bs)
+  pub run-first : (s : List ℕ) (seen : List Row) (i at : ℕ) (b : Row) (bs : List Row) → Run s seen i at (b ∷ bs)
       → (f : Fields) × (Stands l ok) s seen i at b f
   unfolding rowsOf joined
   run-first s seen i at b bs g =
-      let r = read-is b (g .each .0 .reads) in (
+      let r = read-is (b .body) (g .each .0 .reads) in (
         r .0,
         record {
           reads = r .1;
           new = g .each .0 .new;
-          has-row = has-left s (rowPlace l i) (row l at b) (rowsOf l (at + length b) bs) (g .has-rows);
-          has-body = has-left s at b (joined bs) (g .has-bodies);
+          has-row = has-left s (rowPlace l i) (row l at b) (rowsOf l (at + length (b .body)) bs) (g .has-rows);
+          has-body = has-left s at (b .body) (joined bs) (g .has-bodies);
         },
       )
 
   -- The others stand after it.
-  pub run-rest : (s : List ℕ) (seen : List (List ℕ)) (i at : ℕ) (b : List ℕ) (bs : List (List ℕ)) → Run s seen i at (b ∷ bs)
-      → Run s (seen ++ (b ∷ [])) (i + 1) (at + length b) bs
+  pub run-rest : (s : List ℕ) (seen : List Row) (i at : ℕ) (b : Row) (bs : List Row) → Run s seen i at (b ∷ bs)
+      → Run s (seen ++ (b ∷ [])) (i + 1) (at + length (b .body)) bs
   unfolding rowsOf joined
   run-rest s seen i at b bs g = record {
     each = g .each .1;
-    has-rows = has-after s (rowPlace l i) (rowSize l) (rowPlace l (i + 1)) (row l at b) (rowsOf l (at + length b) bs) (row-length l ok at b) (sym (place-next l i))
+    has-rows = has-after s (rowPlace l i) (rowSize l) (rowPlace l (i + 1)) (row l at b) (rowsOf l (at + length (b .body)) bs) (row-length l ok at b) (sym (place-next l i))
         (g .has-rows);
-    has-bodies = has-right s at b (joined bs) (g .has-bodies);
+    has-bodies = has-right s at (b .body) (joined bs) (g .has-bodies);
   }
 
   -- A body that stands with its row, and others after it.
-  pub run-more : (s : List ℕ) (seen : List (List ℕ)) (i at : ℕ) (b : List ℕ) (f : Fields) (bs : List (List ℕ)) → Stands l ok s seen i at b f
-      → Run s (seen ++ (b ∷ [])) (i + 1) (at + length b) bs → Run s seen i at (b ∷ bs)
+  pub run-more : (s : List ℕ) (seen : List Row) (i at : ℕ) (b : Row) (f : Fields) (bs : List Row) → Stands l ok s seen i at b f
+      → Run s (seen ++ (b ∷ [])) (i + 1) (at + length (b .body)) bs → Run s seen i at (b ∷ bs)
   unfolding rowsOf joined
   run-more s seen i at b f bs h g = record {
-    each = (record { reads = is-read b f (h .reads); new = h .new }, g .each);
-    has-rows = has-both s (rowPlace l i) (rowSize l) (rowPlace l (i + 1)) (row l at b) (rowsOf l (at + length b) bs) (row-length l ok at b) (sym (place-next l i))
+    each = (record { reads = is-read (b .body) f (h .reads); new = h .new }, g .each);
+    has-rows = has-both s (rowPlace l i) (rowSize l) (rowPlace l (i + 1)) (row l at b) (rowsOf l (at + length (b .body)) bs) (row-length l ok at b) (sym (place-next l i))
         (h .has-row) (g .has-rows);
-    has-bodies = has-join s at b (joined bs) (h .has-body) (g .has-bodies);
+    has-bodies = has-join s at (b .body) (joined bs) (h .has-body) (g .has-bodies);
   }
 
   -- ---- from the check to the bodies
 
   -- The row of a body that stands has its id.
-  row-names : (s : List ℕ) (seen : List (List ℕ)) (i at : ℕ) (b : List ℕ) (f : Fields) → Stands l ok s seen i at b f
-      → rowId s (rowPlace l i) ≡ idOf b
+  row-names : (s : List ℕ) (seen : List Row) (i at : ℕ) (b : Row) (f : Fields) → Stands l ok s seen i at b f
+      → rowId s (rowPlace l i) ≡ idOf (b .body)
   row-names s seen i at b f h =
-      ap (part s (rowPlace l i)) (sym (id-length b)) ∙ has-part s (rowPlace l i) (idOf b) (row-parts l ok s (rowPlace l i) at b (h .has-row) .id)
+      ap (part s (rowPlace l i)) (sym (id-length (b .body))) ∙ has-part s (rowPlace l i) (idOf (b .body)) (row-parts l ok s (rowPlace l i) at b (h .has-row) .id)
 
   -- k rows that pass the check are those of k bodies that stand.
-  pub rows-sound : (s id : List ℕ) → AreBytes s → (k : ℕ) (seen : List (List ℕ)) (i at end : ℕ) (h h′ : Held) → Past l ok s seen i
+  pub rows-sound : (s id : List ℕ) → AreBytes s → (k : ℕ) (seen : List Row) (i at end : ℕ) (h h′ : Held) → Past l ok s seen i
       → (n : ℕ) → i + k ≡ n → rowPlace l n ≤ length s
       → got h′ end ≡ rowsFrom l s id k i at h
-      → (bs : List (List ℕ)) × (length bs ≡ k) × Run s seen i at bs × (end ≡ at + length (joined bs))
+      → (bs : List Row) × (length bs ≡ k) × Run s seen i at bs × (end ≡ at + length (joined bs))
   unfolding rowsFrom joined
   rows-sound s id bytes zero seen i at end h h′ p n all room e = ([], refl, run-none s seen i at, place-same h′ h end at e ∙ sym (add-zero at))
   rows-sound s id bytes (suc k) seen i at end h h′ p n all room e =
@@ -102,18 +102,18 @@ module _ (l : Layout) (ok : LayoutOk l) where
       let f : Fields = o .0 in
       let next : ℕ = o .1 in
       let x = row-sound l ok s seen i at f next bytes (omega (arith, place-order l i n (omega arith))) p (o .2) in
-      let b : List ℕ = x .0 in
+      let b : Row = x .0 in
       let w : Stands l ok s seen i at b f = x .1 in
-      let mine : rowId s (rowPlace l i) ≡ idOf b = row-names s seen i at b f w in
+      let mine : rowId s (rowPlace l i) ≡ idOf (b .body) = row-names s seen i at b f w in
       let y = rows-sound s id bytes k (seen ++ (b ∷ [])) (i + 1) next end _ h′ (past-more l ok s seen i b p mine) n (omega arith) room (o .3) in
-      let bs : List (List ℕ) = y .0 in
-      let g : Run s (seen ++ (b ∷ [])) (i + 1) (at + length b) bs = subst (λ (a : ℕ). Run s (seen ++ (b ∷ [])) (i + 1) a bs) (x .2) (y .2) in
-      (b ∷ bs, omega (arith, y .1), run-more s seen i at b f bs w g, omega (arith, x .2, y .3, length-append b (joined bs)))
+      let bs : List Row = y .0 in
+      let g : Run s (seen ++ (b ∷ [])) (i + 1) (at + length (b .body)) bs = subst (λ (a : ℕ). Run s (seen ++ (b ∷ [])) (i + 1) a bs) (x .2) (y .2) in
+      (b ∷ bs, omega (arith, y .1), run-more s seen i at b f bs w g, omega (arith, x .2, y .3, length-append (b .body) (joined bs)))
 
   -- ---- from the bodies to the check
 
   -- The rows of bodies that stand pass the check; what is held is what is held of the bodies.
-  pub rows-complete : (s id : List ℕ) (bs seen : List (List ℕ)) (i at : ℕ) (h : Held) → at + 32768 * length bs < 4294967296
+  pub rows-complete : (s id : List ℕ) (bs seen : List Row) (i at : ℕ) (h : Held) → at + 32768 * length bs < 4294967296
       → Past l ok s seen i → Run s seen i at bs
       → rowsFrom l s id (length bs) i at h ≡ got (heldFrom id at h bs) (at + length (joined bs))
   unfolding rowsFrom heldFrom joined
@@ -123,26 +123,26 @@ module _ (l : Layout) (ok : LayoutOk l) where
       let f : Fields = x .0 in
       let w : Stands l ok s seen i at b f = x .1 in
       let q : RowSays l ok s (rowPlace l i) at b = stands-says l ok s seen i at b f (omega arith) w in
-      let short : length b ≤ 32768 = read-in b f (w .reads) .short in
-      let next : ℕ = at + length b in
-      let held : noted (same (rowId s (rowPlace l i)) id) h at (rowLength s (rowPlace l i)) f ≡ heldAfter (same (idOf b) id) h at (length b) (reading b)
+      let short : length (b .body) ≤ 32768 = read-in (b .body) f (w .reads) .short in
+      let next : ℕ = at + length (b .body) in
+      let held : noted (same (rowId s (rowPlace l i)) id) h at (rowLength s (rowPlace l i)) f ≡ heldAfter (same (idOf (b .body)) id) h at (length (b .body)) (reading (b .body))
       = ap₂ (λ (y : List ℕ) (n : ℕ). noted (same y id) h at n f) (q .id) (q .size)
-      ∙ ap (heldAfter (same (idOf b) id) h at (length b)) (sym (w .reads)) in
-      let end : next + length (joined bs) ≡ at + length (b ++ joined bs) = omega (arith, length-append b (joined bs)) in
+      ∙ ap (heldAfter (same (idOf (b .body)) id) h at (length (b .body))) (sym (w .reads)) in
+      let end : next + length (joined bs) ≡ at + length (b .body ++ joined bs) = omega (arith, length-append (b .body) (joined bs)) in
       bind-got (rowAt l s i at) _ f next (row-complete l ok s seen i at b f (omega arith) p w)
       ∙ ap (rowsFrom l s id (length bs) (i + 1) next) held
       ∙ rows-complete s id bs (seen ++ (b ∷ [])) (i + 1) next _ (omega arith) (past-more l ok s seen i b p (q .id)) (run-rest s seen i at b bs g)
       ∙ ap (got (heldFrom id at h (b ∷ bs))) end
 
   -- The parts that the rows of bodies that stand name are the bodies.
-  pub rows-bodies : (s : List ℕ) (bs seen : List (List ℕ)) (i at : ℕ) → at + 32768 * length bs < 4294967296 → Run s seen i at bs
-      → bodiesFrom l s (length bs) i ≡ bs
-  unfolding bodiesFrom
+  pub rows-bodies : (s : List ℕ) (bs seen : List Row) (i at : ℕ) → at + 32768 * length bs < 4294967296 → Run s seen i at bs
+      → rowsHeldFrom l s (length bs) i ≡ bs
+  unfolding rowsHeldFrom
   rows-bodies s [] seen i at small g = refl
   rows-bodies s (b ∷ bs) seen i at small g =
       let x = run-first s seen i at b bs g in
       let w : Stands l ok s seen i at b (x .0) = x .1 in
       let q : RowSays l ok s (rowPlace l i) at b = stands-says l ok s seen i at b (x .0) (omega arith) w in
-      let short : length b ≤ 32768 = read-in b (x .0) (w .reads) .short in
-      let e : part s (rowOffset s (rowPlace l i)) (rowLength s (rowPlace l i)) ≡ b = ap₂ (part s) (q .offset) (q .size) ∙ has-part s at b (w .has-body) in
-      ap₂ (λ (y : List ℕ) (ys : List (List ℕ)). y ∷ ys) e (rows-bodies s bs (seen ++ (b ∷ [])) (i + 1) (at + length b) (omega arith) (run-rest s seen i at b bs g))
+      let short : length (b .body) ≤ 32768 = read-in (b .body) (x .0) (w .reads) .short in
+      let e : part s (rowOffset s (rowPlace l i)) (rowLength s (rowPlace l i)) ≡ b .body = ap₂ (part s) (q .offset) (q .size) ∙ has-part s at (b .body) (w .has-body) in
+      ap₂ (λ (y : List ℕ) (ys : List Row). rowOf y ∷ ys) e (rows-bodies s bs (seen ++ (b ∷ [])) (i + 1) (at + length (b .body)) (omega arith) (run-rest s seen i at b bs g))

@@ -19,8 +19,8 @@ use Rattle.image.specs.declared.Held.the-variants.{Missing}
 use Rattle.image.specs.declared.layout.Layout.{Layout}
 use Rattle.image.specs.Layout.{modeEdition, headerSize, headerWidth, editionPlace, modesPlace, countPlace, headerZero, mostRows}
 use Rattle.image.specs.Layout.{rowPlace, LayoutOk}
-use Rattle.image.specs.Image.{header, rowsOf, joined, imageOf, BodiesOk, Holds}
-use Rattle.image.specs.Check.{rowCount, headerFits, rowsFrom, checked, bodiesFrom, bodiesOf}
+use Rattle.image.specs.Image.{Row, header, rowsOf, joined, imageOf, RowsOk, Holds}
+use Rattle.image.specs.Check.{rowCount, headerFits, rowsFrom, checked, rowsHeldFrom, rowsHeld}
 use Rattle.image.proofs.StepLaws.{guard-got}
 use Rattle.image.proofs.RowLaws.{header-length, rows-end, image-length, header-parts, parts-header}
 use Rattle.image.proofs.RowPlaceLaws.{place-first, place-after, place-small}
@@ -99,21 +99,21 @@ module _ (l : Layout) (ok : LayoutOk l) where
   -- ---- the whole image
 
   -- An image that s begins with stands at its beginning.
-  pub holds-has : (s : List ℕ) (bs : List (List ℕ)) → Holds l s bs → Has s 0 (imageOf l bs)
+  pub holds-has : (s : List ℕ) (bs : List Row) → Holds l s bs → Has s 0 (imageOf l bs)
   holds-has s bs h = front-has s (imageOf l bs) (h .rest) (h .whole)
 
   -- The image of allowed bodies that stands at the beginning is what s begins with.
-  pub has-holds : (s : List ℕ) (bs : List (List ℕ)) → BodiesOk l bs → Has s 0 (imageOf l bs) → Holds l s bs
-  has-holds s bs o h = record { bodies = o; rest = drop (length (imageOf l bs)) s; whole = has-front s (imageOf l bs) h }
+  pub has-holds : (s : List ℕ) (bs : List Row) → RowsOk l bs → Has s 0 (imageOf l bs) → Holds l s bs
+  has-holds s bs o h = record { rows = o; rest = drop (length (imageOf l bs)) s; whole = has-front s (imageOf l bs) h }
 
   -- The header, the rows and the bodies of an image stand one after the other.
-  pub record ImageParts (s : List ℕ) (bs : List (List ℕ)) : Type 0 where
+  pub record ImageParts (s : List ℕ) (bs : List Row) : Type 0 where
     pub has-header : Has s 0 (header l (length bs))
     pub has-rows : Has s (rowPlace l 0) (rowsOf l (rowPlace l (length bs)) bs)
     pub has-bodies : Has s (rowPlace l (length bs)) (joined bs)
 
   -- They do so in a buffer that holds the bodies.
-  pub image-stands : (s : List ℕ) (bs : List (List ℕ)) → Holds l s bs → ImageParts s bs
+  pub image-stands : (s : List ℕ) (bs : List Row) → Holds l s bs → ImageParts s bs
   unfolding imageOf
   image-stands s bs h =
       let n : ℕ = length bs in
@@ -128,7 +128,7 @@ module _ (l : Layout) (ok : LayoutOk l) where
       }
 
   -- Where the header, the rows and the bodies of an image stand one after the other, it stands.
-  pub run-whole : (s : List ℕ) (bs : List (List ℕ)) → ImageParts s bs → Has s 0 (imageOf l bs)
+  pub run-whole : (s : List ℕ) (bs : List Row) → ImageParts s bs → Has s 0 (imageOf l bs)
   unfolding imageOf
   run-whole s bs w =
       let n : ℕ = length bs in
@@ -137,30 +137,30 @@ module _ (l : Layout) (ok : LayoutOk l) where
       (has-both s (rowPlace l 0) (length rows) (rowPlace l n) rows (joined bs) refl (rows-end l ok (rowPlace l n) bs) (w .has-rows) (w .has-bodies))
 
   -- The rows and the bodies of an image that s begins with stand.
-  pub holds-run : (s : List ℕ) (bs : List (List ℕ)) → Holds l s bs → Run l ok s [] 0 (rowPlace l (length bs)) bs
-  holds-run s bs h = let w = image-stands s bs h in record { each = h .bodies .each; has-rows = w .has-rows; has-bodies = w .has-bodies }
+  pub holds-run : (s : List ℕ) (bs : List Row) → Holds l s bs → Run l ok s [] 0 (rowPlace l (length bs)) bs
+  holds-run s bs h = let w = image-stands s bs h in record { each = h .rows .each; has-rows = w .has-rows; has-bodies = w .has-bodies }
 
   -- An image that s begins with lies within s.
-  pub holds-room : (s : List ℕ) (bs : List (List ℕ)) → Holds l s bs → length (imageOf l bs) ≤ length s
+  pub holds-room : (s : List ℕ) (bs : List Row) → Holds l s bs → length (imageOf l bs) ≤ length s
   holds-room s bs h = omega (arith, has-fits s 0 (imageOf l bs) (omega (arith, image-length l ok bs, place-after l (length bs))) (holds-has s bs h))
 
   -- Its header says how many bodies it has.
-  pub holds-says : (s : List ℕ) (bs : List (List ℕ)) → Holds l s bs → HeaderSays s (length bs)
-  holds-says s bs h = header-says s (length bs) (omega (arith, h .bodies .few, ok .few)) (image-stands s bs h .has-header)
+  pub holds-says : (s : List ℕ) (bs : List Row) → Holds l s bs → HeaderSays s (length bs)
+  holds-says s bs h = header-says s (length bs) (omega (arith, h .rows .few, ok .few)) (image-stands s bs h .has-header)
 
   -- The row count is the number of bodies.
-  pub count-of : (s : List ℕ) (bs : List (List ℕ)) → Holds l s bs → rowCount s ≡ length bs
+  pub count-of : (s : List ℕ) (bs : List Row) → Holds l s bs → rowCount s ≡ length bs
   unfolding rowCount
   count-of s bs h = holds-says s bs h .count
 
   -- ---- the check
 
   -- An image that s begins with passes the check; what is held is what is held of its bodies.
-  pub check-complete : (s id : List ℕ) (bs : List (List ℕ)) → Holds l s bs → checked l s id ≡ got (heldIn l id bs) (length (imageOf l bs))
+  pub check-complete : (s id : List ℕ) (bs : List Row) → Holds l s bs → checked l s id ≡ got (heldIn l id bs) (length (imageOf l bs))
   unfolding checked guard heldIn
   check-complete s id bs h =
       let n : ℕ = length bs in
-      let few : n ≤ mostRows l = h .bodies .few in
+      let few : n ≤ mostRows l = h .rows .few in
       let q : HeaderSays s n = holds-says s bs h in
       let room : rowPlace l n ≤ length s = omega (arith, holds-room s bs h, image-length l ok bs) in
       rw (count-of s bs h, le-leb headerSize (length s) (q .inside), says-fits s n few q, le-leb (rowPlace l n) (length s) room)
@@ -189,13 +189,13 @@ module _ (l : Layout) (ok : LayoutOk l) where
 
   -- Bytes that pass the check begin with the image of allowed bodies, and it ends where the check says.
   pub check-sound : (s id : List ℕ) → AreBytes s → (h : Held) (end : ℕ) → got h end ≡ checked l s id
-      → (bs : List (List ℕ)) × (Holds l) s bs × (end ≡ length (imageOf l bs))
+      → (bs : List Row) × (Holds l) s bs × (end ≡ length (imageOf l bs))
   check-sound s id bytes h end e =
       let n : ℕ = rowCount s in
       let k : Checked s id h end = check-is s id h end e in
       let q = fits-says s (k .inside) (k .header) in
       let y = rows-sound l ok s id bytes n [] 0 (rowPlace l n) end Missing h (past-none l ok s) n (omega arith) (k .room) (k .rows) in
-      let bs : List (List ℕ) = y .0 in
+      let bs : List Row = y .0 in
       let c : length bs ≡ n = y .1 in
       let g : Run l ok s [] 0 (rowPlace l (length bs)) bs = subst (λ (m : ℕ). Run l ok s [] 0 (rowPlace l m) bs) (sym c) (y .2) in
       let w : ImageParts s bs = record {
@@ -211,8 +211,8 @@ module _ (l : Layout) (ok : LayoutOk l) where
   -- ---- the bodies that the rows name
 
   -- They are the bodies of the image that s begins with.
-  pub holds-bodies : (s : List ℕ) (bs : List (List ℕ)) → Holds l s bs → bodiesOf l s ≡ bs
-  unfolding bodiesOf
+  pub holds-bodies : (s : List ℕ) (bs : List Row) → Holds l s bs → rowsHeld l s ≡ bs
+  unfolding rowsHeld
   holds-bodies s bs h =
-      let few : length bs ≤ mostRows l = h .bodies .few in
-      ap (λ (n : ℕ). bodiesFrom l s n 0) (count-of s bs h) ∙ rows-bodies l ok s bs [] 0 (rowPlace l (length bs)) (place-small l ok (length bs) few) (holds-run s bs h)
+      let few : length bs ≤ mostRows l = h .rows .few in
+      ap (λ (n : ℕ). rowsHeldFrom l s n 0) (count-of s bs h) ∙ rows-bodies l ok s bs [] 0 (rowPlace l (length bs)) (place-small l ok (length bs) few) (holds-run s bs h)

@@ -13,10 +13,10 @@ use Rattle.image.specs.declared.Survey.{Survey}
 use Rattle.image.specs.declared.Survey.the-variants.{Sound, Unsound}
 use Rattle.image.specs.declared.layout.Layout.{Layout}
 use Rattle.image.specs.Layout.{rowPlace, LayoutOk}
-use Rattle.image.specs.Image.{imageOf, Holds}
-use Rattle.image.specs.Check.{rowCount, checked, surveyed, surveyOf, isSound, bodiesOf}
+use Rattle.image.specs.Image.{Row, imageOf, Holds}
+use Rattle.image.specs.Check.{rowCount, checked, surveyed, surveyOf, isSound, rowsHeld}
 use Rattle.image.specs.Laws.{HeldIs, SurveyTells, Surveyed, SurveySays, SurveyUnsound, HeldFits, SurveyFits, SurveyInside}
-use Rattle.image.specs.Laws.{BodiesNamed, EditionsSurveyed}
+use Rattle.image.specs.Laws.{RowsNamed, EditionsSurveyed}
 use Rattle.image.proofs.HeldLaws.{heldIn, held-is}
 use Rattle.image.proofs.RunLaws.{Run}
 use Rattle.image.proofs.SoundLaws.{HeaderSays, fits-says, holds-run, holds-room, count-of, check-complete, Checked, check-is}
@@ -26,7 +26,7 @@ module _ (l : Layout) (ok : LayoutOk l) where
   -- ---- the survey
 
   -- What is held of the bodies of an image that s begins with is the body with the id.
-  pub held-in : (s id : List ℕ) (bs : List (List ℕ)) → Holds l s bs → HeldIs s id bs (heldIn l id bs)
+  pub held-in : (s id : List ℕ) (bs : List Row) → Holds l s bs → HeldIs s id bs (heldIn l id bs)
   unfolding heldIn
   held-in s id bs h = let g : Run l ok s [] 0 (rowPlace l (length bs)) bs = holds-run l ok s bs h in held-is s id (rowPlace l (length bs)) [] bs
       (g .each) (g .has-bodies)
@@ -50,14 +50,14 @@ module _ (l : Layout) (ok : LayoutOk l) where
           let k = check-sound l ok s id bytes h′ end′ (sym c) in
           let a : rowCount s ≡ n = cc in
           let b : end′ ≡ end = cc in
-          let q : bodiesOf l s ≡ k .0 = holds-bodies l ok s (k .0) (k .1) in
-          let x : Holds l s (bodiesOf l s) = subst (Holds l s) (sym q) (k .1) in
-          let w = survey-tells s id (bodiesOf l s) x in
+          let q : rowsHeld l s ≡ k .0 = holds-bodies l ok s (k .0) (k .1) in
+          let x : Holds l s (rowsHeld l s) = subst (Holds l s) (sym q) (k .1) in
+          let w = survey-tells s id (rowsHeld l s) x in
           record {
             holds = x;
-            rows = sym a ∙ count-of l ok s (bodiesOf l s) x;
-            ends = sym b ∙ k .2 ∙ ap (λ (bs : List (List ℕ)). length (imageOf l bs)) (sym q);
-            held = subst (HeldIs s id (bodiesOf l s)) (held-same (length (bodiesOf l s)) n (length (imageOf l (bodiesOf l s))) end (w .0) h (sym (w .1) ∙ e)) (w .2);
+            rows = sym a ∙ count-of l ok s (rowsHeld l s) x;
+            ends = sym b ∙ k .2 ∙ ap (λ (bs : List Row). length (imageOf l bs)) (sym q);
+            held = subst (HeldIs s id (rowsHeld l s)) (held-same (length (rowsHeld l s)) n (length (imageOf l (rowsHeld l s))) end (w .0) h (sym (w .1) ∙ e)) (w .2);
           }
       go refused c f = absurd (let z : _≡_ {A = ℕ} 0 1 = cc in omega arith)
 
@@ -72,33 +72,33 @@ module _ (l : Layout) (ok : LayoutOk l) where
     λ n. go n (surveyOf l s id) refl,
   )
     where
-      go : ((bs : List (List ℕ)) → Holds l s bs → ⊥) → (v : Survey) → surveyOf l s id ≡ v → v ≡ Unsound
-      go n (Sound k end h) e = absurd (n (bodiesOf l s) (survey-says s id bytes k end h e .holds))
+      go : ((bs : List Row) → Holds l s bs → ⊥) → (v : Survey) → surveyOf l s id ≡ v → v ≡ Unsound
+      go n (Sound k end h) e = absurd (n (rowsHeld l s) (survey-says s id bytes k end h e .holds))
       go n Unsound e = refl
 
   -- `SurveyInside`.
   pub survey-inside : SurveyInside l
   survey-inside s id bytes = go (surveyOf l s id) refl
     where
-      fits : (h : Held) → HeldIs s id (bodiesOf l s) h → HeldFits s h
+      fits : (h : Held) → HeldIs s id (rowsHeld l s) h → HeldFits s h
       fits Missing k = tt
       fits (Body at len f) k = (k .inside, k .reads)
 
       go : (v : Survey) → surveyOf l s id ≡ v → SurveyFits s v
       go (Sound n end h) e =
           let w : Surveyed l s id n end h = survey-says s id bytes n end h e in
-          (omega (arith, w .ends, holds-room l ok s (bodiesOf l s) (w .holds)), fits h (w .held))
+          (omega (arith, w .ends, holds-room l ok s (rowsHeld l s) (w .holds)), fits h (w .held))
       go Unsound e = tt
 
   -- ---- which bodies are held
 
-  -- `BodiesNamed`.
-  pub bodies-named : BodiesNamed l
-  bodies-named s bs h = holds-bodies l ok s bs h
+  -- `RowsNamed`.
+  pub rows-named : RowsNamed l
+  rows-named s bs h = holds-bodies l ok s bs h
 
   -- A buffer holds one list of bodies.
-  pub bodies-once : (s : List ℕ) (bs cs : List (List ℕ)) → Holds l s bs → Holds l s cs → bs ≡ cs
-  bodies-once s bs cs h k = sym (bodies-named s bs h) ∙ bodies-named s cs k
+  pub bodies-once : (s : List ℕ) (bs cs : List Row) → Holds l s bs → Holds l s cs → bs ≡ cs
+  bodies-once s bs cs h k = sym (rows-named s bs h) ∙ rows-named s cs k
 
   -- `EditionsSurveyed`.
   pub editions-surveyed : EditionsSurveyed l

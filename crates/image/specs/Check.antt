@@ -24,7 +24,7 @@ use Rattle.image.specs.declared.rows.RowRead.the-variants.{IsRow, NoRow}
 use Rattle.image.specs.declared.layout.Layout.{Layout}
 use Rattle.image.specs.Layout.{modeEdition, headerSize, headerWidth, editionPlace, modesPlace, countPlace, headerZero, idSize}
 use Rattle.image.specs.Layout.{bodyWidth, maskWidth, offsetPlace, lengthPlace, maskPlace, zeroPlace, mostRows, zeroSize, rowPlace}
-use Rattle.image.specs.Image.{reading}
+use Rattle.image.specs.Image.{Row, rowOf, reading}
 
 -- ---- numbers of the header and of the row at r
 
@@ -156,13 +156,13 @@ bodySpan s BadId = spanOf 0 0
 bodySpan s BadImage = spanOf 0 0
 bodySpan s NotHeld = spanOf 0 0
 
--- ---- the bodies that the rows name
+-- ---- the rows that an image has
 
--- the bodies of k rows from row i on
-unfoldable pub bodiesFrom : Layout → List ℕ → ℕ → ℕ → List (List ℕ)
-bodiesFrom l s zero i = []
-bodiesFrom l s (suc k) i = part s (rowOffset s (rowPlace l i)) (rowLength s (rowPlace l i)) ∷ bodiesFrom l s k (i + 1)
+-- k rows from row i on
+unfoldable pub rowsHeldFrom : Layout → List ℕ → ℕ → ℕ → List Row
+rowsHeldFrom l s zero i = []
+rowsHeldFrom l s (suc k) i = rowOf (part s (rowOffset s (rowPlace l i)) (rowLength s (rowPlace l i))) ∷ rowsHeldFrom l s k (i + 1)
 
--- the bodies of an image
-unfoldable pub bodiesOf : Layout → List ℕ → List (List ℕ)
-bodiesOf l s = bodiesFrom l s (rowCount s) 0
+-- the rows of an image
+unfoldable pub rowsHeld : Layout → List ℕ → List Row
+rowsHeld l s = rowsHeldFrom l s (rowCount s) 0

@@ -6,29 +6,30 @@ use Rattle.image.specs.declared.Survey.{Survey}
 use Rattle.image.specs.declared.Finding.{Finding}
 use Rattle.image.specs.declared.Added.{Added}
 use Rattle.image.specs.Layout.{edition1}
+use Rattle.image.specs.Image.{Row}
 use Rattle.image.specs.Image as image
 use Rattle.image.specs.Check as check
 use Rattle.image.specs.Fresh as fresh
 use Rattle.image.specs.Grow as grow
 
--- ---- the image of a list of bodies
+-- ---- the image of a list of rows
 
 abbrev pub header : ℕ → List ℕ
 header = image.header edition1
 
-abbrev pub row : ℕ → List ℕ → List ℕ
+abbrev pub row : ℕ → Row → List ℕ
 row = image.row edition1
 
-abbrev pub rowsOf : ℕ → List (List ℕ) → List ℕ
+abbrev pub rowsOf : ℕ → List Row → List ℕ
 rowsOf = image.rowsOf edition1
 
-abbrev pub imageOf : List (List ℕ) → List ℕ
+abbrev pub imageOf : List Row → List ℕ
 imageOf = image.imageOf edition1
 
-abbrev pub BodiesOk : List (List ℕ) → Type 0
-BodiesOk = image.BodiesOk edition1
+abbrev pub RowsOk : List Row → Type 0
+RowsOk = image.RowsOk edition1
 
-abbrev pub Holds : List ℕ → List (List ℕ) → Type 0
+abbrev pub Holds : List ℕ → List Row → Type 0
 Holds = image.Holds edition1
 
 -- ---- what is answered and written
@@ -39,8 +40,8 @@ surveyOf = check.surveyOf edition1
 abbrev pub findOf : List ℕ → List ℕ → Finding
 findOf = check.findOf edition1
 
-abbrev pub bodiesOf : List ℕ → List (List ℕ)
-bodiesOf = check.bodiesOf edition1
+abbrev pub rowsHeld : List ℕ → List Row
+rowsHeld = check.rowsHeld edition1
 
 abbrev pub afterNew : List ℕ → List ℕ
 afterNew = fresh.afterNew edition1
@@ -51,8 +52,8 @@ addedOf = grow.addedOf edition1
 abbrev pub afterAdd : List ℕ → ℕ → ℕ → List ℕ → ℕ → ℕ → List ℕ
 afterAdd = grow.afterAdd edition1
 
-abbrev pub hasRoom : List ℕ → List (List ℕ) → List ℕ → Bool
+abbrev pub hasRoom : List ℕ → List Row → Row → Bool
 hasRoom = grow.hasRoom edition1
 
-abbrev pub withBody : List ℕ → List (List ℕ) → List ℕ → List ℕ
+abbrev pub withBody : List ℕ → List Row → Row → List ℕ
 withBody = grow.withBody edition1

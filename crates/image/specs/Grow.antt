@@ -1,5 +1,5 @@
--- One body more in an image: what the code answers and writes, and what that is over a list of bodies. A reader of the promises does
--- not need this page.
+-- One body more in an image: what the code answers and writes, and what that is over a list of rows. A reader of the promises does not
+-- need this page.
 use mathlib.Core.Bool.{Bool, cond, _&&_}
 use mathlib.Core.List.{List, [], _∷_, _++_}
 use Prim.Native.Nat.{ℕ, zero, suc, _+_}
@@ -13,7 +13,7 @@ use Rattle.image.specs.declared.Added.the-variants.{Done, Full}
 use Rattle.image.specs.declared.layout.Layout.{Layout}
 use Rattle.image.specs.Layout.{headerWidth, countPlace, idSize, bodyWidth, maskWidth, offsetPlace, lengthPlace, maskPlace, zeroPlace}
 use Rattle.image.specs.Layout.{rowSize, mostRows, zeroSize, rowPlace}
-use Rattle.image.specs.Image.{imageOf}
+use Rattle.image.specs.Image.{Row, imageOf}
 
 -- ---- what is written
 
@@ -60,12 +60,12 @@ addedOf l d n end b id = cond (fits l d n end b id) Done Full
 unfoldable pub afterAdd : Layout → List ℕ → ℕ → ℕ → List ℕ → ℕ → ℕ → List ℕ
 afterAdd l d n end b id mask = cond (fits l d n end b id) (grown l d n end b id mask) d
 
--- ---- over a buffer that holds bodies
+-- ---- over a buffer that holds rows
 
--- fewer bodies are held than there may be rows, and the larger image does not exceed the buffer
-unfoldable pub hasRoom : Layout → List ℕ → List (List ℕ) → List ℕ → Bool
-hasRoom l d bs b = ltb (length bs) (mostRows l) && leb (length (imageOf l (bs ++ (b ∷ [])))) (length d)
+-- fewer rows are held than there may be, and the larger image does not exceed the buffer
+unfoldable pub hasRoom : Layout → List ℕ → List Row → Row → Bool
+hasRoom l d rs r = ltb (length rs) (mostRows l) && leb (length (imageOf l (rs ++ (r ∷ [])))) (length d)
 
--- the image of the bodies and the new one, and beyond it what stood there
-unfoldable pub withBody : Layout → List ℕ → List (List ℕ) → List ℕ → List ℕ
-withBody l d bs b = let larger = imageOf l (bs ++ (b ∷ [])) in larger ++ drop (length larger) d
+-- the image of the rows and the new one, and beyond it what stood there
+unfoldable pub withBody : Layout → List ℕ → List Row → Row → List ℕ
+withBody l d rs r = let larger = imageOf l (rs ++ (r ∷ [])) in larger ++ drop (length larger) d

@@ -1,5 +1,5 @@
--- The image of a list of bodies, and which lists an image may hold. Document 01, "The stored image": a table of contents first, then
--- the bodies. Numbers are big-endian. What depends on the edition takes its layout. Nothing here reads an image.
+-- The image of a list of rows, and which lists an image may hold. Document 01, "The stored image": a table of contents first, then the
+-- bodies. Numbers are big-endian. What depends on the edition takes its layout. Nothing here reads an image.
 use mathlib.Core.Path.{_≡_}
 use mathlib.Core.Bool.{Bool, true, false, _||_}
 use mathlib.Core.List.{List, [], _∷_, _++_}
@@ -48,60 +48,69 @@ idOf b = idIn b (reading b)
 unfoldable pub modesOf : List ℕ → ℕ
 modesOf b = maskIn (reading b)
 
--- ---- the image of a list of bodies
+-- ---- the image of a list of rows
+
+-- a row of the table of contents: the body that it names
+pub record Row : Type 0 where
+  pub body : List ℕ
+
+-- the row of a body
+abbrev pub rowOf : List ℕ → Row
+rowOf b = record { body = b }
 
 -- image edition (2 bytes), mode edition (2), row count (2), zero (2)
 unfoldable pub header : Layout → ℕ → List ℕ
 header l n = bigEndian headerWidth (l .edition)
     ++ (bigEndian headerWidth modeEdition ++ (bigEndian headerWidth n ++ bigEndian headerWidth 0))
 
--- the row of a body that lies at the place: descriptor id (16), body offset (4), body length (4), mask (1), and zero to
+-- the bytes of a row whose body lies at the place: descriptor id (16), body offset (4), body length (4), mask (1), and zero to
 -- the row's end
-unfoldable pub row : Layout → ℕ → List ℕ → List ℕ
-row l at b = idOf b
-    ++ (bigEndian bodyWidth at ++ (bigEndian bodyWidth (length b) ++ (bigEndian maskWidth (modesOf b) ++ bigEndian (zeroSize l) 0)))
+unfoldable pub row : Layout → ℕ → Row → List ℕ
+row l at r = idOf (r .body)
+    ++ (bigEndian bodyWidth at
+    ++ (bigEndian bodyWidth (length (r .body)) ++ (bigEndian maskWidth (modesOf (r .body)) ++ bigEndian (zeroSize l) 0)))
 
--- the rows of bodies that lie back to back from the place on
-unfoldable pub rowsOf : Layout → ℕ → List (List ℕ) → List ℕ
+-- the bytes of rows whose bodies lie back to back from the place on
+unfoldable pub rowsOf : Layout → ℕ → List Row → List ℕ
 rowsOf l at [] = []
-rowsOf l at (b ∷ bs) = row l at b ++ rowsOf l (at + length b) bs
+rowsOf l at (r ∷ rs) = row l at r ++ rowsOf l (at + length (r .body)) rs
 
--- bodies back to back
-unfoldable pub joined : List (List ℕ) → List ℕ
+-- the bodies of rows, back to back
+unfoldable pub joined : List Row → List ℕ
 joined [] = []
-joined (b ∷ bs) = b ++ joined bs
+joined (r ∷ rs) = r .body ++ joined rs
 
--- the image of a list of bodies
-unfoldable pub imageOf : Layout → List (List ℕ) → List ℕ
-imageOf l bs = header l (length bs) ++ (rowsOf l (rowPlace l (length bs)) bs ++ joined bs)
+-- the image of a list of rows
+unfoldable pub imageOf : Layout → List Row → List ℕ
+imageOf l rs = header l (length rs) ++ (rowsOf l (rowPlace l (length rs)) rs ++ joined rs)
 
 -- ---- the lists that an image may hold
 
--- one of the bodies has the id
-unfoldable pub hasId : List ℕ → List (List ℕ) → Bool
+-- one of the rows has the id
+unfoldable pub hasId : List ℕ → List Row → Bool
 hasId id [] = false
-hasId id (b ∷ bs) = same (idOf b) id || hasId id bs
+hasId id (r ∷ rs) = same (idOf (r .body)) id || hasId id rs
 
--- a body after those of `seen`: it reads with 0, and none of those has its id
-pub record BodyOk (seen : List (List ℕ)) (b : List ℕ) : Type 0 where
-  pub reads : isRead (reading b) ≡ true
-  pub new : hasId (idOf b) seen ≡ false
+-- a row after those of `seen`: its body reads with 0, and none of those has its id
+pub record BodyOk (seen : List Row) (r : Row) : Type 0 where
+  pub reads : isRead (reading (r .body)) ≡ true
+  pub new : hasId (idOf (r .body)) seen ≡ false
 
-abbrev pub seenWith : List (List ℕ) → List ℕ → List (List ℕ)
-seenWith seen b = seen ++ (b ∷ [])
+abbrev pub seenWith : List Row → Row → List Row
+seenWith seen r = seen ++ (r ∷ [])
 
--- no more bodies than there may be rows, which read with 0 and whose ids differ
-pub record BodiesOk (l : Layout) (bs : List (List ℕ)) : Type 0 where
-  pub few : length bs ≤ mostRows l
-  pub each : AllFrom BodyOk seenWith [] bs
+-- no more rows than there may be, whose bodies read with 0 and whose ids differ
+pub record RowsOk (l : Layout) (rs : List Row) : Type 0 where
+  pub few : length rs ≤ mostRows l
+  pub each : AllFrom BodyOk seenWith [] rs
 
--- the image of the bodies, followed by anything
-pub record Holds (l : Layout) (s : List ℕ) (bs : List (List ℕ)) : Type 0 where
-  pub bodies : BodiesOk l bs
+-- the image of the rows, followed by anything
+pub record Holds (l : Layout) (s : List ℕ) (rs : List Row) : Type 0 where
+  pub rows : RowsOk l rs
   pub rest : List ℕ
-  pub whole : s ≡ imageOf l bs ++ rest
+  pub whole : s ≡ imageOf l rs ++ rest
 
 -- the body that has the id
-unfoldable pub bodyWith : List ℕ → List (List ℕ) → Option (List ℕ)
+unfoldable pub bodyWith : List ℕ → List Row → Option (List ℕ)
 bodyWith id [] = none
-bodyWith id (b ∷ bs) = elim (same (idOf b) id) [ true ↦ some b | false ↦ bodyWith id bs ]
+bodyWith id (r ∷ rs) = elim (same (idOf (r .body)) id) [ true ↦ some (r .body) | false ↦ bodyWith id rs ]

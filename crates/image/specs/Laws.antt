@@ -21,8 +21,8 @@ use Rattle.image.specs.declared.Survey.the-variants.{Sound, Unsound}
 use Rattle.image.specs.declared.Added.the-variants.{Done, Full}
 use Rattle.image.specs.declared.layout.Layout.{Layout}
 use Rattle.image.specs.Layout.{modeEdition, headerWidth, editionPlace, modesPlace, idSize}
-use Rattle.image.specs.Image.{reading, isRead, idOf, modesOf, imageOf, BodiesOk, Holds, bodyWith}
-use Rattle.image.specs.Check.{surveyOf, bodiesOf}
+use Rattle.image.specs.Image.{Row, rowOf, reading, isRead, idOf, modesOf, imageOf, RowsOk, Holds, bodyWith}
+use Rattle.image.specs.Check.{surveyOf, rowsHeld}
 use Rattle.image.specs.Grow.{addedOf, afterAdd, hasRoom, withBody}
 
 -- ---- a body that reads
@@ -56,47 +56,47 @@ EncodingRead = (d : Descriptor) → AreBytes (encode d) → Allowed d
 
 -- ---- the body with an id
 
--- the body that has an id is one that stands in the list and has it
+-- the body that has an id is that of a row in the list, and has it
 abbrev pub BodyWithExactly : Layout → Type 0
-BodyWithExactly l = (id : List ℕ) (bs : List (List ℕ)) (b : List ℕ) → BodiesOk l bs
-    → (bodyWith id bs ≡ some b) ↔ ((idOf b ≡ id) × ((i : ℕ) × (i < length bs) × (getD bs i [] ≡ b)))
+BodyWithExactly l = (id : List ℕ) (rs : List Row) (b : List ℕ) → RowsOk l rs
+    → (bodyWith id rs ≡ some b) ↔ ((idOf b ≡ id) × ((i : ℕ) × (i < length rs) × (getD rs i (rowOf []) .body ≡ b)))
 
--- the bodies that a buffer holds are those that its rows name
-abbrev pub BodiesNamed : Layout → Type 0
-BodiesNamed l = (s : List ℕ) (bs : List (List ℕ)) → Holds l s bs → bodiesOf l s ≡ bs
+-- the rows that a buffer holds are those that stand in it
+abbrev pub RowsNamed : Layout → Type 0
+RowsNamed l = (s : List ℕ) (rs : List Row) → Holds l s rs → rowsHeld l s ≡ rs
 
 -- ---- what a survey says
 
 -- the body of `len` bytes at `at` in s, of which f was read, is the one with the id
-pub record HeldBody (s id : List ℕ) (bs : List (List ℕ)) (at len : ℕ) (f : Fields) : Type 0 where
-  pub which : bodyWith id bs ≡ some (part s at len)
+pub record HeldBody (s id : List ℕ) (rs : List Row) (at len : ℕ) (f : Fields) : Type 0 where
+  pub which : bodyWith id rs ≡ some (part s at len)
   pub inside : at + len ≤ length s
   pub reads : reading (part s at len) ≡ Read f
 
 -- what is held is the body with the id, or none has it
-abbrev pub HeldIs : List ℕ → List ℕ → List (List ℕ) → Held → Type 0
-HeldIs s id bs Missing = bodyWith id bs ≡ none
-HeldIs s id bs (Body at len f) = HeldBody s id bs at len f
+abbrev pub HeldIs : List ℕ → List ℕ → List Row → Held → Type 0
+HeldIs s id rs Missing = bodyWith id rs ≡ none
+HeldIs s id rs (Body at len f) = HeldBody s id rs at len f
 
--- the survey of an image says how many bodies it has, where it ends, and which body has the id
+-- the survey of an image says how many rows it has, where it ends, and which body has the id
 abbrev pub SurveyTells : Layout → Type 0
-SurveyTells l = (s id : List ℕ) (bs : List (List ℕ)) → Holds l s bs
-    → (h : Held) × (surveyOf l s id ≡ Sound (length bs) (length (imageOf l bs)) h) × HeldIs s id bs h
+SurveyTells l = (s id : List ℕ) (rs : List Row) → Holds l s rs
+    → (h : Held) × (surveyOf l s id ≡ Sound (length rs) (length (imageOf l rs)) h) × HeldIs s id rs h
 
 -- what is so of an image that a survey calls sound
 pub record Surveyed (l : Layout) (s id : List ℕ) (n end : ℕ) (h : Held) : Type 0 where
-  pub holds : Holds l s (bodiesOf l s)
-  pub rows : n ≡ length (bodiesOf l s)
-  pub ends : end ≡ length (imageOf l (bodiesOf l s))
-  pub held : HeldIs s id (bodiesOf l s) h
+  pub holds : Holds l s (rowsHeld l s)
+  pub rows : n ≡ length (rowsHeld l s)
+  pub ends : end ≡ length (imageOf l (rowsHeld l s))
+  pub held : HeldIs s id (rowsHeld l s) h
 
--- bytes that a survey calls sound hold the bodies that their rows name, and what it says of them is so
+-- bytes that a survey calls sound hold the rows that stand in them, and what it says of them is so
 abbrev pub SurveySays : Layout → Type 0
 SurveySays l = (s id : List ℕ) → AreBytes s → (n end : ℕ) (h : Held) → surveyOf l s id ≡ Sound n end h → Surveyed l s id n end h
 
--- bytes that a survey calls unsound hold no list of bodies
+-- bytes that a survey calls unsound hold no list of rows
 abbrev pub SurveyUnsound : Layout → Type 0
-SurveyUnsound l = (s id : List ℕ) → AreBytes s → (surveyOf l s id ≡ Unsound) ↔ ((bs : List (List ℕ)) → Holds l s bs → ⊥)
+SurveyUnsound l = (s id : List ℕ) → AreBytes s → (surveyOf l s id ≡ Unsound) ↔ ((rs : List Row) → Holds l s rs → ⊥)
 
 -- a survey calls an image of other editions unsound
 abbrev pub EditionsSurveyed : Layout → Type 0
@@ -118,18 +118,18 @@ SurveyInside l = (s id : List ℕ) → AreBytes s → SurveyFits s (surveyOf l s
 
 -- ---- one body more
 
--- A body that reads is added to a buffer that holds bodies exactly where there is room for it; the buffer is then the image of the bodies
--- and the new one, and beyond it what stood there. Else no byte is changed.
+-- A body that reads is added to a buffer that holds rows exactly where there is room for it; the buffer is then the image of the rows and
+-- the new one, and beyond it what stood there. Else no byte is changed.
 abbrev pub BodyAdded : Layout → Type 0
-BodyAdded l = (d : List ℕ) (bs : List (List ℕ)) (b : List ℕ) (f : Fields) → Holds l d bs → reading b ≡ Read f
-    → (addedOf l d (length bs) (length (imageOf l bs)) b (f .id) ≡ cond (hasRoom l d bs b) Done Full)
-    × (afterAdd l d (length bs) (length (imageOf l bs)) b (f .id) (f .mask) ≡ cond (hasRoom l d bs b) (withBody l d bs b) d)
+BodyAdded l = (d : List ℕ) (rs : List Row) (r : Row) (f : Fields) → Holds l d rs → reading (r .body) ≡ Read f
+    → (addedOf l d (length rs) (length (imageOf l rs)) (r .body) (f .id) ≡ cond (hasRoom l d rs r) Done Full)
+    × (afterAdd l d (length rs) (length (imageOf l rs)) (r .body) (f .id) (f .mask) ≡ cond (hasRoom l d rs r) (withBody l d rs r) d)
 
--- where there is room, and none of the bodies has its id, the larger buffer holds the bodies and the new one; its id then has it, and
+-- where there is room, and none of the rows has its id, the larger buffer holds the rows and the new one; its id then has its body, and
 -- any other id what it had
 pub record OneMore (l : Layout) : Type 0 where
-  pub holds : (d : List ℕ) (bs : List (List ℕ)) (b : List ℕ) → Holds l d bs → hasRoom l d bs b ≡ true → isRead (reading b) ≡ true
-      → bodyWith (idOf b) bs ≡ none
-      → Holds l (withBody l d bs b) (bs ++ (b ∷ []))
-  pub mine : (bs : List (List ℕ)) (b : List ℕ) → bodyWith (idOf b) bs ≡ none → bodyWith (idOf b) (bs ++ (b ∷ [])) ≡ some b
-  pub others : (id : List ℕ) (bs : List (List ℕ)) (b : List ℕ) → (idOf b ≡ id → ⊥) → bodyWith id (bs ++ (b ∷ [])) ≡ bodyWith id bs
+  pub holds : (d : List ℕ) (rs : List Row) (r : Row) → Holds l d rs → hasRoom l d rs r ≡ true → isRead (reading (r .body)) ≡ true
+      → bodyWith (idOf (r .body)) rs ≡ none
+      → Holds l (withBody l d rs r) (rs ++ (r ∷ []))
+  pub mine : (rs : List Row) (r : Row) → bodyWith (idOf (r .body)) rs ≡ none → bodyWith (idOf (r .body)) (rs ++ (r ∷ [])) ≡ some (r .body)
+  pub others : (id : List ℕ) (rs : List Row) (r : Row) → (idOf (r .body) ≡ id → ⊥) → bodyWith id (rs ++ (r ∷ [])) ≡ bodyWith id rs

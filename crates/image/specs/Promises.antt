@@ -16,7 +16,7 @@ use Rattle.descriptor.specs.Reader.{readOf}
 use Rattle.descriptor.specs.Answer.{readingOf}
 use Rattle.descriptor.specs.Numbers as descriptor
 use Rattle.image.specs.declared.StoredNumbers.{StoredNumbers}
-use Rattle.image.specs.Image.{idOf, modesOf, joined, bodyWith}
+use Rattle.image.specs.Image.{Row, idOf, modesOf, joined, bodyWith}
 use Rattle.image.specs.Check.{bodySpan, numbersOf}
 use Rattle.image.specs.Fresh.{madeOf, numberOf}
 use Rattle.image.specs.Edition1.{header, row, rowsOf, imageOf, Holds, findOf, afterNew}
@@ -33,12 +33,13 @@ abbrev pub LayoutFixed : Type 0
 LayoutFixed =
     ((n : ℕ) → header n ≡ 0 ∷ 1 ∷ 0 ∷ 1 ∷ (n / 256 % 256) ∷ (n % 256) ∷ 0 ∷ 0 ∷ [])
     × ((b : List ℕ) → length (idOf b) ≡ 16)
-    × ((at : ℕ) (b : List ℕ) → row at b ≡ idOf b ++ (four at ++ (four (length b) ++ (modesOf b ∷ 0 ∷ 0 ∷ 0 ∷ 0 ∷ 0 ∷ 0 ∷ 0 ∷ []))))
+    × ((at : ℕ) (r : Row) → let b = r .body in
+    row at r ≡ idOf b ++ (four at ++ (four (length b) ++ (modesOf b ∷ 0 ∷ 0 ∷ 0 ∷ 0 ∷ 0 ∷ 0 ∷ 0 ∷ []))))
     × ((at : ℕ) → rowsOf at [] ≡ [])
-    × ((at : ℕ) (b : List ℕ) (bs : List (List ℕ)) → rowsOf at (b ∷ bs) ≡ row at b ++ rowsOf (at + length b) bs)
+    × ((at : ℕ) (r : Row) (rs : List Row) → rowsOf at (r ∷ rs) ≡ row at r ++ rowsOf (at + length (r .body)) rs)
     × (joined [] ≡ [])
-    × ((b : List ℕ) (bs : List (List ℕ)) → joined (b ∷ bs) ≡ b ++ joined bs)
-    × ((bs : List (List ℕ)) → imageOf bs ≡ header (length bs) ++ (rowsOf (8 + 32 * length bs) bs ++ joined bs))
+    × ((r : Row) (rs : List Row) → joined (r ∷ rs) ≡ r .body ++ joined rs)
+    × ((rs : List Row) → imageOf rs ≡ header (length rs) ++ (rowsOf (8 + 32 * length rs) rs ++ joined rs))
 
 -- document 01's number of reading a body
 abbrev pub answerOf : List ℕ → ℕ
@@ -54,35 +55,35 @@ RowOfBody = (b : List ℕ) → AreBytes b → answerOf b ≡ 0
 abbrev pub MaskSmall : Type 0
 MaskSmall = (b : List ℕ) → modesOf b < 16
 
--- ---- which bodies a buffer holds
+-- ---- which rows a buffer holds
 
--- each body of the list is so
-abbrev pub Every : (List ℕ → Type 0) → List (List ℕ) → Type 0
+-- each row of the list is so
+abbrev pub Every : (Row → Type 0) → List Row → Type 0
 Every P [] = Unit {0}
-Every P (b ∷ bs) = P b × Every P bs
+Every P (r ∷ rs) = P r × Every P rs
 
--- the ids of the bodies differ
-abbrev pub IdsDiffer : List (List ℕ) → Type 0
+-- the ids of the rows differ
+abbrev pub IdsDiffer : List Row → Type 0
 IdsDiffer [] = Unit {0}
-IdsDiffer (b ∷ bs) = Every (λ c. idOf c ≡ idOf b → ⊥) bs × IdsDiffer bs
+IdsDiffer (r ∷ rs) = Every (λ q. idOf (q .body) ≡ idOf (r .body) → ⊥) rs × IdsDiffer rs
 
--- a buffer holds the bodies exactly when they are at most 64, each reads with 0, their ids differ, and the buffer is their image,
+-- a buffer holds the rows exactly when they are at most 64, each body reads with 0, their ids differ, and the buffer is their image,
 -- followed by anything
 abbrev pub HoldsExactly : Type 0
-HoldsExactly = (s : List ℕ) (bs : List (List ℕ))
-    → Holds s bs
-    ↔ ((length bs ≤ 64) × Every (λ b. answerOf b ≡ 0) bs × IdsDiffer bs × ((rest : List ℕ) × (s ≡ imageOf bs ++ rest)))
+HoldsExactly = (s : List ℕ) (rs : List Row)
+    → Holds s rs
+    ↔ ((length rs ≤ 64) × Every (λ r. answerOf (r .body) ≡ 0) rs × IdsDiffer rs × ((rest : List ℕ) × (s ≡ imageOf rs ++ rest)))
 
--- it holds one list of bodies
+-- it holds one list of rows
 abbrev pub BodiesOnce : Type 0
-BodiesOnce = (s : List ℕ) (bs cs : List (List ℕ)) → Holds s bs → Holds s cs → bs ≡ cs
+BodiesOnce = (s : List ℕ) (rs qs : List Row) → Holds s rs → Holds s qs → rs ≡ qs
 
--- the body with an id is the one whose id it is
+-- the body with an id is that of the row whose id it is
 abbrev pub BodyOfId : Type 0
 BodyOfId = (id : List ℕ)
     → (bodyWith id [] ≡ none)
-    × ((b : List ℕ) (bs : List (List ℕ)) → idOf b ≡ id → bodyWith id (b ∷ bs) ≡ some b)
-    × ((b : List ℕ) (bs : List (List ℕ)) → (idOf b ≡ id → ⊥) → bodyWith id (b ∷ bs) ≡ bodyWith id bs)
+    × ((r : Row) (rs : List Row) → idOf (r .body) ≡ id → bodyWith id (r ∷ rs) ≡ some (r .body))
+    × ((r : Row) (rs : List Row) → (idOf (r .body) ≡ id → ⊥) → bodyWith id (r ∷ rs) ≡ bodyWith id rs)
 
 -- ---- a lookup
 
@@ -97,20 +98,20 @@ pub record FoundAt (s b : List ℕ) (n : StoredNumbers) : Type 0 where
   pub len : n .«body_len» ≡ length b
   pub inside : n .«body_at» + n .«body_len» ≤ length s
 
--- 15: the id is not 16 bytes. 16: the buffer holds no list of bodies. 7: no body has the id. Else 0, with the body that has it.
+-- 15: the id is not 16 bytes. 16: the buffer holds no list of rows. 7: no row has the id. Else 0, with the body of the row that has it.
 pub record LookupExactly : Type 0 where
   pub bad-id : (s id : List ℕ) → (length id ≡ 16 → ⊥) → numbersOf (findOf s id) ≡ refusal 15
-  pub bad-image : (s id : List ℕ) → AreBytes s → length id ≡ 16 → ((bs : List (List ℕ)) → Holds s bs → ⊥)
+  pub bad-image : (s id : List ℕ) → AreBytes s → length id ≡ 16 → ((rs : List Row) → Holds s rs → ⊥)
       → numbersOf (findOf s id) ≡ refusal 16
-  pub not-held : (s id : List ℕ) (bs : List (List ℕ)) → length id ≡ 16 → Holds s bs → bodyWith id bs ≡ none
+  pub not-held : (s id : List ℕ) (rs : List Row) → length id ≡ 16 → Holds s rs → bodyWith id rs ≡ none
       → numbersOf (findOf s id) ≡ refusal 7
-  pub held : (s id : List ℕ) (bs : List (List ℕ)) (b : List ℕ) → length id ≡ 16 → Holds s bs → bodyWith id bs ≡ some b
+  pub held : (s id : List ℕ) (rs : List Row) (b : List ℕ) → length id ≡ 16 → Holds s rs → bodyWith id rs ≡ some b
       → FoundAt s b (numbersOf (findOf s id))
 
--- an image is sound, which is that a lookup of an id of 16 bytes is not answered 16, exactly when the buffer holds a list of bodies
+-- an image is sound, which is that a lookup of an id of 16 bytes is not answered 16, exactly when the buffer holds a list of rows
 abbrev pub SoundExactly : Type 0
 SoundExactly = (s id : List ℕ) → AreBytes s → length id ≡ 16 → (numbersOf (findOf s id) .answer ≡ 16 → ⊥)
-    ↔ ((bs : List (List ℕ)) × Holds s bs)
+    ↔ ((rs : List Row) × Holds s rs)
 
 -- an image whose image edition or mode edition is another than 1 is answered 16, whatever else it holds
 abbrev pub EditionsKnown : Type 0
@@ -124,7 +125,7 @@ BodyHanded = (s id : List ℕ) → AreBytes s
 
 -- ---- a new image
 
--- A new image writes 00 01 00 01 00 00 00 00 and no other byte, which is the image of no bodies; a buffer under 8 bytes gives 17, and
+-- A new image writes 00 01 00 01 00 00 00 00 and no other byte, which is the image of no rows; a buffer under 8 bytes gives 17, and
 -- is left as it was.
 abbrev pub NewImage : Type 0
 NewImage =

@@ -14,7 +14,7 @@ use Rattle.image.specs.declared.Held.{Held}
 use Rattle.image.specs.declared.Held.the-variants.{Missing, Body}
 use Rattle.image.specs.declared.Survey.{Survey}
 use Rattle.image.specs.declared.Survey.the-variants.{Sound}
-use Rattle.image.specs.Image.{reading, bodyWith}
+use Rattle.image.specs.Image.{Row, reading, bodyWith}
 use Rattle.image.specs.Check.{isSound, isHeld}
 use Rattle.image.specs.Edition1.{imageOf, Holds, surveyOf}
 use Rattle.image.specs.Laws.{HeldIs}
@@ -58,7 +58,7 @@ abbrev pub heldBy : Request → List ℕ → Fields → Decision
 heldBy q b f = decidedBy q true true (factsOf b f) (matchedOn b f (q .resource) (q .mode))
 
 -- A request for the body b, which a sound image holds and of which f is read, is decided on b and f.
-pub decided-on-body : (s : List ℕ) (q : Request) (bs : List (List ℕ)) (b : List ℕ) (f : Fields) → Holds s bs
+pub decided-on-body : (s : List ℕ) (q : Request) (bs : List Row) (b : List ℕ) (f : Fields) → Holds s bs
     → bodyWith (q .id) bs ≡ some b → reading b ≡ Read f
     → decisionOf s q ≡ heldBy q b f
 decided-on-body s q bs b f h e r =
@@ -78,7 +78,7 @@ abbrev pub missingBy : Request → Decision
 missingBy q = decidedBy q true false (record { before = 0; after = 0; fay = []; terminal = [] }) Nothing
 
 -- A request for an id that a sound image does not hold is decided without a body.
-pub decided-on-none : (s : List ℕ) (q : Request) (bs : List (List ℕ)) → Holds s bs → bodyWith (q .id) bs ≡ none → decisionOf s q ≡ missingBy q
+pub decided-on-none : (s : List ℕ) (q : Request) (bs : List Row) → Holds s bs → bodyWith (q .id) bs ≡ none → decisionOf s q ≡ missingBy q
 decided-on-none s q bs h e =
     let w = survey-tells s (q .id) bs h in
     decided-in s q (Sound (length bs) (length (imageOf bs)) (w .0)) (w .1) ∙ go (w .0) (w .2)

@@ -14,7 +14,7 @@ use Rattle.descriptor.specs.Allowed.{Formed, Allowed}
 use Rattle.descriptor.specs.View.{descriptorView}
 use Rattle.descriptor.specs.Answer.{fieldsOf, readingOf}
 use Rattle.descriptor_laws.proofs.Laws.{reads-exactly, seen-handed}
-use Rattle.image.specs.Image.{reading, bodyWith}
+use Rattle.image.specs.Image.{Row, reading, bodyWith}
 use Rattle.image.specs.Edition1.{Holds}
 use Rattle.request.specs.declared.search.Matched.{Matched}
 use Rattle.request.specs.Request.{Request, wellFormed}
@@ -40,7 +40,7 @@ facts-agree d q =
     (seen-handed d q .fay) (seen-handed d q .terminal)
 
 -- A request for a descriptor that a sound image holds is decided on that descriptor, with the meaning of matching.
-pub decided-on-descriptor : (s : List ℕ) (q : Request) (bs : List (List ℕ)) (d : Descriptor) → Holds s bs → AreBytes (encode d) → Allowed d
+pub decided-on-descriptor : (s : List ℕ) (q : Request) (bs : List Row) (d : Descriptor) → Holds s bs → AreBytes (encode d) → Allowed d
     → bodyWith (q .id) bs ≡ some (encode d) → decisionOf s q ≡ decidedFor q d
 unfolding decidedFor
 decided-on-descriptor s q bs d h b o e =

@@ -10,7 +10,7 @@ use Rattle.octets.specs.Bytes.{AreBytes, part}
 use Rattle.descriptor.specs.Model.{Descriptor, encode}
 use Rattle.image.specs.declared.Held.{Held}
 use Rattle.image.specs.declared.Held.the-variants.{Missing, Body}
-use Rattle.image.specs.Image.{bodyWith}
+use Rattle.image.specs.Image.{Row, bodyWith}
 use Rattle.image.specs.Edition1.{Holds}
 use Rattle.image.specs.Laws.{HeldIs}
 use Rattle.image.proofs.Laws.{survey-tells}
@@ -38,12 +38,12 @@ stored-decided d b clock verdict window bytes a z =
           let found : bodyWith (q .id) (w .0) ≡ some (encode c)
           = ap (λ (x : List ℕ). bodyWith x (w .0)) (i ∙ sym (m .1 .3)) ∙ w .2 z ∙ ap some (m .1 .2) in
           let u : Under (afterOf d b clock verdict window) (q .id) (held c)
-          = (w .0, w .1, found-among (q .id) (w .0) c (w .1 .bodies) (m .1 .1) (subst AreBytes (m .1 .2) a) found) in
+          = (w .0, w .1, found-among (q .id) (w .0) c (w .1 .rows) (m .1 .1) (subst AreBytes (m .1 .2) a) found) in
           (u, decided-exactly (afterOf d b clock verdict window) q (held c) u),
     )
 
 -- Two images in which the id finds the same body decide a request for it alike.
-found-alike : (s t : List ℕ) (q : Request) (bs cs : List (List ℕ)) → Holds s bs → Holds t cs → bodyWith (q .id) cs ≡ bodyWith (q .id) bs
+found-alike : (s t : List ℕ) (q : Request) (bs cs : List Row) → Holds s bs → Holds t cs → bodyWith (q .id) cs ≡ bodyWith (q .id) bs
     → decisionOf t q ≡ decisionOf s q
 found-alike s t q bs cs h k e = let w = survey-tells s (q .id) bs h in go (w .0) (w .2)
   where

@@ -11,8 +11,8 @@ use Rattle.image.specs.declared.Held.{Held}
 use Rattle.image.specs.declared.Held.the-variants.{Missing, Body}
 use Rattle.image.specs.declared.Survey.{Survey}
 use Rattle.image.specs.declared.Survey.the-variants.{Sound, Unsound}
-use Rattle.image.specs.Image.{bodyWith, isRead}
-use Rattle.image.specs.Edition1.{Holds, BodiesOk, surveyOf, bodiesOf}
+use Rattle.image.specs.Image.{Row, bodyWith, isRead}
+use Rattle.image.specs.Edition1.{Holds, RowsOk, surveyOf, rowsHeld}
 use Rattle.image.specs.Laws.{HeldBody, HeldIs}
 use Rattle.image.proofs.Laws.{body-read, encoding-read, body-with-exactly, survey-tells, survey-says, survey-unsound}
 use Rattle.octets.proofs.PartLaws.{part-bytes}
@@ -23,17 +23,17 @@ use Rattle.request.specs.Promises.{Stored, badImage, notHeld, held, Amon
 pub held-found : (s id : List ℕ) (d : Descriptor) (u : Under s id (held d)) → bodyWith id (u .0) ≡ some (encode d)
 held-found s id d u =
     let a : Among (u .0) id d = u .2 in
-    body-with-exactly id (u .0) (encode d) (u .1 .bodies) .1 (encoding-read d (a .bytes) (a .allowed) .3 ∙ a .named, (a .place, a .inside, a .there))
+    body-with-exactly id (u .0) (encode d) (u .1 .rows) .1 (encoding-read d (a .bytes) (a .allowed) .3 ∙ a .named, (a .place, a .inside, a .there))
 
 -- A descriptor whose encoding is the body with an id is held under it.
-pub found-among : (id : List ℕ) (bs : List (List ℕ)) (d : Descriptor) → BodiesOk bs → Allowed d → AreBytes (encode d)
+pub found-among : (id : List ℕ) (bs : List Row) (d : Descriptor) → RowsOk bs → Allowed d → AreBytes (encode d)
     → bodyWith id bs ≡ some (encode d) → Among bs id d
 found-among id bs d o a b e =
     let w = body-with-exactly id bs (encode d) o .0 e in
     record { allowed = a; bytes = b; named = sym (encoding-read d b a .3) ∙ w .0; place = w .1 .0; inside = w .1 .1; there = w .1 .2 }
 
 -- A body that a check notes in bytes is the encoding of a descriptor with the id.
-body-among : (s id : List ℕ) (bs : List (List ℕ)) (at len : ℕ) (f : Fields) → AreBytes s → BodiesOk bs → HeldBody s id bs at len f
+body-among : (s id : List ℕ) (bs : List Row) (at len : ℕ) (f : Fields) → AreBytes s → RowsOk bs → HeldBody s id bs at len f
     → (d : Descriptor) × Among bs id d
 body-among s id bs at len f b o h =
     let bytes : AreBytes (part s at len) = part-bytes s at len b in
@@ -46,14 +46,14 @@ none-found s id u = let w = survey-tells s id (u .0) (u .1) in go (w .0) (w .2)
   where
     go : (k : Held) → HeldIs s id (u .0) k → bodyWith id (u .0) ≡ none
     go Missing i = i
-    go (Body at len f) i = let r = body-among s id (u .0) at len f (u .2) (u .1 .bodies) i in absurd (u .3 (r .0) (r .1))
+    go (Body at len f) i = let r = body-among s id (u .0) at len f (u .2) (u .1 .rows) i in absurd (u .3 (r .0) (r .1))
 
 -- Bytes that are no image are called unsound.
 pub unsound : (s id : List ℕ) → Under s id badImage → surveyOf s id ≡ Unsound
 unsound s id u = survey-unsound s id (u .0) .1 (u .1)
 
 -- Where no body has the id, no descriptor with it is held.
-none-among : (s id : List ℕ) (bs : List (List ℕ)) → Holds s bs → bodyWith id bs ≡ none → (d : Descriptor) → Among bs id d → ⊥
+none-among : (s id : List ℕ) (bs : List Row) → Holds s bs → bodyWith id bs ≡ none → (d : Descriptor) → Among bs id d → ⊥
 none-among s id bs h e d a = none-some (encode d) (sym e ∙ held-found s id d (bs, h, a))
 
 -- `AllStored`.
@@ -64,8 +64,8 @@ all-stored s id b = go (surveyOf s id) refl
     go Unsound e = (badImage, (b, survey-unsound s id b .0 e))
     go (Sound n end Missing) e =
         let w = survey-says s id b n end Missing e in
-        (notHeld, (bodiesOf s, w .holds, b, none-among s id (bodiesOf s) (w .holds) (w .held)))
+        (notHeld, (rowsHeld s, w .holds, b, none-among s id (rowsHeld s) (w .holds) (w .held)))
     go (Sound n end (Body at len f)) e =
         let w = survey-says s id b n end (Body at len f) e in
-        let r = body-among s id (bodiesOf s) at len f b (w .holds .bodies) (w .held) in
-        (held (r .0), (bodiesOf s, w .holds, r .1))
+        let r = body-among s id (rowsHeld s) at len f b (w .holds .rows) (w .held) in
+        (held (r .0), (rowsHeld s, w .holds, r .1))

@@ -16,6 +16,7 @@ use Rattle.descriptor.specs.Allowed.{isIn, Allowed}
 use Rattle.descriptor.specs.Modes.{unionOf}
 use Rattle.steps.specs.declared.Window.{Window}
 use Rattle.steps.specs.Order.{Step, step, inOrder, AllPass, FirstFails}
+use Rattle.image.specs.Image.{Row, rowOf}
 use Rattle.image.specs.Edition1.{Holds}
 use Rattle.submission.specs.Submission.{submitted, afterOf, numberOf}
 use Rattle.request.specs.declared.DecisionNumbers.{DecisionNumbers}
@@ -54,21 +55,21 @@ pub data Stored : Type 0 where
   notHeld : Stored
   held : Descriptor → Stored
 
--- one of the bodies is the encoding of the allowed descriptor d, and d has the id
-pub record Among (bs : List (List ℕ)) (id : List ℕ) (d : Descriptor) : Type 0 where
+-- the body of one of the rows is the encoding of the allowed descriptor d, and d has the id
+pub record Among (rs : List Row) (id : List ℕ) (d : Descriptor) : Type 0 where
   pub allowed : Allowed d
   pub bytes : AreBytes (encode d)
   pub named : d .payload .id ≡ id
   pub place : ℕ
-  pub inside : place < length bs
-  pub there : getD bs place [] ≡ encode d
+  pub inside : place < length rs
+  pub there : getD rs place (rowOf []) .body ≡ encode d
 
--- what the bytes s hold under the id: they are the image of no list of bodies; or of bodies of which none has the id; or of bodies of
--- which d has it
+-- what the bytes s hold under the id: they are the image of no list of rows; or of rows of which none has the id; or of rows of which
+-- that of d has it
 abbrev pub Under : List ℕ → List ℕ → Stored → Type 0
-Under s id badImage = AreBytes s × ((bs : List (List ℕ)) → Holds s bs → ⊥)
-Under s id notHeld = (bs : List (List ℕ)) × Holds s bs × AreBytes s × ((d : Descriptor) → Among bs id d → ⊥)
-Under s id (held d) = (bs : List (List ℕ)) × Holds s bs × Among bs id d
+Under s id badImage = AreBytes s × ((rs : List Row) → Holds s rs → ⊥)
+Under s id notHeld = (rs : List Row) × Holds s rs × AreBytes s × ((d : Descriptor) → Among rs id d → ⊥)
+Under s id (held d) = (rs : List Row) × Holds s rs × Among rs id d
 
 -- any bytes hold one of the three under any id
 abbrev pub AllStored : Type 0

@@ -20,9 +20,9 @@ use Rattle.image.specs.declared.Held.{Held}
 use Rattle.image.specs.declared.Held.the-variants.{Missing, Body}
 use Rattle.image.specs.declared.Survey.{Survey}
 use Rattle.image.specs.declared.Survey.the-variants.{Sound, Unsound}
-use Rattle.image.specs.Image.{reading, idOf}
+use Rattle.image.specs.Image.{rowOf, reading, idOf}
 use Rattle.image.specs.Check.{isHeld}
-use Rattle.image.specs.Edition1.{surveyOf, bodiesOf, hasRoom}
+use Rattle.image.specs.Edition1.{surveyOf, rowsHeld, hasRoom}
 use Rattle.submission.specs.declared.Submission.{Submission}
 use Rattle.submission.specs.declared.Submission.the-variants as answers
 use Rattle.submission.specs.declared.choose.Choice.{Choice}
@@ -56,8 +56,8 @@ refused-keeps d b held a other = ⊎-elim (λ e. e) (λ e. absurd (other e)) (ke
 
 -- The body is to be stored: the id is not held, and every step but the last passes, which is whether there is room.
 pub record Storing (d b : List ℕ) (clock verdict : ℕ) (window : Window) (r : Reading) (v : Survey) (n end id mask : ℕ) : Type 0 where
-  pub done : hasRoom d (bodiesOf d) b ≡ true → answers.Done ≡ inOrder (stepsBy d b clock verdict window r v) answers.Done
-  pub full : hasRoom d (bodiesOf d) b ≡ false → answers.Full ≡ inOrder (stepsBy d b clock verdict window r v) answers.Done
+  pub done : hasRoom d (rowsHeld d) (rowOf b) ≡ true → answers.Done ≡ inOrder (stepsBy d b clock verdict window r v) answers.Done
+  pub full : hasRoom d (rowsHeld d) (rowOf b) ≡ false → answers.Full ≡ inOrder (stepsBy d b clock verdict window r v) answers.Done
   pub found : v ≡ Sound n end Missing
   pub fields : Fields
   pub reads : r ≡ Read fields

@@ -18,7 +18,7 @@ use Rattle.steps.specs.Laws.{allPass, failsBy}
 use Rattle.steps.proofs.Laws.{passed-end, all-pass, failed-by}
 use Rattle.image.specs.declared.StoredNumbers.{StoredNumbers}
 use Rattle.image.specs.Layout.{idSize, edition1, mostRows}
-use Rattle.image.specs.Image.{idOf, bodyWith}
+use Rattle.image.specs.Image.{Row, rowOf, idOf, bodyWith}
 use Rattle.image.specs.Check.{numbersOf}
 use Rattle.image.specs.Grow as grow
 use Rattle.image.specs.Edition1.{imageOf, Holds, findOf}
@@ -28,7 +28,7 @@ use Rattle.image.proofs.Promises.{layout-fixed, lookup-exactly}
 use Rattle.image.proofs.Laws.{encoding-read}
 use Rattle.submission.specs.declared.Submission.the-variants as answers
 use Rattle.submission.specs.Submission.{submitted, afterOf, numberOf}
-use Rattle.submission.specs.Promises.{bodies, descriptor, stepsFor, Gives, larger, Ready, LastSteps, StoredFound, OthersFound}
+use Rattle.submission.specs.Promises.{rows, descriptor, stepsFor, Gives, larger, Ready, LastSteps, StoredFound, OthersFound}
 use Rattle.submission.specs.Promises.{LeadBoundary, RowBoundary}
 use Rattle.submission.proofs.NumberLaws.{itself, number-descriptor}
 use Rattle.submission.proofs.StoredLaws.{refusal-keeps, repeat-keeps, stored-last, after-holds}
@@ -44,10 +44,10 @@ key-opens window clock f u = rw (le-leb (window .from) clock f) (go (window .bou
     go true u = le-leb clock (window .until) (u refl)
     go false u = refl
 
-module _ (d : List ℕ) (bs : List (List ℕ)) (c : Descriptor) (clock : ℕ) (window : Window) (r : Ready d bs c clock window) where
+module _ (d : List ℕ) (bs : List Row) (c : Descriptor) (clock : ℕ) (window : Window) (r : Ready d bs c clock window) where
   -- The steps.
   abbrev all : List (Step ℕ)
-  all = stepsFor (bodies bs) (descriptor c) (length d) clock 0 window
+  all = stepsFor (rows bs) (descriptor c) (length d) clock 0 window
 
   -- The number is that of a step that fails, where those before it pass.
   fails-with : (n : ℕ) → failsBy itself n all ≡ true → numberOf (submitted d (encode c) clock 0 window) ≡ n
@@ -134,7 +134,7 @@ lead-boundary d bs c clock window r e few room = (
 -- `RowBoundary`.
 pub row-boundary : RowBoundary
 row-boundary d bs c clock window r l e room = (
-  λ q. let k = stores d bs c clock window r l e (omega arith) room in (k .0 .0, k .1, omega (arith, length-append bs (encode c ∷ []))),
+  λ q. let k = stores d bs c clock window r l e (omega arith) room in (k .0 .0, k .1, omega (arith, length-append bs (rowOf (encode c) ∷ []))),
   λ q. no-room d bs c clock window r l e (inl q),
 )
 
@@ -154,7 +154,7 @@ Alike s d id =
     (n .answer ≡ m .answer) × (part s (n .«body_at») (n .«body_len») ≡ part d (m .«body_at») (m .«body_len»))
 
 -- Buffers in which the id has the same body, or none, are alike.
-same-body : (s d id : List ℕ) (cs bs : List (List ℕ)) → Holds s cs → Holds d bs → length id ≡ idSize → bodyWith id cs ≡ bodyWith id bs
+same-body : (s d id : List ℕ) (cs bs : List Row) → Holds s cs → Holds d bs → length id ≡ idSize → bodyWith id cs ≡ bodyWith id bs
     → Alike s d id
 unfolding part
 same-body s d id cs bs k h l e = go (bodyWith id bs) refl

@@ -23,15 +23,15 @@ use Rattle.image.specs.declared.Held.{Held}
 use Rattle.image.specs.declared.Held.the-variants.{Missing, Body}
 use Rattle.image.specs.declared.Survey.{Survey}
 use Rattle.image.specs.declared.Survey.the-variants.{Sound, Unsound}
-use Rattle.image.specs.Image.{reading, isRead, idOf}
+use Rattle.image.specs.Image.{Row, reading, isRead, idOf}
 use Rattle.image.specs.Grow as grow
-use Rattle.image.specs.Edition1.{imageOf, Holds, surveyOf, bodiesOf}
+use Rattle.image.specs.Edition1.{imageOf, Holds, surveyOf, rowsHeld}
 use Rattle.image.specs.Promises.{answerOf}
 use Rattle.image.specs.Laws.{HeldIs}
-use Rattle.image.proofs.Laws.{body-read, encoding-read, survey-tells, survey-says, survey-unsound, bodies-named}
+use Rattle.image.proofs.Laws.{body-read, encoding-read, survey-tells, survey-says, survey-unsound, rows-named}
 use Rattle.submission.specs.declared.Submission.the-variants as answers
 use Rattle.submission.specs.Submission.{stepsBy, steps, submitted, numberOf}
-use Rattle.submission.specs.Promises.{Stored, unsound, bodies, structure, validity, descriptor as encoding, IsStored, IsBody}
+use Rattle.submission.specs.Promises.{Stored, unsound, rows, structure, validity, descriptor as encoding, IsStored, IsBody}
 use Rattle.submission.specs.Promises.{AlwaysMeets, stepsFor, SubmittedExactly, DoneExactly, RefusedExactly}
 use Rattle.submission.specs.Promises as promised
 
@@ -56,23 +56,23 @@ unfolding stepsBy inOrder orElse isVerdict
 by-unsound d b clock verdict window r x = refl
 
 -- A body that reading answers with 1.
-by-structure : (d b : List ℕ) (clock verdict : ℕ) (window : Window) (bs : List (List ℕ)) (n end : ℕ) (h : Held)
+by-structure : (d b : List ℕ) (clock verdict : ℕ) (window : Window) (bs : List Row) (n end : ℕ) (h : Held)
     → numberBy d b clock verdict window Structure (Sound n end h)
-    ≡ inOrder (stepsFor (bodies bs) structure (length d) clock verdict window) 0
+    ≡ inOrder (stepsFor (rows bs) structure (length d) clock verdict window) 0
 unfolding stepsBy inOrder orElse isVerdict
 by-structure d b clock verdict window bs n end h = refl
 
 -- A body that reading answers with 2.
-by-validity : (d b : List ℕ) (clock verdict : ℕ) (window : Window) (bs : List (List ℕ)) (n end : ℕ) (h : Held)
-    → numberBy d b clock verdict window Validity (Sound n end h) ≡ inOrder (stepsFor (bodies bs) validity (length d) clock verdict window) 0
+by-validity : (d b : List ℕ) (clock verdict : ℕ) (window : Window) (bs : List Row) (n end : ℕ) (h : Held)
+    → numberBy d b clock verdict window Validity (Sound n end h) ≡ inOrder (stepsFor (rows bs) validity (length d) clock verdict window) 0
 unfolding stepsBy inOrder orElse isVerdict
 by-validity d b clock verdict window bs n end h = refl
 
 -- The encoding of a descriptor.
-by-descriptor : (d : List ℕ) (clock verdict : ℕ) (window : Window) (bs : List (List ℕ)) (c : Descriptor) (f : Fields) (h : Held)
-    → bodiesOf d ≡ bs → f .before ≡ c .payload .notBefore → HeldIs d (c .payload .id) bs h
+by-descriptor : (d : List ℕ) (clock verdict : ℕ) (window : Window) (bs : List Row) (c : Descriptor) (f : Fields) (h : Held)
+    → rowsHeld d ≡ bs → f .before ≡ c .payload .notBefore → HeldIs d (c .payload .id) bs h
     → numberBy d (encode c) clock verdict window (Read f) (Sound (length bs) (length (imageOf bs)) h)
-    ≡ inOrder (stepsFor (bodies bs) (encoding c) (length d) clock verdict window) 0
+    ≡ inOrder (stepsFor (rows bs) (encoding c) (length d) clock verdict window) 0
 unfolding stepsBy isVerdict isThat keyOpen grow.hasRoom
 by-descriptor d clock verdict window bs c f Missing q e k = ap (λ (l : List (Step ℕ)). inOrder l 0)
     (rw (e, k, q))
@@ -81,14 +81,14 @@ by-descriptor d clock verdict window bs c f (Body at len g) q e k = ap (λ (l : 
 -- ---- the number of a descriptor
 
 -- The number for an allowed descriptor and a buffer that holds a list of bodies.
-pub number-descriptor : (d : List ℕ) (clock verdict : ℕ) (window : Window) (bs : List (List ℕ)) (c : Descriptor) → Holds d bs
+pub number-descriptor : (d : List ℕ) (clock verdict : ℕ) (window : Window) (bs : List Row) (c : Descriptor) → Holds d bs
     → AreBytes (encode c) → Allowed c
-    → numberOf (submitted d (encode c) clock verdict window) ≡ inOrder (stepsFor (bodies bs) (encoding c) (length d) clock verdict window) 0
+    → numberOf (submitted d (encode c) clock verdict window) ≡ inOrder (stepsFor (rows bs) (encoding c) (length d) clock verdict window) 0
 number-descriptor d clock verdict window bs c h bytes a =
     let r = encoding-read c bytes a in
     let w = survey-tells d (idOf (encode c)) bs h in
     number-by d (encode c) clock verdict window (Read (r .0)) (Sound (length bs) (length (imageOf bs)) (w .0)) (r .1) (w .1)
-    ∙ by-descriptor d clock verdict window bs c (r .0) (w .0) (bodies-named d bs h) (r .2) (subst (λ (id : List ℕ). HeldIs d id bs (w .0)) (r .3) (w .2))
+    ∙ by-descriptor d clock verdict window bs c (r .0) (w .0) (rows-named d bs h) (r .2) (subst (λ (id : List ℕ). HeldIs d id bs (w .0)) (r .3) (w .2))
 
 -- ---- every case
 
@@ -117,15 +117,15 @@ pub submitted-exactly : SubmittedExactly
 submitted-exactly d b clock verdict window unsound x m =
     number-by d b clock verdict window (reading b) Unsound refl (survey-unsound d (idOf b) (m .buffer-bytes) .1 (m .stored))
     ∙ by-unsound d b clock verdict window (reading b) x
-submitted-exactly d b clock verdict window (bodies bs) structure m =
+submitted-exactly d b clock verdict window (rows bs) structure m =
     let w = survey-tells d (idOf b) bs (m .stored) in
     number-by d b clock verdict window Structure (Sound (length bs) (length (imageOf bs)) (w .0)) (structure-read b (m .body)) (w .1)
     ∙ by-structure d b clock verdict window bs (length bs) (length (imageOf bs)) (w .0)
-submitted-exactly d b clock verdict window (bodies bs) validity m =
+submitted-exactly d b clock verdict window (rows bs) validity m =
     let w = survey-tells d (idOf b) bs (m .stored) in
     number-by d b clock verdict window Validity (Sound (length bs) (length (imageOf bs)) (w .0)) (validity-read b (m .body)) (w .1)
     ∙ by-validity d b clock verdict window bs (length bs) (length (imageOf bs)) (w .0)
-submitted-exactly d b clock verdict window (bodies bs) (encoding c) m =
+submitted-exactly d b clock verdict window (rows bs) (encoding c) m =
     ap (λ (y : List ℕ). numberOf (submitted d y clock verdict window)) (m .body .1)
     ∙ number-descriptor d clock verdict window bs c (m .stored) (subst AreBytes (m .body .1) (m .body-bytes)) (m .body .0)
 
@@ -136,11 +136,11 @@ itself n = n
 -- No step's number is 0.
 never-zero : (s : Stored) (x : promised.Body) (room clock verdict : ℕ) (window : Window) → NoneIs 0 (stepsFor s x room clock verdict window)
 never-zero unsound x room clock verdict window = none-is itself 0 (stepsFor unsound x room clock verdict window) refl
-never-zero (bodies bs) structure room clock verdict window = none-is itself 0
-    (stepsFor (bodies bs) structure room clock verdict window) refl
-never-zero (bodies bs) validity room clock verdict window = none-is itself 0 (stepsFor (bodies bs) validity room clock verdict window) refl
-never-zero (bodies bs) (encoding c) room clock verdict window = none-is itself 0
-    (stepsFor (bodies bs) (encoding c) room clock verdict window) refl
+never-zero (rows bs) structure room clock verdict window = none-is itself 0
+    (stepsFor (rows bs) structure room clock verdict window) refl
+never-zero (rows bs) validity room clock verdict window = none-is itself 0 (stepsFor (rows bs) validity room clock verdict window) refl
+never-zero (rows bs) (encoding c) room clock verdict window = none-is itself 0
+    (stepsFor (rows bs) (encoding c) room clock verdict window) refl
 
 -- `DoneExactly`.
 pub done-exactly : DoneExactly
@@ -161,7 +161,7 @@ stored-of : (d : List ℕ) → AreBytes d → (s : Stored) × IsStored d s
 stored-of d bytes = go (surveyOf d []) refl
   where
     go : (v : Survey) → surveyOf d [] ≡ v → (s : Stored) × IsStored d s
-    go (Sound n end h) e = (bodies (bodiesOf d), survey-says d [] bytes n end h e .holds)
+    go (Sound n end h) e = (rows (rowsHeld d), survey-says d [] bytes n end h e .holds)
     go Unsound e = (unsound, survey-unsound d [] bytes .0 e)
 
 -- What every body is.

@@ -16,9 +16,9 @@ use Rattle.steps.specs.Laws.{passesBy}
 use Rattle.steps.proofs.Laws.{none-is, passed-by, failed-by}
 use Rattle.steps.proofs.Promises as order
 use Rattle.image.specs.declared.Survey.the-variants.{Unsound}
-use Rattle.image.specs.Image.{reading, isRead, idOf}
+use Rattle.image.specs.Image.{rowOf, reading, isRead, idOf}
 use Rattle.image.specs.Check.{isSound, isHeld}
-use Rattle.image.specs.Edition1.{surveyOf, bodiesOf, hasRoom}
+use Rattle.image.specs.Edition1.{surveyOf, rowsHeld, hasRoom}
 use Rattle.submission.specs.declared.Submission.{Submission}
 use Rattle.submission.specs.declared.Submission.the-variants as answers
 use Rattle.submission.specs.Submission.{isStructure, isValidity, agrees, stepsBy, steps, submitted, numberOf}
@@ -67,7 +67,7 @@ pub record Passed (d b : List ℕ) : Type 0 where
   pub sound : isSound (surveyOf d (idOf b)) ≡ true
   pub reads : isRead (reading b) ≡ true
   pub same-bytes : agrees d b (surveyOf d (idOf b)) ≡ true
-  pub room : (isHeld (surveyOf d (idOf b)) || hasRoom d (bodiesOf d) b) ≡ true
+  pub room : (isHeld (surveyOf d (idOf b)) || hasRoom d (rowsHeld d) (rowOf b)) ≡ true
 
 -- A reading that is neither 1 nor 2 is 0.
 read-passes : (r : Reading) → not (isStructure r) ≡ true → not (isValidity r) ≡ true → isRead r ≡ true

@@ -15,13 +15,13 @@ use Rattle.image.specs.declared.Held.{Held}
 use Rattle.image.specs.declared.Held.the-variants.{Missing, Body}
 use Rattle.image.specs.declared.Survey.{Survey}
 use Rattle.image.specs.declared.Survey.the-variants.{Sound, Unsound}
-use Rattle.image.specs.Image.{idOf, bodyWith}
+use Rattle.image.specs.Image.{Row, rowOf, idOf, bodyWith}
 use Rattle.image.specs.Check.{isSound, isHeld}
-use Rattle.image.specs.Edition1.{imageOf, Holds, surveyOf, bodiesOf, hasRoom, withBody}
+use Rattle.image.specs.Edition1.{imageOf, Holds, surveyOf, rowsHeld, hasRoom, withBody}
 use Rattle.octets.proofs.OptionLaws.{some-same, none-some}
 use Rattle.octets.proofs.SameLaws.{same-equal}
 use Rattle.image.specs.Laws.{HeldIs}
-use Rattle.image.proofs.Laws.{body-read, bodies-named, survey-tells, survey-says, editions-surveyed, one-more}
+use Rattle.image.proofs.Laws.{body-read, rows-named, survey-tells, survey-says, editions-surveyed, one-more}
 use Rattle.submission.specs.declared.Submission.the-variants as answers
 use Rattle.submission.specs.Submission.{agrees, submitted, numberOf, afterOf}
 use Rattle.submission.specs.Promises.{RefusalKeeps, RepeatKeeps, EditionsRefused}
@@ -33,7 +33,7 @@ use Rattle.submission.proofs.StepLaws.{number-is, Passed, done-passed, 
 -- ---- what the survey finds
 
 -- The survey for an id that no body has.
-survey-new : (d id : List ℕ) (bs : List (List ℕ)) → Holds d bs → bodyWith id bs ≡ none
+survey-new : (d id : List ℕ) (bs : List Row) → Holds d bs → bodyWith id bs ≡ none
     → surveyOf d id ≡ Sound (length bs) (length (imageOf bs)) Missing
 survey-new d id bs h new = let w = survey-tells d id bs h in w .1 ∙ ap (Sound (length bs) (length (imageOf bs))) (go (w .0) (w .2))
   where
@@ -42,7 +42,7 @@ survey-new d id bs h new = let w = survey-tells d id bs h in w .1 ∙ ap (Sound 
     go (Body at len f) k = absurd (none-some (part d at len) (sym new ∙ k .which))
 
 -- The body that is held under an id, and where the survey found it.
-record Repeat (d id : List ℕ) (bs : List (List ℕ)) (c : List ℕ) : Type 0 where
+record Repeat (d id : List ℕ) (bs : List Row) (c : List ℕ) : Type 0 where
   at : ℕ
   len : ℕ
   fields : Fields
@@ -50,7 +50,7 @@ record Repeat (d id : List ℕ) (bs : List (List ℕ)) (c : List ℕ) : Type 0 w
   body : part d at len ≡ c
 
 -- The survey for an id that a body has.
-survey-repeat : (d id : List ℕ) (bs : List (List ℕ)) (c : List ℕ) → Holds d bs → bodyWith id bs ≡ some c → Repeat d id bs c
+survey-repeat : (d id : List ℕ) (bs : List Row) (c : List ℕ) → Holds d bs → bodyWith id bs ≡ some c → Repeat d id bs c
 survey-repeat d id bs c h held = let w = survey-tells d id bs h in go (w .0) (w .1) (w .2)
   where
     go : (x : Held) → surveyOf d id ≡ Sound (length bs) (length (imageOf bs)) x → HeldIs d id bs x → Repeat d id bs c
@@ -85,11 +85,11 @@ done-means d b clock verdict window bytes a z =
     let r = body-read b a (p .reads) in
     (go (surveyOf d (idOf b)) refl (p .sound), (r .0, r .1, r .2, r .3))
   where
-    go : (v : Survey) → surveyOf d (idOf b) ≡ v → isSound (surveyOf d (idOf b)) ≡ true → (bs : List (List ℕ)) × Holds d bs
-    go (Sound n end h) e t = (bodiesOf d, survey-says d (idOf b) bytes n end h e .holds)
+    go : (v : Survey) → surveyOf d (idOf b) ≡ v → isSound (surveyOf d (idOf b)) ≡ true → (bs : List Row) × Holds d bs
+    go (Sound n end h) e t = (rowsHeld d, survey-says d (idOf b) bytes n end h e .holds)
     go Unsound e t = absurd (false≢true (sym (ap isSound e) ∙ t))
 
-module _ (d b : List ℕ) (clock verdict : ℕ) (window : Window) (bs : List (List ℕ)) (h : Holds d bs)
+module _ (d b : List ℕ) (clock verdict : ℕ) (window : Window) (bs : List Row) (h : Holds d bs)
     (z : numberOf (submitted d b clock verdict window) ≡ 0) where
   -- The answer is 0.
   done : submitted d b clock verdict window ≡ answers.Done
@@ -105,22 +105,22 @@ module _ (d b : List ℕ) (clock verdict : ℕ) (window : Window) (bs : List (Li
 
   -- Under a new id, it says that there is room, and leaves the buffer with the body added last, which holds the bodies and the new one.
   pub stored-last : bodyWith (idOf b) bs ≡ none
-      → Holds (afterOf d b clock verdict window) (bs ++ (b ∷ [])) × (afterOf d b clock verdict window ≡ withBody d bs b)
+      → Holds (afterOf d b clock verdict window) (bs ++ (rowOf b ∷ [])) × (afterOf d b clock verdict window ≡ withBody d bs (rowOf b))
   stored-last new =
       let found : surveyOf d (idOf b) ≡ Sound (length bs) (length (imageOf bs)) Missing = survey-new d (idOf b) bs h new in
       let p : Passed d b = done-passed d b clock verdict window done in
-      let room : hasRoom d bs b ≡ true
-      = ap (λ (l : List (List ℕ)). hasRoom d l b) (sym (bodies-named d bs h))
-      ∙ subst (λ (v : Survey). (isHeld v || hasRoom d (bodiesOf d) b) ≡ true) found (p .room) in
-      let whole : afterOf d b clock verdict window ≡ withBody d bs b
-      = after-new d b clock verdict window (ap isHeld found) done ∙ ap (λ (l : List (List ℕ)). withBody d l b) (bodies-named d bs h) in
-      (subst (λ (x : List ℕ). Holds x (bs ++ (b ∷ []))) (sym whole) (one-more .holds d bs b h room (p .reads) new), whole)
+      let room : hasRoom d bs (rowOf b) ≡ true
+      = ap (λ (l : List Row). hasRoom d l (rowOf b)) (sym (rows-named d bs h))
+      ∙ subst (λ (v : Survey). (isHeld v || hasRoom d (rowsHeld d) (rowOf b)) ≡ true) found (p .room) in
+      let whole : afterOf d b clock verdict window ≡ withBody d bs (rowOf b)
+      = after-new d b clock verdict window (ap isHeld found) done ∙ ap (λ (l : List Row). withBody d l (rowOf b)) (rows-named d bs h) in
+      (subst (λ (x : List ℕ). Holds x (bs ++ (rowOf b ∷ []))) (sym whole) (one-more .holds d bs (rowOf b) h room (p .reads) new), whole)
 
 -- ---- the bodies after
 
 -- What the buffer holds after.
-abbrev After : List ℕ → List ℕ → ℕ → ℕ → Window → List (List ℕ) → Type 0
-After d b clock verdict window bs = (cs : List (List ℕ)) × Holds (afterOf d b clock verdict window) cs
+abbrev After : List ℕ → List ℕ → ℕ → ℕ → Window → List Row → Type 0
+After d b clock verdict window bs = (cs : List Row) × Holds (afterOf d b clock verdict window) cs
     × (numberOf (submitted d b clock verdict window) ≡ 0 → bodyWith (idOf b) cs ≡ some b)
     × ((id : List ℕ) → (idOf b ≡ id → ⊥) → bodyWith id cs ≡ bodyWith id bs)
 
@@ -138,7 +138,7 @@ after-holds d b clock verdict window bs h = go (bodyWith (idOf b) bs) (eqb (numb
         (λ z. e ∙ ap some (repeat-same d b clock verdict window bs h z c e))
     go none true e f =
         let z : numberOf (submitted d b clock verdict window) ≡ 0 = eqb-true (numberOf (submitted d b clock verdict window)) 0 f in
-        (bs ++ (b ∷ []), stored-last d b clock verdict window bs h z e .0, λ i. one-more .mine bs b e, λ id o. one-more .others id bs b o)
+        (bs ++ (rowOf b ∷ []), stored-last d b clock verdict window bs h z e .0, λ i. one-more .mine bs (rowOf b) e, λ id o. one-more .others id bs (rowOf b) o)
     go none false e f =
         let n = eqb-false (numberOf (submitted d b clock verdict window)) 0 f in
         kept (refusal-keeps d b clock verdict window n) (λ z. absurd (n z))

@@ -12,9 +12,9 @@ use Rattle.image.specs.declared.Held.the-variants.{Missing}
 use Rattle.image.specs.declared.Survey.{Survey}
 use Rattle.image.specs.declared.Added.{Added}
 use Rattle.image.specs.declared.Added.the-variants.{Done, Full}
-use Rattle.image.specs.Image.{reading, idOf}
+use Rattle.image.specs.Image.{Row, rowOf, reading, idOf}
 use Rattle.image.specs.Check.{isHeld}
-use Rattle.image.specs.Edition1.{imageOf, surveyOf, bodiesOf, addedOf, afterAdd, hasRoom, withBody}
+use Rattle.image.specs.Edition1.{imageOf, surveyOf, rowsHeld, addedOf, afterAdd, hasRoom, withBody}
 use Rattle.image.proofs.Laws.{survey-says, body-added}
 use Rattle.submission.specs.declared.Submission.{Submission}
 use Rattle.submission.specs.declared.Submission.the-variants as answers
@@ -34,7 +34,7 @@ after-held d b clock verdict window e = ap (λ (t : Bool). afterAnswer d b t (su
 
 -- Where the id is not held, the answer 0 leaves the buffer with the body added last.
 pub after-new : (d b : List ℕ) (clock verdict : ℕ) (window : Window) → isHeld (surveyOf d (idOf b)) ≡ false
-    → submitted d b clock verdict window ≡ answers.Done → afterOf d b clock verdict window ≡ withBody d (bodiesOf d) b
+    → submitted d b clock verdict window ≡ answers.Done → afterOf d b clock verdict window ≡ withBody d (rowsHeld d) (rowOf b)
 unfolding afterOf
 after-new d b clock verdict window e f = ap₂ (afterAnswer d b) e f
 
@@ -60,19 +60,19 @@ store-added d b clock verdict window n end id mask bytes e =
     let k : Storing d b clock verdict window (reading b) v n end id mask
     = subst (ChoiceIs d b clock verdict window (reading b) v) e (choice-is d b clock verdict window) in
     let f : Fields = k .fields in
-    let bs : List (List ℕ) = bodiesOf d in
+    let bs : List Row = rowsHeld d in
     let s = survey-says d (idOf b) bytes n end Missing (k .found) in
-    let a = body-added d bs b f (s .holds) (k .reads) in
-    let x = go k (hasRoom d bs b) refl in (
+    let a = body-added d bs (rowOf b) f (s .holds) (k .reads) in
+    let x = go k (hasRoom d bs (rowOf b)) refl in (
       ap storedAs (ap₂ (λ (i j : ℕ). addedOf d i j b id) (s .rows) (s .ends) ∙ ap (addedOf d (length bs) (length (imageOf bs)) b) (k .named) ∙ a .0)
           ∙ x .0,
       ap₂ (λ (i j : ℕ). afterAdd d i j b id mask) (s .rows) (s .ends)
           ∙ ap₂ (afterAdd d (length bs) (length (imageOf bs)) b) (k .named) (k .modes) ∙ a .1 ∙ x .1,
     )
   where
-    go : Storing d b clock verdict window (reading b) (surveyOf d (idOf b)) n end id mask → (t : Bool) → hasRoom d (bodiesOf d) b ≡ t
+    go : Storing d b clock verdict window (reading b) (surveyOf d (idOf b)) n end id mask → (t : Bool) → hasRoom d (rowsHeld d) (rowOf b) ≡ t
         → (storedAs (cond t Done Full) ≡ submitted d b clock verdict window)
-        × (cond t (withBody d (bodiesOf d) b) d ≡ afterOf d b clock verdict window)
+        × (cond t (withBody d (rowsHeld d) (rowOf b)) d ≡ afterOf d b clock verdict window)
     go k true u = (k .done u, ap₂ (afterAnswer d b) (sym (ap isHeld (k .found))) (k .done u))
     go k false u = (k .full u, ap₂ (afterAnswer d b) (sym (ap isHeld (k .found))) (k .full u))
 

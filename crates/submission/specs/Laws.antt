@@ -7,21 +7,21 @@ use Rattle.octets.specs.Bytes.{AreBytes}
 use Rattle.descriptor.specs.Model.{Descriptor, encode}
 use Rattle.descriptor.specs.Allowed.{Allowed}
 use Rattle.steps.specs.declared.Window.{Window}
-use Rattle.image.specs.Image.{idOf, bodyWith}
+use Rattle.image.specs.Image.{Row, idOf, bodyWith}
 use Rattle.image.specs.Edition1.{Holds}
 use Rattle.submission.specs.Submission.{submitted, afterOf, numberOf}
 
--- an answer of 0 says that the buffer holds a list of bodies, and that what was submitted is the encoding of an allowed descriptor and
+-- an answer of 0 says that the buffer holds a list of rows, and that what was submitted is the encoding of an allowed descriptor and
 -- has its id
 abbrev pub DoneMeans : Type 0
 DoneMeans = (d b : List ℕ) (clock verdict : ℕ) (window : Window) → AreBytes d → AreBytes b
     → numberOf (submitted d b clock verdict window) ≡ 0
-    → ((bs : List (List ℕ)) × Holds d bs) × ((c : Descriptor) × Allowed c × (b ≡ encode c) × (idOf b ≡ c .payload .id))
+    → ((rs : List Row) × Holds d rs) × ((c : Descriptor) × Allowed c × (b ≡ encode c) × (idOf b ≡ c .payload .id))
 
--- after a submission to a buffer that holds bodies, whatever it answered, the buffer holds a list of bodies: where the answer is 0 the
+-- after a submission to a buffer that holds rows, whatever it answered, the buffer holds a list of rows: where the answer is 0 the
 -- id of what was submitted has that very body, and every other id has what it had
 abbrev pub AfterHolds : Type 0
-AfterHolds = (d b : List ℕ) (clock verdict : ℕ) (window : Window) (bs : List (List ℕ)) → Holds d bs
-    → (cs : List (List ℕ)) × Holds (afterOf d b clock verdict window) cs
-    × (numberOf (submitted d b clock verdict window) ≡ 0 → bodyWith (idOf b) cs ≡ some b)
-    × ((id : List ℕ) → (idOf b ≡ id → ⊥) → bodyWith id cs ≡ bodyWith id bs)
+AfterHolds = (d b : List ℕ) (clock verdict : ℕ) (window : Window) (rs : List Row) → Holds d rs
+    → (qs : List Row) × Holds (afterOf d b clock verdict window) qs
+    × (numberOf (submitted d b clock verdict window) ≡ 0 → bodyWith (idOf b) qs ≡ some b)
+    × ((id : List ℕ) → (idOf b ≡ id → ⊥) → bodyWith id qs ≡ bodyWith id rs)

@@ -14,7 +14,7 @@ use Rattle.descriptor.specs.Model.{Descriptor, encode}
 use Rattle.descriptor.specs.Allowed.{Allowed}
 use Rattle.steps.specs.declared.Window.{Window}
 use Rattle.steps.specs.Order.{Step, step, inOrder, AllPass, FirstFails}
-use Rattle.image.specs.Image.{idOf, bodyWith}
+use Rattle.image.specs.Image.{Row, rowOf, idOf, bodyWith}
 use Rattle.image.specs.Check.{numbersOf}
 use Rattle.image.specs.Edition1.{imageOf, Holds, findOf}
 use Rattle.image.specs.Promises.{answerOf, FoundAt}
@@ -22,10 +22,10 @@ use Rattle.submission.specs.Submission.{submitted, afterOf, numberOf}
 
 -- ---- what is submitted to what
 
--- what a buffer holds: no list of bodies, or these bodies
+-- what a buffer holds: no list of rows, or these rows
 pub data Stored : Type 0 where
   unsound : Stored
-  bodies : List (List ℕ) → Stored
+  rows : List Row → Stored
 
 -- what is submitted: bytes that reading answers with 1, or with 2, or the encoding of an allowed descriptor
 pub data Body : Type 0 where
@@ -35,8 +35,8 @@ pub data Body : Type 0 where
 
 -- the buffer d holds that
 abbrev pub IsStored : List ℕ → Stored → Type 0
-IsStored d unsound = (bs : List (List ℕ)) → Holds d bs → ⊥
-IsStored d (bodies bs) = Holds d bs
+IsStored d unsound = (rs : List Row) → Holds d rs → ⊥
+IsStored d (rows rs) = Holds d rs
 
 -- the bytes b are that
 abbrev pub IsBody : List ℕ → Body → Type 0
@@ -75,18 +75,18 @@ stepsFor unsound x room clock verdict window =
     step (leb verdict 2) 15
     ∷ step false 16
     ∷ []
-stepsFor (bodies bs) structure room clock verdict window =
+stepsFor (rows rs) structure room clock verdict window =
     step (leb verdict 2) 15
     ∷ step true 16
     ∷ step false 1
     ∷ []
-stepsFor (bodies bs) validity room clock verdict window =
+stepsFor (rows rs) validity room clock verdict window =
     step (leb verdict 2) 15
     ∷ step true 16
     ∷ step true 1
     ∷ step false 2
     ∷ []
-stepsFor (bodies bs) (descriptor c) room clock verdict window =
+stepsFor (rows rs) (descriptor c) room clock verdict window =
     step (leb verdict 2) 15
     ∷ step true 16
     ∷ step true 1
@@ -95,8 +95,8 @@ stepsFor (bodies bs) (descriptor c) room clock verdict window =
     ∷ step (not (eqb verdict 2)) 3
     ∷ step (leb (window .from) clock && (not (window .bounded) || leb clock (window .until))) 14
     ∷ step (not (eqb verdict 1)) 4
-    ∷ step (isSame (bodyWith (c .payload .id) bs) (encode c)) 5
-    ∷ step (isHeld (bodyWith (c .payload .id) bs) || (ltb (length bs) 64 && leb (length (imageOf (bs ++ (encode c ∷ [])))) room)) 6
+    ∷ step (isSame (bodyWith (c .payload .id) rs) (encode c)) 5
+    ∷ step (isHeld (bodyWith (c .payload .id) rs) || (ltb (length rs) 64 && leb (length (imageOf (rs ++ (rowOf (encode c) ∷ [])))) room)) 6
     ∷ []
 
 -- the number that is answered is that of the first step that fails, or 0
@@ -128,21 +128,21 @@ RefusalKeeps = (d b : List ℕ) (clock verdict : ℕ) (window : Window) → (num
 
 -- so does a repeat: a body is held under the id
 abbrev pub RepeatKeeps : Type 0
-RepeatKeeps = (d b : List ℕ) (clock verdict : ℕ) (window : Window) (bs : List (List ℕ)) (c : List ℕ) → Holds d bs
-    → bodyWith (idOf b) bs ≡ some c
+RepeatKeeps = (d b : List ℕ) (clock verdict : ℕ) (window : Window) (rs : List Row) (c : List ℕ) → Holds d rs
+    → bodyWith (idOf b) rs ≡ some c
     → afterOf d b clock verdict window ≡ d
 
 -- the number that is answered, and the buffer after it
 abbrev pub Gives : List ℕ → List ℕ → ℕ → ℕ → Window → ℕ → List ℕ → Type 0
 Gives d b clock verdict window n after = (numberOf (submitted d b clock verdict window) ≡ n) × (afterOf d b clock verdict window ≡ after)
 
--- the bodies bs with that of the descriptor c added last
-abbrev pub larger : List (List ℕ) → Descriptor → List (List ℕ)
-larger bs c = bs ++ (encode c ∷ [])
+-- the rows with that of the descriptor c added last
+abbrev pub larger : List Row → Descriptor → List Row
+larger rs c = rs ++ (rowOf (encode c) ∷ [])
 
--- the buffer d holds the bodies bs, c is allowed, and the clock is in the key's window
-pub record Ready (d : List ℕ) (bs : List (List ℕ)) (c : Descriptor) (clock : ℕ) (window : Window) : Type 0 where
-  pub holds : Holds d bs
+-- the buffer d holds the rows, c is allowed, and the clock is in the key's window
+pub record Ready (d : List ℕ) (rs : List Row) (c : Descriptor) (clock : ℕ) (window : Window) : Type 0 where
+  pub holds : Holds d rs
   pub allowed : Allowed c
   pub bytes : AreBytes (encode c)
   pub opened : window .from ≤ clock
@@ -151,34 +151,34 @@ pub record Ready (d : List ℕ) (bs : List (List ℕ)) (c : Descriptor) (clock :
 -- Where the signature is good and the steps before pass: if the id is held, the same bytes give 0 and no change, other bytes 5; 6 if 64
 -- rows are held or the larger image exceeds the buffer; else the row and body are added last, and bytes beyond the new end stay.
 pub record LastSteps : Type 0 where
-  pub same-held : (d : List ℕ) (bs : List (List ℕ)) (c : Descriptor) (clock : ℕ) (window : Window)
-      → Ready d bs c clock window → c .payload .notBefore ≤ clock + 86400
-      → bodyWith (c .payload .id) bs ≡ some (encode c)
+  pub same-held : (d : List ℕ) (rs : List Row) (c : Descriptor) (clock : ℕ) (window : Window)
+      → Ready d rs c clock window → c .payload .notBefore ≤ clock + 86400
+      → bodyWith (c .payload .id) rs ≡ some (encode c)
       → Gives d (encode c) clock 0 window 0 d
-  pub other-held : (d : List ℕ) (bs : List (List ℕ)) (c : Descriptor) (clock : ℕ) (window : Window)
-      → Ready d bs c clock window → c .payload .notBefore ≤ clock + 86400
-      → (b : List ℕ) → bodyWith (c .payload .id) bs ≡ some b → (b ≡ encode c → ⊥)
+  pub other-held : (d : List ℕ) (rs : List Row) (c : Descriptor) (clock : ℕ) (window : Window)
+      → Ready d rs c clock window → c .payload .notBefore ≤ clock + 86400
+      → (b : List ℕ) → bodyWith (c .payload .id) rs ≡ some b → (b ≡ encode c → ⊥)
       → Gives d (encode c) clock 0 window 5 d
-  pub no-room : (d : List ℕ) (bs : List (List ℕ)) (c : Descriptor) (clock : ℕ) (window : Window)
-      → Ready d bs c clock window → c .payload .notBefore ≤ clock + 86400
-      → bodyWith (c .payload .id) bs ≡ none → (length bs ≡ 64) ⊎ (length d < length (imageOf (larger bs c)))
+  pub no-room : (d : List ℕ) (rs : List Row) (c : Descriptor) (clock : ℕ) (window : Window)
+      → Ready d rs c clock window → c .payload .notBefore ≤ clock + 86400
+      → bodyWith (c .payload .id) rs ≡ none → (length rs ≡ 64) ⊎ (length d < length (imageOf (larger rs c)))
       → Gives d (encode c) clock 0 window 6 d
-  pub stores : (d : List ℕ) (bs : List (List ℕ)) (c : Descriptor) (clock : ℕ) (window : Window)
-      → Ready d bs c clock window → c .payload .notBefore ≤ clock + 86400
-      → bodyWith (c .payload .id) bs ≡ none → length bs < 64 → length (imageOf (larger bs c)) ≤ length d
-      → Gives d (encode c) clock 0 window 0 (imageOf (larger bs c) ++ drop (length (imageOf (larger bs c))) d)
-      × Holds (afterOf d (encode c) clock 0 window) (larger bs c)
+  pub stores : (d : List ℕ) (rs : List Row) (c : Descriptor) (clock : ℕ) (window : Window)
+      → Ready d rs c clock window → c .payload .notBefore ≤ clock + 86400
+      → bodyWith (c .payload .id) rs ≡ none → length rs < 64 → length (imageOf (larger rs c)) ≤ length d
+      → Gives d (encode c) clock 0 window 0 (imageOf (larger rs c) ++ drop (length (imageOf (larger rs c))) d)
+      × Holds (afterOf d (encode c) clock 0 window) (larger rs c)
 
 -- what was stored is what a lookup then finds
 abbrev pub StoredFound : Type 0
-StoredFound = (d b : List ℕ) (clock verdict : ℕ) (window : Window) (bs : List (List ℕ)) → Holds d bs
+StoredFound = (d b : List ℕ) (clock verdict : ℕ) (window : Window) (rs : List Row) → Holds d rs
     → numberOf (submitted d b clock verdict window) ≡ 0
     → let after = afterOf d b clock verdict window in
     FoundAt after b (numbersOf (findOf after (idOf b)))
 
 -- and every other id is answered what it was answered before, with the same bytes
 abbrev pub OthersFound : Type 0
-OthersFound = (d b : List ℕ) (clock verdict : ℕ) (window : Window) (bs : List (List ℕ)) (id : List ℕ) → Holds d bs → length id ≡ 16
+OthersFound = (d b : List ℕ) (clock verdict : ℕ) (window : Window) (rs : List Row) (id : List ℕ) → Holds d rs → length id ≡ 16
     → (idOf b ≡ id → ⊥)
     → let after = afterOf d b clock verdict window in
     let n = numbersOf (findOf after id) in
@@ -189,17 +189,17 @@ OthersFound = (d b : List ℕ) (clock verdict : ℕ) (window : Window) (bs : Lis
 
 -- not_before = now + 86,400 is stored; one more gives 2
 abbrev pub LeadBoundary : Type 0
-LeadBoundary = (d : List ℕ) (bs : List (List ℕ)) (c : Descriptor) (clock : ℕ) (window : Window) → Ready d bs c clock window
-    → bodyWith (c .payload .id) bs ≡ none → length bs < 64 → length (imageOf (larger bs c)) ≤ length d
+LeadBoundary = (d : List ℕ) (rs : List Row) (c : Descriptor) (clock : ℕ) (window : Window) → Ready d rs c clock window
+    → bodyWith (c .payload .id) rs ≡ none → length rs < 64 → length (imageOf (larger rs c)) ≤ length d
     → (c .payload .notBefore ≡ clock + 86400
-    → (numberOf (submitted d (encode c) clock 0 window) ≡ 0) × Holds (afterOf d (encode c) clock 0 window) (larger bs c))
+    → (numberOf (submitted d (encode c) clock 0 window) ≡ 0) × Holds (afterOf d (encode c) clock 0 window) (larger rs c))
     × (c .payload .notBefore ≡ clock + 86401 → Gives d (encode c) clock 0 window 2 d)
 
 -- the 64th row is stored; the 65th gives 6
 abbrev pub RowBoundary : Type 0
-RowBoundary = (d : List ℕ) (bs : List (List ℕ)) (c : Descriptor) (clock : ℕ) (window : Window) → Ready d bs c clock window
-    → c .payload .notBefore ≤ clock + 86400 → bodyWith (c .payload .id) bs ≡ none → length (imageOf (larger bs c)) ≤ length d
-    → (length bs ≡ 63
-    → (numberOf (submitted d (encode c) clock 0 window) ≡ 0) × Holds (afterOf d (encode c) clock 0 window) (larger bs c)
-    × (length (larger bs c) ≡ 64))
-    × (length bs ≡ 64 → Gives d (encode c) clock 0 window 6 d)
+RowBoundary = (d : List ℕ) (rs : List Row) (c : Descriptor) (clock : ℕ) (window : Window) → Ready d rs c clock window
+    → c .payload .notBefore ≤ clock + 86400 → bodyWith (c .payload .id) rs ≡ none → length (imageOf (larger rs c)) ≤ length d
+    → (length rs ≡ 63
+    → (numberOf (submitted d (encode c) clock 0 window) ≡ 0) × Holds (afterOf d (encode c) clock 0 window) (larger rs c)
+    × (length (larger rs c) ≡ 64))
+    × (length rs ≡ 64 → Gives d (encode c) clock 0 window 6 d)

@@ -12,9 +12,9 @@ use Rattle.steps.specs.Key.{bad, noKey, isVerdict, isThat, keyOpen}
 use Rattle.image.specs.declared.Held.the-variants.{Missing, Body}
 use Rattle.image.specs.declared.Survey.{Survey}
 use Rattle.image.specs.declared.Survey.the-variants.{Sound, Unsound}
-use Rattle.image.specs.Image.{reading, idOf}
+use Rattle.image.specs.Image.{rowOf, reading, idOf}
 use Rattle.image.specs.Check.{isSound, isHeld}
-use Rattle.image.specs.Edition1.{surveyOf, bodiesOf, hasRoom, withBody}
+use Rattle.image.specs.Edition1.{surveyOf, rowsHeld, hasRoom, withBody}
 use Rattle.submission.specs.declared.Submission.{Submission}
 use Rattle.submission.specs.declared.Submission.the-variants as answers
 
@@ -62,7 +62,7 @@ stepsBy d b clock verdict window r v =
     ∷ step (keyOpen window clock) answers.KeyInvalid
     ∷ step (not (isThat verdict bad)) answers.BadSignature
     ∷ step (agrees d b v) answers.Duplicate
-    ∷ step (isHeld v || hasRoom d (bodiesOf d) b) answers.Full
+    ∷ step (isHeld v || hasRoom d (rowsHeld d) (rowOf b)) answers.Full
     ∷ []
 
 -- the steps of a submission of the body b to the image d
@@ -91,7 +91,7 @@ numberOf answers.BadImage = 16
 -- a step refuses or the body is held: the buffer is as it was; else it is the image with the body added last
 abbrev pub afterAnswer : List ℕ → List ℕ → Bool → Submission → List ℕ
 afterAnswer d b true answer = d
-afterAnswer d b false answers.Done = withBody d (bodiesOf d) b
+afterAnswer d b false answers.Done = withBody d (rowsHeld d) (rowOf b)
 afterAnswer d b false answers.Structure = d
 afterAnswer d b false answers.Validity = d
 afterAnswer d b false answers.UnknownIssuer = d

@@ -38,7 +38,8 @@ modes-small : (s : List ℕ) (at : ℕ) → Holds (λ mask n. mask < 16) (modesA
 unfolding modesAt
 modes-small s at =
     holds-bind (CountTo at 1 4) (λ mask n. mask < 16) _ _ (count-bounds s at 4 1 4)
-    (λ c n i. holds-many (λ mask k. mask < 16) (modeAt s) (λ mask k h. holds-of (λ m p. m < 16) (modeAt s mask k) (λ m p e. mode-small s mask k m p h e)) c 0 n (lit< tt))
+    (λ c n i. holds-many (λ mask k. mask < 16) (modeAt s)
+    (λ mask k h. holds-of (λ m p. m < 16) (modeAt s mask k) (λ m p e. mode-small s mask k m p h e)) c 0 n (lit< tt))
 
 -- of a grant
 grant-small : (s : List ℕ) (at : ℕ) → Holds (λ g n. g .mask < 16) (grantAt s at)
@@ -71,7 +72,8 @@ grants-small s at =
     holds-bind (λ g m. g .mask < 16) P _ _ (grant-small s n)
     (λ g m j.
     holds-bind (λ sum k. sum .mask < 16) P _ _
-    (holds-many (λ sum k. sum .mask < 16) (moreAt s (g .pattern .start)) (λ sum k l. more-small s (g .pattern .start) sum k l) (c - 1) _ m j)
+    (holds-many (λ sum k. sum .mask < 16) (moreAt s (g .pattern .start)) (λ sum k l. more-small s (g .pattern .start) sum k l)
+    (c - 1) _ m j)
     (λ sum k l. l)))
 
 -- of an opening
@@ -95,7 +97,8 @@ id-to : (s : List ℕ) (at : ℕ) → Holds (λ c n. c .start + idSize ≤ lengt
 unfolding bytesAt within
 id-to s at =
     holds-bind (SpanTo s at) (λ c n. c .start + idSize ≤ length s) _ _ (spans-end s at 2)
-    (λ c n i. holds-guard (λ c n. c .start + idSize ≤ length s) _ _ (λ t. omega (arith, i .ends, i .fits, leb-true idSize (c .len) (and-left (leb idSize (c .len)) (leb (c .len) idSize) (yes t)))))
+    (λ c n i. holds-guard (λ c n. c .start + idSize ≤ length s) _ _
+    (λ t. omega (arith, i .ends, i .fits, leb-true idSize (c .len) (and-left (leb idSize (c .len)) (leb (c .len) idSize) (yes t)))))
   where
     yes : {b : Bool} → T b → b ≡ true
     yes {b} t = go b t
@@ -114,13 +117,21 @@ unfolding closingAt
 closing-fits s at =
     let P : Closing → ℕ → Type 0 = λ c n. ClosingFits s c in
     holds-bind (WordTo s (at + length kTerminalId) 45) P _ _
-    (holds-guard (WordTo s (at + length kTerminalId) 45) _ _ (λ t. word-bounds isTerminal 45 (λ c e. omega (arith, terminal-length c e)) s (at + length kTerminalId)))
+    (holds-guard (WordTo s (at + length kTerminalId) 45) _ _
+    (λ t. word-bounds isTerminal 45 (λ c e. omega (arith, terminal-length c e)) s (at + length kTerminalId)))
     (λ terminal n i.
-    holds-bind (λ c m. c .start + idSize ≤ length s) P _ _ (holds-guard (λ c m. c .start + idSize ≤ length s) _ _ (λ t. id-to s (n + length kDescriptorId)))
+    holds-bind (λ c m. c .start + idSize ≤ length s) P _ _
+    (holds-guard (λ c m. c .start + idSize ≤ length s) _ _ (λ t. id-to s (n + length kDescriptorId)))
     (λ id m j.
     holds-bind (WordTo s (m + length kSubjectFayId) 40) P _ _
-    (holds-guard (WordTo s (m + length kSubjectFayId) 40) _ _ (λ t. word-bounds isFay 40 (λ c e. omega (arith, fay-length c e)) s (m + length kSubjectFayId)))
-    (λ fay k l. record { id = j; fay = omega (arith, l .0 .ends, l .0 .fits, l .1); terminal = omega (arith, i .0 .ends, i .0 .fits, i .1) })))
+    (holds-guard (WordTo s (m + length kSubjectFayId) 40) _ _
+    (λ t. word-bounds isFay 40 (λ c e. omega (arith, fay-length c e)) s (m + length kSubjectFayId)))
+    (λ fay k l. record {
+      id = j;
+      fay = omega (arith, l .0 .ends, l .0 .fits, l .1);
+      terminal = omega
+          (arith, i .0 .ends, i .0 .fits, i .1);
+    })))
 
 -- what is known of a payload
 abbrev PayloadFits : List ℕ → PayloadSeen → Type 0
@@ -164,7 +175,8 @@ whole-in b (got v n) l h =
 
 answer-in : (b : List ℕ) → AnswerIn b (readOf b)
 unfolding readOf
-answer-in b = by-cond (AnswerIn b) (leb (length b) longest) (λ e. whole-in b (descriptorAt b 0) (leb-true (length b) longest e) (descriptor-fits b 0)) (λ e. tt)
+answer-in b = by-cond (AnswerIn b) (leb (length b) longest)
+    (λ e. whole-in b (descriptorAt b 0) (leb-true (length b) longest e) (descriptor-fits b 0)) (λ e. tt)
 
 -- the fields of equal readings are equal
 read-same : (f g : Fields) → Read f ≡ Read g → f ≡ g

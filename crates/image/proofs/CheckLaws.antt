@@ -131,7 +131,8 @@ module _ (l : Layout) (ok : LayoutOk l) where
   -- The row of a body that stands says where it lies.
   pub stands-says : (s : List ℕ) (seen : List Row) (i at : ℕ) (b : Row) (f : Fields) → at < 4294967296 → Stands s seen i at b f
       → RowSays l ok s (rowPlace l i) at b
-  stands-says s seen i at b f small h = row-says l ok s (rowPlace l i) at b small (omega (arith, read-in (b .body) f (h .reads) .short)) (h .has-row)
+  stands-says s seen i at b f small h = row-says l ok s (rowPlace l i) at b small (omega (arith, read-in (b .body) f (h .reads) .short))
+      (h .has-row)
 
   -- A body that stands with its row passes the check.
   pub row-complete : (s : List ℕ) (seen : List Row) (i at : ℕ) (b : Row) (f : Fields) → at < 4294967296 → Past s seen i
@@ -145,8 +146,15 @@ module _ (l : Layout) (ok : LayoutOk l) where
       let body : part s at (length (b .body)) ≡ b .body = has-part s at (b .body) (h .has-body) in
       let inside : at + length (b .body) ≤ length s = has-fits s at (b .body) (w .filled) (h .has-body) in
       let mine : idOf (b .body) ≡ part s (at + f .id) idSize
-      = id-read (b .body) f (h .reads) ∙ ap (λ (x : List ℕ). part x (f .id) idSize) (sym body) ∙ part-part s at (length (b .body)) (f .id) idSize (w .id) in
+      = id-read (b .body) f (h .reads) ∙ ap (λ (x : List ℕ). part x (f .id) idSize) (sym body) ∙ part-part s at (length (b .body))
+      (f .id) idSize (w .id) in
       let fits : rowFits l s r at f ≡ true
-      = says-fits s r at f (record { id = q .id ∙ mine; offset = q .offset; mask = q .mask ∙ modes-read (b .body) f (h .reads); zeros = q .zeros }) in
+      = says-fits s r at f (record {
+        id = q .id ∙ mine;
+        offset = q .offset;
+        mask = q .mask ∙ modes-read (b .body) f
+            (h .reads);
+        zeros = q .zeros;
+      }) in
       let new : idAmong l s (rowId s r) i ≡ false = p .ids (rowId s r) ∙ ap (λ (x : List ℕ). hasId x seen) (q .id) ∙ h .new in
       rw (q .size, body, h .reads, le-leb (at + length (b .body)) (length s) inside, fits, new)

@@ -48,7 +48,8 @@ use Rattle.image.proofs.StepLaws.{row-next-is, rows-next}
 zero-back : (s : List ℕ) (at i k : ℕ) → numberAt s at (i + k) ≡ 0 → numberAt s at i ≡ 0
 unfolding numberAt
 zero-back s at i zero e = ap (numberAt s at) (sym (add-zero i)) ∙ e
-zero-back s at i (suc k) e = let f : numberAt s at (suc (i + k)) ≡ 0 = sym (ap (numberAt s at) (add-suc i k)) ∙ e in zero-back s at i k (omega arith)
+zero-back s at i (suc k) e = let f : numberAt s at (suc (i + k)) ≡ 0 = sym (ap (numberAt s at) (add-suc i k)) ∙ e in zero-back s at i k
+    (omega arith)
 
 -- No byte is zero.
 pub zero-none : (s : List ℕ) (at : ℕ) → numberAt s at 0 ≡ 0
@@ -65,7 +66,8 @@ pub zero-not : (s : List ℕ) (at i n : ℕ) → i < n → (getD s (at + i) 0 �
 unfolding numberAt
 zero-not s at i n h o =
     let m : n ≡ suc i + (n - suc i) = omega arith in
-    sym (ne-eqb (numberAt s at n) 0 (λ e. let f : numberAt s at (suc i) ≡ 0 = zero-back s at (suc i) (n - suc i) (sym (ap (numberAt s at) m) ∙ e) in o (omega arith)))
+    sym (ne-eqb (numberAt s at n) 0
+    (λ e. let f : numberAt s at (suc i) ≡ 0 = zero-back s at (suc i) (n - suc i) (sym (ap (numberAt s at) m) ∙ e) in o (omega arith)))
 
 -- All bytes are zero.
 pub zero-all : (s : List ℕ) (at i n : ℕ) → i ≤ n → n ≤ i → numberAt s at i ≡ 0 → true ≡ eqb (numberAt s at n) 0
@@ -116,7 +118,8 @@ module _ (l : Layout) where
   -- ---- the header
 
   -- The four tests of the code are those of the header.
-  pub header-is : (s : List ℕ) (a b c d : ℕ) → headerSize ≤ length s → a ≡ numberIn s editionPlace headerWidth → b ≡ numberIn s modesPlace headerWidth
+  pub header-is : (s : List ℕ) (a b c d : ℕ) → headerSize ≤ length s → a ≡ numberIn s editionPlace headerWidth
+      → b ≡ numberIn s modesPlace headerWidth
       → c ≡ numberIn s countPlace headerWidth → d ≡ numberIn s headerZero headerWidth
       → (((eqb a (l .edition) && eqb b modeEdition) && leb c (mostRows l)) && eqb d 0) ≡ headerFits l s
   unfolding headerFits rowCount
@@ -127,7 +130,8 @@ module _ (l : Layout) where
       let fd : d ≡ numberAt s headerZero headerWidth = ed ∙ number-in s headerZero headerWidth (omega arith) (omega arith) in
       and-four (eqb a (l .edition)) (eqb b modeEdition) (leb c (mostRows l)) (eqb d 0)
       ∙ ap₂ (λ (x y : ℕ). eqb x (l .edition) && (eqb y modeEdition && (leb c (mostRows l) && eqb d 0))) fa fb
-      ∙ ap₂ (λ (x y : ℕ). eqb (numberAt s editionPlace headerWidth) (l .edition) && (eqb (numberAt s modesPlace headerWidth) modeEdition && (leb x (mostRows l) && eqb y 0))) fc fd
+      ∙ ap₂ (λ (x y : ℕ). eqb (numberAt s editionPlace headerWidth) (l .edition) &&
+      (eqb (numberAt s modesPlace headerWidth) modeEdition && (leb x (mostRows l) && eqb y 0))) fc fd
 
   -- ---- one row
 
@@ -145,13 +149,13 @@ module _ (l : Layout) where
       → t ≡ eqb (numberAt s (r + zeroPlace) (zeroSize l)) 0 → ((eqb x at && eqb y (f .mask)) && t) ≡ rowFits l s r at f
   unfolding rowFits
   fits-is s r at f b x y t ok h e n ex ey ez =
-      let wide : zeroPlace ≤ rowSize l = ok .wide in
       let fx : x ≡ numberAt s (r + offsetPlace) bodyWidth = ex ∙ number-in s (r + offsetPlace) bodyWidth (omega arith) (omega arith) in
       let fy : y ≡ numberAt s (r + maskPlace) maskWidth = ey ∙ number-in s (r + maskPlace) maskWidth (omega arith) (omega arith) in
       rw (sym (ids-are s r (at + f .id) b e) ∙ not-false b n)
       (and-assoc (eqb x at) (eqb y (f .mask)) t
       ∙ ap₂ (λ (u v : ℕ). eqb u at && (eqb v (f .mask) && t)) fx fy
-      ∙ ap (λ (u : Bool). eqb (numberAt s (r + offsetPlace) bodyWidth) at && (eqb (numberAt s (r + maskPlace) maskWidth) (f .mask) && u)) ez)
+      ∙ ap (λ (u : Bool). eqb (numberAt s (r + offsetPlace) bodyWidth) at &&
+      (eqb (numberAt s (r + maskPlace) maskWidth) (f .mask) && u)) ez)
 
   -- The code compares the id of row i with the id.
   pub id-is : (s id : List ℕ) (i r : ℕ) (b : Bool) → r ≡ rowPlace l i → b ≡ same (take (r + idSize - r) (drop r s)) id
@@ -168,7 +172,6 @@ module _ (l : Layout) where
       → rowAt l s i at ≡ guard (leb (at + n) (length s)) (onRead (reading (part s at n)) (afterRead s i at n))
   unfolding rowAt
   row-long s i r at n ok p h e =
-      let wide : zeroPlace ≤ rowSize l = ok .wide in
       let k : n ≡ rowLength s (rowPlace l i)
       = e ∙ number-in s (r + lengthPlace) bodyWidth (omega arith) (omega arith) ∙ ap (rowLength s) p in
       ap (λ (m : ℕ). guard (leb (at + m) (length s)) (onRead (reading (part s at m)) (afterRead s i at m))) (sym k)
@@ -247,8 +250,15 @@ module _ (l : Layout) where
   unfolding headerFits
   header-few s n b h p t e =
       let y : headerFits l s ≡ true = sym p ∙ not-false b t in
-      let u = and-right (eqb (numberAt s modesPlace headerWidth) modeEdition) (leb (rowCount s) (mostRows l) && eqb (numberAt s headerZero headerWidth) 0) (and-right (eqb (numberAt s editionPlace headerWidth) (l .edition)) _ y) in
-      omega (arith, leb-true (rowCount s) (mostRows l) (and-left (leb (rowCount s) (mostRows l)) (eqb (numberAt s headerZero headerWidth) 0) u), count-is s n h e)
+      let u = and-right (eqb (numberAt s modesPlace headerWidth) modeEdition)
+      (leb (rowCount s) (mostRows l) && eqb (numberAt s headerZero headerWidth) 0)
+      (and-right (eqb (numberAt s editionPlace headerWidth) (l .edition)) _ y) in
+      omega (
+        arith,
+        leb-true (rowCount s) (mostRows l)
+            (and-left (leb (rowCount s) (mostRows l)) (eqb (numberAt s headerZero headerWidth) 0) u),
+        count-is s n h e,
+      )
 
   -- Bytes under a header are not sound.
   pub survey-short : (s id : List ℕ) → length s < headerSize → Unsound ≡ surveyOf l s id

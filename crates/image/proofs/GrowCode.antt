@@ -49,7 +49,8 @@ module _ (l : Layout) where
   pub row-done : (d d₁ d₂ d₃ d₄ d₅ : List ℕ) (r at : ℕ) (b : List ℕ) (id mask : ℕ)
       → d₁ ≡ putAt d r (take (id + idSize - id) (drop id b)) → d₂ ≡ putAt d₁ (r + offsetPlace) (bigEndian bodyWidth at)
       → d₃ ≡ putAt d₂ (r + lengthPlace) (bigEndian bodyWidth (length b))
-      → d₄ ≡ putAt d₃ (r + maskPlace) (bigEndian maskWidth mask) → d₅ ≡ putAt d₄ (r + zeroPlace) (bigEndian (zeroSize l) 0) → d₅ ≡ withRow l d r at b id mask
+      → d₄ ≡ putAt d₃ (r + maskPlace) (bigEndian maskWidth mask) → d₅ ≡ putAt d₄ (r + zeroPlace) (bigEndian (zeroSize l) 0)
+      → d₅ ≡ withRow l d r at b id mask
   unfolding withRow
   row-done d d₁ d₂ d₃ d₄ d₅ r at b id mask e₁ e₂ e₃ e₄ e₅ = rw (e₅, e₄, e₃, e₂, e₁, lent-part b id idSize)
 
@@ -63,7 +64,7 @@ module _ (l : Layout) where
   -- ---- whether it fits
 
   module _ (d : List ℕ) (n end : ℕ) (b : List ℕ) (id : ℕ) where
-    -- There are 64 rows.
+    -- There are the most rows already.
     pub fits-full : mostRows l ≤ n → false ≡ fits l d n end b id
     unfolding fits
     fits-full h = rw (le-ltb n (mostRows l) h)
@@ -85,13 +86,25 @@ module _ (l : Layout) where
           pub fits-outside : length b < id + idSize → false ≡ fits l d n end b id
           unfolding fits
           fits-outside h =
-              rw (lt-ltb n (mostRows l) few, le-leb (rowPlace l n) end after, le-leb (end + rowSize l + length b) (length d) room, lt-leb (id + idSize) (length b) h)
+              rw (
+                lt-ltb n (mostRows l) few,
+                le-leb (rowPlace l n) end after,
+                le-leb (end + rowSize l + length b) (length d) room,
+                lt-leb
+                    (id + idSize) (length b) h,
+              )
 
           -- Else it fits.
           pub fits-all : id + idSize ≤ length b → true ≡ fits l d n end b id
           unfolding fits
           fits-all h =
-              rw (lt-ltb n (mostRows l) few, le-leb (rowPlace l n) end after, le-leb (end + rowSize l + length b) (length d) room, le-leb (id + idSize) (length b) h)
+              rw (
+                lt-ltb n (mostRows l) few,
+                le-leb (rowPlace l n) end after,
+                le-leb (end + rowSize l + length b) (length d) room,
+                le-leb
+                    (id + idSize) (length b) h,
+              )
 
   -- What fits has fewer rows than the most, begins after them, has room, and its id lies in the body.
   pub fits-says : (d : List ℕ) (n end : ℕ) (b : List ℕ) (id : ℕ) (t : Bool) → t ≡ fits l d n end b id → not t ≡ false

@@ -33,7 +33,8 @@ heldAfter hit h at n Validity = h
 -- What is held after bodies that lie back to back from a place on.
 unfoldable pub heldFrom : List ℕ → ℕ → Held → List Row → Held
 heldFrom id at h [] = h
-heldFrom id at h (b ∷ bs) = heldFrom id (at + length (b .body)) (heldAfter (same (idOf (b .body)) id) h at (length (b .body)) (reading (b .body))) bs
+heldFrom id at h (b ∷ bs) = heldFrom id (at + length (b .body))
+    (heldAfter (same (idOf (b .body)) id) h at (length (b .body)) (reading (b .body))) bs
 
 -- What is held of the bodies of an image.
 unfoldable pub heldIn : Layout → List ℕ → List Row → Held
@@ -64,7 +65,8 @@ held-none id at h (b ∷ bs) i =
     passed Validity = refl
 
 -- Where the first body has another id, what is held of the rest is held of all.
-held-rest : (s id : List ℕ) (b : Row) (bs : List Row) (h : Held) → same (idOf (b .body)) id ≡ false → HeldIs s id bs h → HeldIs s id (b ∷ bs) h
+held-rest : (s id : List ℕ) (b : Row) (bs : List Row) (h : Held) → same (idOf (b .body)) id ≡ false → HeldIs s id bs h
+    → HeldIs s id (b ∷ bs) h
 held-rest s id b bs Missing e k = with-rest id b bs e .0 ∙ k
 held-rest s id b bs (Body at len f) e k = record { which = with-rest id b bs e .0 ∙ k .which; inside = k .inside; reads = k .reads }
 
@@ -87,14 +89,17 @@ unfolding heldFrom joined bodyWith
 held-is s id at seen [] a h = refl
 held-is s id at seen (b ∷ bs) a h =
     let r = read-is (b .body) (a .0 .reads) in
-    go (same (idOf (b .body)) id) refl (r .0) (r .1) (held-is s id (at + length (b .body)) (seen ++ (b ∷ [])) bs (a .1) (has-right s at (b .body) (joined bs) h))
+    go (same (idOf (b .body)) id) refl (r .0) (r .1)
+    (held-is s id (at + length (b .body)) (seen ++ (b ∷ [])) bs (a .1) (has-right s at (b .body) (joined bs) h))
   where
-    go : (t : Bool) → same (idOf (b .body)) id ≡ t → (f : Fields) → reading (b .body) ≡ Read f → HeldIs s id bs (heldFrom id (at + length (b .body)) Missing bs)
+    go : (t : Bool) → same (idOf (b .body)) id ≡ t → (f : Fields) → reading (b .body) ≡ Read f
+        → HeldIs s id bs (heldFrom id (at + length (b .body)) Missing bs)
         → HeldIs s id (b ∷ bs) (heldFrom id at Missing (b ∷ bs))
     go true e f i k =
         let m : hasId id (seen ++ (b ∷ [])) ≡ true = has-snoc id seen b ∙ rw e (or-true (hasId id seen)) in
         let w : heldFrom id at Missing (b ∷ bs) ≡ Body at (length (b .body)) f
-        = held-hit id at Missing b bs f true i e ∙ held-none id (at + length (b .body)) (Body at (length (b .body)) f) bs (rest-new id (seen ++ (b ∷ [])) bs (a .1) m) in
+        = held-hit id at Missing b bs f true i e ∙ held-none id (at + length (b .body)) (Body at (length (b .body)) f) bs
+        (rest-new id (seen ++ (b ∷ [])) bs (a .1) m) in
         subst (HeldIs s id (b ∷ bs)) (sym w) (held-first s id at b bs f (has-left s at (b .body) (joined bs) h) i e)
     go false e f i k = subst (HeldIs s id (b ∷ bs)) (sym (held-hit id at Missing b bs f false i e))
         (held-rest s id b bs (heldFrom id (at + length (b .body)) Missing bs) e k)

@@ -1,4 +1,4 @@
--- The statements of specs/Laws.antt at edition 1, each from its law. Assumes nothing.
+-- The statements of specs/Laws.antt, each from its law. Assumes nothing.
 use Rattle.image.specs.Layout.{edition1}
 use Rattle.image.specs.Laws.{ReadIn, ReadNamed, BodyRead, EncodingRead, BodyWithExactly, RowsNamed, SurveyTells, SurveySays}
 use Rattle.image.specs.Laws.{SurveyUnsound, EditionsSurveyed, SurveyInside, BodyAdded, OneMore}
@@ -26,33 +26,33 @@ encoding-read = read.encoding-read
 
 -- ---- the body with an id
 
-pub body-with-exactly : BodyWithExactly edition1
+pub body-with-exactly : BodyWithExactly
 body-with-exactly = place.body-with-exactly edition1
 
-pub rows-named : RowsNamed edition1
+pub rows-named : RowsNamed
 rows-named = survey.rows-named edition1 edition1-ok
 
 -- ---- what a survey says
 
-pub survey-tells : SurveyTells edition1
+pub survey-tells : SurveyTells
 survey-tells = survey.survey-tells edition1 edition1-ok
 
-pub survey-says : SurveySays edition1
+pub survey-says : SurveySays
 survey-says = survey.survey-says edition1 edition1-ok
 
-pub survey-unsound : SurveyUnsound edition1
+pub survey-unsound : SurveyUnsound
 survey-unsound = survey.survey-unsound edition1 edition1-ok
 
-pub editions-surveyed : EditionsSurveyed edition1
+pub editions-surveyed : EditionsSurveyed
 editions-surveyed = survey.editions-surveyed edition1 edition1-ok
 
-pub survey-inside : SurveyInside edition1
+pub survey-inside : SurveyInside
 survey-inside = survey.survey-inside edition1 edition1-ok
 
 -- ---- one body more
 
-pub body-added : BodyAdded edition1
+pub body-added : BodyAdded
 body-added = grow.body-added edition1 edition1-ok
 
-pub one-more : OneMore edition1
+pub one-more : OneMore
 one-more = grow.one-more edition1 edition1-ok

@@ -9,7 +9,7 @@ use Rattle.octets.specs.Bytes.{same}
 use Rattle.octets.specs.Number.{bigEndian}
 use Rattle.exact.specs.Reads.{AllFrom}
 use Rattle.image.specs.Layout.{bodyWidth, maskWidth, edition1, zeroSize, rowPlace}
-use Rattle.image.specs.Image.{Row, rowOf, idOf, modesOf, header, row, rowsOf, joined, imageOf, hasId, BodyOk, seenWith, bodyWith}
+use Rattle.image.specs.Image.{Row, idOf, modesOf, header, row, rowsOf, joined, imageOf, hasId, BodyOk, seenWith, bodyWith}
 use Rattle.image.specs.Promises.{four, LayoutFixed, answerOf, Every, IdsDiffer, HoldsExactly, BodyOfId}
 use Rattle.image.proofs.RowLaws.{id-length, modes-small}
 use Rattle.octets.proofs.Tests.{or-no-left, or-no-right, or-true}
@@ -71,7 +71,8 @@ all-read seen (b ∷ bs) a = (read-zero (b .body) (a .0 .reads), all-read (seen 
 all-differ : (seen bs : List Row) → AllFrom BodyOk seenWith seen bs → IdsDiffer bs
 all-differ seen [] a = tt
 all-differ seen (b ∷ bs) a =
-    let m : hasId (idOf (b .body)) (seen ++ (b ∷ [])) ≡ true = has-snoc (idOf (b .body)) seen b ∙ rw (equal-same (idOf (b .body)) (idOf (b .body)) refl) (or-true (hasId (idOf (b .body)) seen)) in
+    let m : hasId (idOf (b .body)) (seen ++ (b ∷ [])) ≡ true
+    = has-snoc (idOf (b .body)) seen b ∙ rw (equal-same (idOf (b .body)) (idOf (b .body)) refl) (or-true (hasId (idOf (b .body)) seen)) in
     (has-none (idOf (b .body)) bs (rest-new (idOf (b .body)) (seen ++ (b ∷ [])) bs (a .1) m), all-differ (seen ++ (b ∷ [])) bs (a .1))
 
 -- Bodies whose ids are new stay so after a body with another id.
@@ -85,11 +86,15 @@ still-new seen b (c ∷ bs) n o = (
 )
 
 -- Bodies that read with 0, whose ids are new and differ, are allowed one after the other.
-all-from : (seen bs : List Row) → Every (λ b. answerOf (b .body) ≡ 0) bs → IdsDiffer bs → Every (λ c. hasId (idOf (c .body)) seen ≡ false) bs
+all-from : (seen bs : List Row) → Every (λ b. answerOf (b .body) ≡ 0) bs → IdsDiffer bs
+    → Every (λ c. hasId (idOf (c .body)) seen ≡ false) bs
     → AllFrom BodyOk seenWith seen bs
 all-from seen [] r o n = tt
-all-from seen (b ∷ bs) r o n =
-    (record { reads = zero-read (b .body) (r .0); new = n .0 }, all-from (seen ++ (b ∷ [])) bs (r .1) (o .1) (still-new seen b bs (n .1) (o .0)))
+all-from seen (b ∷ bs) r o n = (
+  record { reads = zero-read (b .body) (r .0); new = n .0 },
+  all-from (seen ++ (b ∷ [])) bs (r .1) (o .1)
+      (still-new seen b bs (n .1) (o .0)),
+)
 
 -- At first every id is new.
 all-new : (bs : List Row) → Every (λ c. hasId (idOf (c .body)) [] ≡ false) bs

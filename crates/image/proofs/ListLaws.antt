@@ -87,7 +87,9 @@ with-new id (x ∷ bs) b h e = go (same (idOf (x .body)) id) h (with-new id bs b
 pub with-other : (id : List ℕ) (bs : List Row) (b : Row) → same (idOf (b .body)) id ≡ false → bodyWith id (bs ++ (b ∷ [])) ≡ bodyWith id bs
 unfolding bodyWith
 with-other id [] b e = rw (e, bodyWith)
-with-other id (x ∷ bs) b e = ap (λ (o : Option (List ℕ)). elim (same (idOf (x .body)) id) as (λ t. Option (List ℕ)) [ true ↦ some (x .body) | false ↦ o ]) (with-other id bs b e)
+with-other id (x ∷ bs) b e = ap
+    (λ (o : Option (List ℕ)). elim (same (idOf (x .body)) id) as (λ t. Option (List ℕ)) [ true ↦ some (x .body) | false ↦ o ])
+    (with-other id bs b e)
 
 -- The first body is found by its id.
 pub with-first : (id : List ℕ) (b : Row) (bs : List Row) → same (idOf (b .body)) id ≡ true

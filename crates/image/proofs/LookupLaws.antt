@@ -48,8 +48,11 @@ pub lookup-exactly : LookupExactly
 lookup-exactly = record {
   bad-id = find-bad;
   bad-image = λ s id bytes l n. unsound-16 s id l (survey-unsound s id bytes .1 n);
-  not-held = λ s id bs l h e. ap numbersOf (find-in s id l) ∙ (let w = survey-tells s id bs h in ap (λ (v : Survey). numbersOf (foundIn v)) (w .1) ∙ missing s id bs e (w .0) (w .2));
-  held = λ s id bs b l h e. subst (λ n. FoundAt s b n) (sym (ap numbersOf (find-in s id l))) (let w = survey-tells s id bs h in subst (λ (v : Survey). FoundAt s b (numbersOf (foundIn v))) (sym (w .1)) (found s id bs b e (w .0) (w .2)));
+  not-held = λ s id bs l h e. ap numbersOf (find-in s id l) ∙
+      (let w = survey-tells s id bs h in ap (λ (v : Survey). numbersOf (foundIn v)) (w .1) ∙ missing s id bs e (w .0) (w .2));
+  held = λ s id bs b l h e. subst (λ n. FoundAt s b n) (sym (ap numbersOf (find-in s id l)))
+      (let w = survey-tells s id bs h in subst (λ (v : Survey). FoundAt s b (numbersOf (foundIn v))) (sym (w .1))
+      (found s id bs b e (w .0) (w .2)));
 }
   where
     missing : (s id : List ℕ) (bs : List Row) → bodyWith id bs ≡ none → (h : Held) → HeldIs s id bs h

@@ -48,7 +48,8 @@ module _ (l : Layout) (ok : LayoutOk l) where
   -- Where the pieces of the larger image stand, it stands.
   pub pieces : (d : List ℕ) (bs : List Row) (b : Row) → Has d 0 (header l (length bs + 1))
       → Has d (rowPlace l 0) (rowsOf l (rowPlace l (length bs) + rowSize l) bs)
-      → Has d (rowPlace l (length bs)) (row l (length (imageOf l bs) + rowSize l) b) → Has d (rowPlace l (length bs) + rowSize l) (joined bs)
+      → Has d (rowPlace l (length bs)) (row l (length (imageOf l bs) + rowSize l) b)
+      → Has d (rowPlace l (length bs) + rowSize l) (joined bs)
       → Has d (length (imageOf l bs) + rowSize l) (b .body)
       → Has d 0 (imageOf l (bs ++ (b ∷ [])))
   pieces d bs b h₁ h₂ h₃ h₄ h₅ =
@@ -61,7 +62,8 @@ module _ (l : Layout) (ok : LayoutOk l) where
       let last : Has d (rowPlace l n) (row l (up + length (joined bs)) b) = subst (λ (q : ℕ). Has d (rowPlace l n) (row l q b)) at h₃ in
       let rows : Has d (rowPlace l 0) (rowsOf l up more)
       = subst (Has d (rowPlace l 0)) (sym (rows-snoc l ok up bs b))
-      (has-both d (rowPlace l 0) (length (rowsOf l up bs)) (rowPlace l n) (rowsOf l up bs) (row l (up + length (joined bs)) b) refl (rows-end l ok up bs) h₂ last) in
+      (has-both d (rowPlace l 0) (length (rowsOf l up bs)) (rowPlace l n) (rowsOf l up bs) (row l (up + length (joined bs)) b) refl
+      (rows-end l ok up bs) h₂ last) in
       let bodies : Has d up (joined more)
       = subst (Has d up) (sym (joined-snoc bs b))
       (has-both d up (length (joined bs)) (length (imageOf l bs) + rowSize l) (joined bs) (b .body) refl (sym at) h₄ h₅) in

@@ -1,4 +1,4 @@
--- The body with an id and its place in the list (specs/Laws.antt, `BodyWithExactly`). Assumes nothing.
+-- The body with an id and its place in the list (specs/Laws.antt, `BodyWithExactlyFor`). Assumes nothing.
 use mathlib.Core.Path.{_≡_, refl, sym, ap, _∙_}
 use mathlib.Core.Bool.{Bool, true, false, _||_, false≢true}
 use mathlib.Core.List.{List, [], _∷_, _++_}
@@ -13,7 +13,7 @@ use Rattle.octets.proofs.Tests.{or-true}
 use Rattle.exact.specs.Reads.{AllFrom}
 use Rattle.image.specs.declared.layout.Layout.{Layout}
 use Rattle.image.specs.Image.{Row, rowOf, idOf, hasId, BodyOk, seenWith, bodyWith}
-use Rattle.image.specs.Laws.{BodyWithExactly}
+use Rattle.image.specs.Laws.{BodyWithExactlyFor}
 use Rattle.image.proofs.ListLaws.{has-snoc, rest-new, with-first, with-rest}
 
 -- A body at a place of the list is one of those that have its id.
@@ -29,7 +29,8 @@ place-with : (seen bs : List Row) (i : ℕ) (b : List ℕ) → AllFrom BodyOk se
     → bodyWith (idOf b) bs ≡ some b
 place-with seen [] i b a h e = absurd (omega arith)
 place-with seen (x ∷ bs) zero b a h e = with-first (idOf b) x bs (equal-same (idOf (x .body)) (idOf b) (ap idOf e)) .0 ∙ ap some e
-place-with seen (x ∷ bs) (suc i) b a h e = go (same (idOf (x .body)) (idOf b)) refl (place-with (seen ++ (x ∷ [])) bs i b (a .1) (omega arith) e)
+place-with seen (x ∷ bs) (suc i) b a h e = go (same (idOf (x .body)) (idOf b)) refl
+    (place-with (seen ++ (x ∷ [])) bs i b (a .1) (omega arith) e)
   where
     go : (t : Bool) → same (idOf (x .body)) (idOf b) ≡ t → bodyWith (idOf b) bs ≡ some b → bodyWith (idOf b) (x ∷ bs) ≡ some b
     go true f k =
@@ -45,14 +46,15 @@ unfolding bodyWith
 with-place id [] b e = absurd (none-some b e)
 with-place id (x ∷ bs) b e = go (same (idOf (x .body)) id) refl e (with-place id bs b)
   where
-    go : (t : Bool) → same (idOf (x .body)) id ≡ t → elim t as (λ t. Option (List ℕ)) [ true ↦ some (x .body) | false ↦ bodyWith id bs ] ≡ some b
+    go : (t : Bool) → same (idOf (x .body)) id ≡ t
+        → elim t as (λ t. Option (List ℕ)) [ true ↦ some (x .body) | false ↦ bodyWith id bs ] ≡ some b
         → (bodyWith id bs ≡ some b → (idOf b ≡ id) × ((i : ℕ) × (i < length bs) × (getD bs i (rowOf []) .body ≡ b)))
         → (idOf b ≡ id) × ((i : ℕ) × (i < length (x ∷ bs)) × (getD (x ∷ bs) i (rowOf []) .body ≡ b))
     go true t f k = let y = some-same (x .body) b f in (ap idOf (sym y) ∙ same-equal (idOf (x .body)) id t, (0, omega arith, y))
     go false t f k = let w = k f in (w .0, (suc (w .1 .0), omega (arith, w .1 .1), w .1 .2))
 
--- `BodyWithExactly`.
-pub body-with-exactly : (l : Layout) → BodyWithExactly l
+-- `BodyWithExactlyFor`.
+pub body-with-exactly : (l : Layout) → BodyWithExactlyFor l
 body-with-exactly l id bs b o = (
   with-place id bs b,
   λ w. ap (λ (x : List ℕ). bodyWith x bs) (sym (w .0)) ∙ place-with [] bs (w .1 .0) b (o .each) (w .1 .1) (w .1 .2),

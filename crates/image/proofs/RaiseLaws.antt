@@ -5,7 +5,7 @@ use mathlib.Core.List.{List, [], _∷_, _++_, append-assoc}
 use Prim.Native.Nat.{ℕ, suc, _+_, _≤_, _<_}
 use native.Mathlib.Omega.{arith}
 use lib.ListN.{length, length-append}
-use Rattle.octets.specs.Bytes.{part, Has}
+use Rattle.octets.specs.Bytes.{Has}
 use Rattle.octets.specs.Number.{bigEndian, numberIn}
 use Rattle.octets.proofs.BytesLaws.{has-left, has-fits, has-after, has-both}
 use Rattle.octets.proofs.NumberLaws.{length-bigEndian, number-in, number-of-has}
@@ -36,9 +36,19 @@ put-next d r s t p e h =
     let k : Kept d (over d r s) r (r + length s) = kept-over d r s (omega arith) in
     put-fits (over d r s) p t (omega (arith, k .long)) ∙ ap (λ (q : ℕ). over (over d r s) q t) (sym e) ∙ over-append d r s t (omega arith)
 
--- Five lists one after the other, in two orders of joining.
-five : (a b c d e : List ℕ) → (((a ++ b) ++ c) ++ d) ++ e ≡ a ++ (b ++ (c ++ (d ++ e)))
-five a b c d e = simp append-assoc
+-- Four pieces written one right after the other are the four written together.
+pub put-four : (d : List ℕ) (r p q t : ℕ) (a b c e : List ℕ) → r + length a ≡ p → p + length b ≡ q → q + length c ≡ t
+    → t + length e ≤ length d
+    → putAt (putAt (putAt (putAt d r a) p b) q c) t e ≡ over d r (a ++ (b ++ (c ++ e)))
+put-four d r p q t a b c e f g h room =
+    let whole : ((a ++ b) ++ c) ++ e ≡ a ++ (b ++ (c ++ e)) = simp append-assoc in
+    rw (
+      put-fits d r a (omega arith),
+      put-next d r a b p f (omega arith),
+      put-next d r (a ++ b) c q (omega (arith, length-append a b)) (omega arith),
+      put-next d r ((a ++ b) ++ c) e t (omega (arith, length-append a b, length-append (a ++ b) c)) room,
+    )
+    (ap (over d r) whole)
 
 module _ (l : Layout) (ok : LayoutOk l) where
   -- The offset of a row raised by a row's size: the row of the body that lies so much higher, and no other byte is changed.
@@ -46,11 +56,12 @@ module _ (l : Layout) (ok : LayoutOk l) where
       → Has (putAt d (r + offsetPlace) (bigEndian bodyWidth (numberIn d (r + offsetPlace) bodyWidth + rowSize l))) r (row l (at + rowSize l) b)
       × Kept d (putAt d (r + offsetPlace) (bigEndian bodyWidth (numberIn d (r + offsetPlace) bodyWidth + rowSize l))) r (r + rowSize l)
   row-raised d r at b small h =
-      let wide : zeroPlace ≤ rowSize l = ok .wide in
       let p : RowParts l ok d r at b = row-parts l ok d r at b h in
       let u : length (row l at b) ≡ rowSize l = row-length l ok at b in
       let i : r + rowSize l ≤ length d = omega (arith, has-fits d r (row l at b) (omega arith) h) in
-      let v : numberIn d (r + offsetPlace) bodyWidth ≡ at = number-in d (r + offsetPlace) bodyWidth (omega arith) (omega arith) ∙ number-of-has d (r + offsetPlace) bodyWidth at small (omega arith) (p .offset) in
+      let v : numberIn d (r + offsetPlace) bodyWidth ≡ at
+      = number-in d (r + offsetPlace) bodyWidth (omega arith) (omega arith) ∙ number-of-has d (r + offsetPlace) bodyWidth at small
+      (omega arith) (p .offset) in
       let new : List ℕ = bigEndian bodyWidth (at + rowSize l) in
       let m : length new ≡ bodyWidth = length-bigEndian bodyWidth (at + rowSize l) in
       let fit : (r + offsetPlace) + length new ≤ length d = omega arith in
@@ -65,8 +76,11 @@ module _ (l : Layout) (ok : LayoutOk l) where
       } in
       let e : putAt d (r + offsetPlace) (bigEndian bodyWidth (numberIn d (r + offsetPlace) bodyWidth + rowSize l)) ≡ d′
       = ap (λ (n : ℕ). putAt d (r + offsetPlace) (bigEndian bodyWidth (n + rowSize l))) v ∙ put-fits d (r + offsetPlace) new fit in
-      subst (λ (x : List ℕ). Has x r (row l (at + rowSize l) b) × Kept d x r (r + rowSize l)) (sym e)
-      (parts-row l ok d′ r (at + rowSize l) b q, kept-wide d d′ (r + offsetPlace) ((r + offsetPlace) + length new) r (r + rowSize l) k (omega arith) (omega arith))
+      subst (λ (x : List ℕ). Has x r (row l (at + rowSize l) b) × Kept d x r (r + rowSize l)) (sym e) (
+        parts-row l ok d′ r (at + rowSize l) b q,
+        kept-wide d d′ (r + offsetPlace) ((r + offsetPlace) + length new) r (r + rowSize l) k
+            (omega arith) (omega arith),
+      )
 
   -- The offsets of all rows raised: the rows of the bodies that lie so much higher, and no other byte is changed.
   pub rows-raised : (d : List ℕ) (i at : ℕ) (bs : List Row) → at + length (joined bs) < 4294967296 → Has d (rowPlace l i) (rowsOf l at bs)
@@ -84,11 +98,14 @@ module _ (l : Layout) (ok : LayoutOk l) where
       let short : at + (length (b .body) + length (joined bs)) < 4294967296 = omega (arith, length-append (b .body) (joined bs)) in
       let d′ : List ℕ = putAt d (r + offsetPlace) (bigEndian bodyWidth (numberIn d (r + offsetPlace) bodyWidth + rowSize l)) in
       let x = row-raised d r at b (omega arith) (has-left d r (row l at b) rest h) in
-      let g : Has d′ next rest = kept-has d d′ r (r + rowSize l) next rest (x .1) (omega arith) (has-after d r (rowSize l) next (row l at b) rest (row-length l ok at b) step h) in
+      let g : Has d′ next rest
+      = kept-has d d′ r (r + rowSize l) next rest (x .1) (omega arith)
+      (has-after d r (rowSize l) next (row l at b) rest (row-length l ok at b) step h) in
       let y = rows-raised d′ (i + 1) (at + length (b .body)) bs (omega arith) g in
       let d″ : List ℕ = raised l d′ (length bs) (i + 1) in
       let s : (at + length (b .body)) + rowSize l ≡ (at + rowSize l) + length (b .body) = omega arith in
-      let first : Has d″ r (row l (at + rowSize l) b) = y .1 .before r (row l (at + rowSize l) b) (omega (arith, row-length l ok (at + rowSize l) b)) (x .0) in (
+      let first : Has d″ r (row l (at + rowSize l) b)
+      = y .1 .before r (row l (at + rowSize l) b) (omega (arith, row-length l ok (at + rowSize l) b)) (x .0) in (
         has-both d″ r (rowSize l) next (row l (at + rowSize l) b) (rowsOf l ((at + rowSize l) + length (b .body)) bs)
             (row-length l ok (at + rowSize l) b) step first (subst (λ (n : ℕ). Has d″ next (rowsOf l n bs)) s (y .0)),
         kept-join d d′ d″ r (r + rowSize l) next (rowPlace l ((i + 1) + length bs)) r (rowPlace l (i + suc (length bs))) (x .1) (y .1)
@@ -102,7 +119,6 @@ module _ (l : Layout) (ok : LayoutOk l) where
       → withRow l d r at (b .body) (f .id) (f .mask) ≡ over d r (row l at b)
   unfolding withRow row
   with-row d r at b f e room =
-      let wide : zeroPlace ≤ rowSize l = ok .wide in
       let i : List ℕ = idOf (b .body) in
       let o : List ℕ = bigEndian bodyWidth at in
       let n : List ℕ = bigEndian bodyWidth (length (b .body)) in
@@ -113,16 +129,16 @@ module _ (l : Layout) (ok : LayoutOk l) where
       let ln : length n ≡ bodyWidth = length-bigEndian bodyWidth (length (b .body)) in
       let lm : length m ≡ maskWidth = length-bigEndian maskWidth (modesOf (b .body)) in
       let lz : length z ≡ zeroSize l = length-bigEndian (zeroSize l) 0 in
-      let l₂ : length (i ++ o) ≡ lengthPlace = omega (arith, length-append i o) in
-      let l₃ : length ((i ++ o) ++ n) ≡ maskPlace = omega (arith, length-append (i ++ o) n) in
-      let l₄ : length (((i ++ o) ++ n) ++ m) ≡ zeroPlace = omega (arith, length-append ((i ++ o) ++ n) m) in
-      let e₁ : putAt d r (part (b .body) (f .id) idSize) ≡ over d r i = ap (putAt d r) (sym (id-read (b .body) f e)) ∙ put-fits d r i (omega arith) in
-      let e₂ : putAt (over d r i) (r + offsetPlace) o ≡ over d r (i ++ o) = put-next d r i o (r + offsetPlace) (omega arith) (omega arith) in
-      let e₃ : putAt (over d r (i ++ o)) (r + lengthPlace) n ≡ over d r ((i ++ o) ++ n) = put-next d r (i ++ o) n (r + lengthPlace) (omega arith) (omega arith) in
-      let e₄ : putAt (over d r ((i ++ o) ++ n)) (r + maskPlace) m ≡ over d r (((i ++ o) ++ n) ++ m) = put-next d r ((i ++ o) ++ n) m (r + maskPlace) (omega arith) (omega arith) in
-      let e₅ : putAt (over d r (((i ++ o) ++ n) ++ m)) (r + zeroPlace) z ≡ over d r ((((i ++ o) ++ n) ++ m) ++ z)
-      = put-next d r (((i ++ o) ++ n) ++ m) z (r + zeroPlace) (omega arith) (omega arith) in
-      rw (e₁, e₂, e₃, ← modes-read (b .body) f e, e₄, e₅) (ap (over d r) (five i o n m z))
+      let before : length (i ++ (o ++ (n ++ m))) ≡ zeroPlace
+      = omega (arith, length-append i (o ++ (n ++ m)), length-append o (n ++ m), length-append n m) in
+      let whole : (i ++ (o ++ (n ++ m))) ++ z ≡ row l at b = simp append-assoc in
+      rw (
+        ← id-read (b .body) f e,
+        ← modes-read (b .body) f e,
+        put-four d r (r + offsetPlace) (r + lengthPlace) (r + maskPlace) i o n m (omega arith) (omega arith) (omega arith) (omega arith),
+        put-next d r (i ++ (o ++ (n ++ m))) z (r + zeroPlace) (omega arith) (omega arith),
+      )
+      (ap (over d r) whole)
 
   -- ---- the row count
 

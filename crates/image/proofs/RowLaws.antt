@@ -62,6 +62,11 @@ unfolding joined
 joined-snoc [] b = append-nil (b .body)
 joined-snoc (x ∷ bs) b = ap (λ (m : List ℕ). x .body ++ m) (joined-snoc bs b) ∙ sym (append-assoc (x .body) (joined bs) (b .body))
 
+-- The header has its bytes.
+pub header-length : (l : Layout) (n : ℕ) → length (header l n) ≡ headerSize
+unfolding header
+header-length l n = simp (length-append, length-bigEndian)
+
 -- Zero fits any bytes.
 zero-fits : (w : ℕ) → 0 < 256 ^ w
 zero-fits zero = lit< tt
@@ -70,16 +75,10 @@ zero-fits (suc w) = rw pow-suc (omega (arith, zero-fits w))
 module _ (l : Layout) (ok : LayoutOk l) where
   -- ---- lengths
 
-  -- The header has its bytes.
-  pub header-length : (n : ℕ) → length (header l n) ≡ headerSize
-  unfolding header
-  header-length n = simp (length-append, length-bigEndian)
-
   -- A row has its bytes.
   pub row-length : (at : ℕ) (b : Row) → length (row l at b) ≡ rowSize l
   unfolding row
   row-length at b =
-      let wide : zeroPlace ≤ rowSize l = ok .wide in
       simp (length-append, id-length, length-bigEndian) (omega arith)
 
   -- The rows end where the bodies begin.
@@ -105,7 +104,7 @@ module _ (l : Layout) (ok : LayoutOk l) where
         arith,
         length-append (header l n) (rowsOf l (rowPlace l n) bs ++ joined bs),
         length-append (rowsOf l (rowPlace l n) bs) (joined bs),
-        header-length n,
+        header-length l n,
         rows-end (rowPlace l n) bs,
         place-first l,
       )
@@ -132,7 +131,13 @@ module _ (l : Layout) (ok : LayoutOk l) where
       let h₂ : Has s countPlace (c ++ z) = has-after s modesPlace headerWidth countPlace b (c ++ z) (w modeEdition) refl h₁ in
       let h₃ : Has s headerZero z = has-after s countPlace headerWidth headerZero c z (w n) refl h₂ in (
         omega (arith, has-fits s headerZero z (omega (arith, w 0)) h₃, w 0),
-        record { edition = has-left s 0 a (b ++ (c ++ z)) h; modes = has-left s modesPlace b (c ++ z) h₁; count = has-left s countPlace c z h₂; zeros = h₃ },
+        record {
+          edition = has-left s 0 a (b ++ (c ++ z)) h;
+          modes = has-left s modesPlace b
+              (c ++ z) h₁;
+          count = has-left s countPlace c z h₂;
+          zeros = h₃;
+        },
       )
 
   -- Where they do so the header stands.
@@ -151,8 +156,10 @@ module _ (l : Layout) (ok : LayoutOk l) where
   unfolding rowsOf joined
   rows-snoc at [] b = append-nil (row l at b) ∙ ap (λ (n : ℕ). row l n b) (sym (add-zero at))
   rows-snoc at (x ∷ bs) b =
-      let e : (at + length (x .body)) + length (joined bs) ≡ at + length (x .body ++ joined bs) = omega (arith, length-append (x .body) (joined bs)) in
-      ap (λ (m : List ℕ). row l at x ++ m) (rows-snoc (at + length (x .body)) bs b ∙ ap (λ (n : ℕ). rowsOf l (at + length (x .body)) bs ++ row l n b) e)
+      let e : (at + length (x .body)) + length (joined bs) ≡ at + length (x .body ++ joined bs)
+      = omega (arith, length-append (x .body) (joined bs)) in
+      ap (λ (m : List ℕ). row l at x ++ m)
+      (rows-snoc (at + length (x .body)) bs b ∙ ap (λ (n : ℕ). rowsOf l (at + length (x .body)) bs ++ row l n b) e)
       ∙ sym (append-assoc (row l at x) (rowsOf l (at + length (x .body)) bs) (row l (at + length (x .body ++ joined bs)) b))
 
   -- ---- the fields of a row
@@ -173,10 +180,14 @@ module _ (l : Layout) (ok : LayoutOk l) where
       let m : List ℕ = bigEndian maskWidth (modesOf (b .body)) in
       let n : List ℕ = bigEndian bodyWidth (length (b .body)) in
       let o : List ℕ = bigEndian bodyWidth at in
-      let h₁ : Has s (r + offsetPlace) (o ++ (n ++ (m ++ z))) = has-after s r idSize (r + offsetPlace) (idOf (b .body)) _ (id-length (b .body)) refl h in
-      let h₂ : Has s (r + lengthPlace) (n ++ (m ++ z)) = has-after s (r + offsetPlace) bodyWidth (r + lengthPlace) o _ (length-bigEndian bodyWidth at) (omega arith) h₁ in
-      let h₃ : Has s (r + maskPlace) (m ++ z) = has-after s (r + lengthPlace) bodyWidth (r + maskPlace) n _ (length-bigEndian bodyWidth (length (b .body))) (omega arith) h₂ in
-      let h₄ : Has s (r + zeroPlace) z = has-after s (r + maskPlace) maskWidth (r + zeroPlace) m z (length-bigEndian maskWidth (modesOf (b .body))) (omega arith) h₃ in
+      let h₁ : Has s (r + offsetPlace) (o ++ (n ++ (m ++ z)))
+      = has-after s r idSize (r + offsetPlace) (idOf (b .body)) _ (id-length (b .body)) refl h in
+      let h₂ : Has s (r + lengthPlace) (n ++ (m ++ z))
+      = has-after s (r + offsetPlace) bodyWidth (r + lengthPlace) o _ (length-bigEndian bodyWidth at) (omega arith) h₁ in
+      let h₃ : Has s (r + maskPlace) (m ++ z)
+      = has-after s (r + lengthPlace) bodyWidth (r + maskPlace) n _ (length-bigEndian bodyWidth (length (b .body))) (omega arith) h₂ in
+      let h₄ : Has s (r + zeroPlace) z
+      = has-after s (r + maskPlace) maskWidth (r + zeroPlace) m z (length-bigEndian maskWidth (modesOf (b .body))) (omega arith) h₃ in
       record {
         id = has-left s r (idOf (b .body)) _ h;
         offset = has-left s (r + offsetPlace) o _ h₁;
@@ -190,9 +201,12 @@ module _ (l : Layout) (ok : LayoutOk l) where
   unfolding row
   parts-row s r at b p =
       has-both s r idSize (r + offsetPlace) (idOf (b .body)) _ (id-length (b .body)) refl (p .id)
-      (has-both s (r + offsetPlace) bodyWidth (r + lengthPlace) (bigEndian bodyWidth at) _ (length-bigEndian bodyWidth at) (omega arith) (p .offset)
-      (has-both s (r + lengthPlace) bodyWidth (r + maskPlace) (bigEndian bodyWidth (length (b .body))) _ (length-bigEndian bodyWidth (length (b .body))) (omega arith) (p .size)
-      (has-both s (r + maskPlace) maskWidth (r + zeroPlace) (bigEndian maskWidth (modesOf (b .body))) _ (length-bigEndian maskWidth (modesOf (b .body))) (omega arith) (p .mask) (p .zeros))))
+      (has-both s (r + offsetPlace) bodyWidth (r + lengthPlace) (bigEndian bodyWidth at) _ (length-bigEndian bodyWidth at) (omega arith)
+      (p .offset)
+      (has-both s (r + lengthPlace) bodyWidth (r + maskPlace) (bigEndian bodyWidth (length (b .body))) _
+      (length-bigEndian bodyWidth (length (b .body))) (omega arith) (p .size)
+      (has-both s (r + maskPlace) maskWidth (r + zeroPlace) (bigEndian maskWidth (modesOf (b .body))) _
+      (length-bigEndian maskWidth (modesOf (b .body))) (omega arith) (p .mask) (p .zeros))))
 
   -- What the numbers of the row at r say.
   pub record RowSays (s : List ℕ) (r at : ℕ) (b : Row) : Type 0 where
@@ -204,11 +218,11 @@ module _ (l : Layout) (ok : LayoutOk l) where
     pub zeros : numberAt s (r + zeroPlace) (zeroSize l) ≡ 0
 
   -- The row of a body that lies below 2 ^ 32 and is shorter than that says where it lies and how long it is.
-  pub row-says : (s : List ℕ) (r at : ℕ) (b : Row) → at < 4294967296 → length (b .body) < 4294967296 → Has s r (row l at b) → RowSays s r at b
+  pub row-says : (s : List ℕ) (r at : ℕ) (b : Row) → at < 4294967296 → length (b .body) < 4294967296 → Has s r (row l at b)
+      → RowSays s r at b
   row-says s r at b small short h =
       let p : RowParts s r at b = row-parts s r at b h in
       let m : length (row l at b) ≡ rowSize l = row-length at b in
-      let wide : zeroPlace ≤ rowSize l = ok .wide in
       let i : r + rowSize l ≤ length s = omega (arith, has-fits s r (row l at b) (omega arith) h) in
       record {
         inside = i;
@@ -222,13 +236,15 @@ module _ (l : Layout) (ok : LayoutOk l) where
   -- Bytes of which the numbers say so are the row of the body.
   pub says-row : (s : List ℕ) (r at : ℕ) (b : Row) → AreBytes s → RowSays s r at b → Has s r (row l at b)
   says-row s r at b bytes q =
-      let wide : zeroPlace ≤ rowSize l = ok .wide in
       let i : r + rowSize l ≤ length s = q .inside in
       parts-row s r at b (record {
         id = subst (Has s r) (q .id) (part-has s r idSize (omega arith) .0);
         offset = subst (λ (n : ℕ). Has s (r + offsetPlace) (bigEndian bodyWidth n)) (q .offset)
             (has-of-number s (r + offsetPlace) bodyWidth bytes (omega arith));
-        size = subst (λ (n : ℕ). Has s (r + lengthPlace) (bigEndian bodyWidth n)) (q .size) (has-of-number s (r + lengthPlace) bodyWidth bytes (omega arith));
-        mask = subst (λ (n : ℕ). Has s (r + maskPlace) (bigEndian maskWidth n)) (q .mask) (has-of-number s (r + maskPlace) maskWidth bytes (omega arith));
-        zeros = subst (λ (n : ℕ). Has s (r + zeroPlace) (bigEndian (zeroSize l) n)) (q .zeros) (has-of-number s (r + zeroPlace) (zeroSize l) bytes (omega arith));
+        size = subst (λ (n : ℕ). Has s (r + lengthPlace) (bigEndian bodyWidth n)) (q .size)
+            (has-of-number s (r + lengthPlace) bodyWidth bytes (omega arith));
+        mask = subst (λ (n : ℕ). Has s (r + maskPlace) (bigEndian maskWidth n)) (q .mask)
+            (has-of-number s (r + maskPlace) maskWidth bytes (omega arith));
+        zeros = subst (λ (n : ℕ). Has s (r + zeroPlace) (bigEndian (zeroSize l) n)) (q .zeros)
+            (has-of-number s (r + zeroPlace) (zeroSize l) bytes (omega arith));
       })

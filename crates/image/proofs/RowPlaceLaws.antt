@@ -29,7 +29,7 @@ module _ (l : Layout) where
 
   -- The id of a row ends before a place that is not before the bodies.
   pub row-inside : LayoutOk l → (i n r end : ℕ) → i < n → r ≡ rowPlace l i → rowPlace l n ≤ end → r + idSize ≤ end
-  row-inside ok i n r end h e room = omega (arith, place-order i n h, ok .wide)
+  row-inside ok i n r end h e room = omega (arith, place-order i n h)
 
   -- Every row stands after the header.
   pub place-after : (n : ℕ) → headerSize ≤ rowPlace l n
@@ -39,4 +39,4 @@ module _ (l : Layout) where
   -- The offsets of bodies of at most 32768 bytes each fit 4 bytes.
   pub place-small : LayoutOk l → (n : ℕ) → n ≤ mostRows l → rowPlace l n + 32768 * n < 4294967296
   unfolding rowPlace
-  place-small ok n h = omega (arith, mul-le-mul-right n (ok .narrow), ok .few)
+  place-small ok n h = omega (arith, mul-le-mul-right n (ok .narrow))

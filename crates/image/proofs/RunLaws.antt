@@ -66,7 +66,8 @@ module _ (l : Layout) (ok : LayoutOk l) where
   unfolding rowsOf joined
   run-rest s seen i at b bs g = record {
     each = g .each .1;
-    has-rows = has-after s (rowPlace l i) (rowSize l) (rowPlace l (i + 1)) (row l at b) (rowsOf l (at + length (b .body)) bs) (row-length l ok at b) (sym (place-next l i))
+    has-rows = has-after s (rowPlace l i) (rowSize l) (rowPlace l (i + 1)) (row l at b) (rowsOf l (at + length (b .body)) bs)
+        (row-length l ok at b) (sym (place-next l i))
         (g .has-rows);
     has-bodies = has-right s at (b .body) (joined bs) (g .has-bodies);
   }
@@ -77,7 +78,8 @@ module _ (l : Layout) (ok : LayoutOk l) where
   unfolding rowsOf joined
   run-more s seen i at b f bs h g = record {
     each = (record { reads = is-read (b .body) f (h .reads); new = h .new }, g .each);
-    has-rows = has-both s (rowPlace l i) (rowSize l) (rowPlace l (i + 1)) (row l at b) (rowsOf l (at + length (b .body)) bs) (row-length l ok at b) (sym (place-next l i))
+    has-rows = has-both s (rowPlace l i) (rowSize l) (rowPlace l (i + 1)) (row l at b) (rowsOf l (at + length (b .body)) bs)
+        (row-length l ok at b) (sym (place-next l i))
         (h .has-row) (g .has-rows);
     has-bodies = has-join s at (b .body) (joined bs) (h .has-body) (g .has-bodies);
   }
@@ -88,7 +90,8 @@ module _ (l : Layout) (ok : LayoutOk l) where
   row-names : (s : List ℕ) (seen : List Row) (i at : ℕ) (b : Row) (f : Fields) → Stands l ok s seen i at b f
       → rowId s (rowPlace l i) ≡ idOf (b .body)
   row-names s seen i at b f h =
-      ap (part s (rowPlace l i)) (sym (id-length (b .body))) ∙ has-part s (rowPlace l i) (idOf (b .body)) (row-parts l ok s (rowPlace l i) at b (h .has-row) .id)
+      ap (part s (rowPlace l i)) (sym (id-length (b .body))) ∙ has-part s (rowPlace l i) (idOf (b .body))
+      (row-parts l ok s (rowPlace l i) at b (h .has-row) .id)
 
   -- k rows that pass the check are those of k bodies that stand.
   pub rows-sound : (s id : List ℕ) → AreBytes s → (k : ℕ) (seen : List Row) (i at end : ℕ) (h h′ : Held) → Past l ok s seen i
@@ -96,7 +99,8 @@ module _ (l : Layout) (ok : LayoutOk l) where
       → got h′ end ≡ rowsFrom l s id k i at h
       → (bs : List Row) × (length bs ≡ k) × Run s seen i at bs × (end ≡ at + length (joined bs))
   unfolding rowsFrom joined
-  rows-sound s id bytes zero seen i at end h h′ p n all room e = ([], refl, run-none s seen i at, place-same h′ h end at e ∙ sym (add-zero at))
+  rows-sound s id bytes zero seen i at end h h′ p n all room e =
+      ([], refl, run-none s seen i at, place-same h′ h end at e ∙ sym (add-zero at))
   rows-sound s id bytes (suc k) seen i at end h h′ p n all room e =
       let o = bind-is (rowAt l s i at) _ h′ end e in
       let f : Fields = o .0 in
@@ -105,9 +109,11 @@ module _ (l : Layout) (ok : LayoutOk l) where
       let b : Row = x .0 in
       let w : Stands l ok s seen i at b f = x .1 in
       let mine : rowId s (rowPlace l i) ≡ idOf (b .body) = row-names s seen i at b f w in
-      let y = rows-sound s id bytes k (seen ++ (b ∷ [])) (i + 1) next end _ h′ (past-more l ok s seen i b p mine) n (omega arith) room (o .3) in
+      let y = rows-sound s id bytes k (seen ++ (b ∷ [])) (i + 1) next end _ h′ (past-more l ok s seen i b p mine) n (omega arith) room
+      (o .3) in
       let bs : List Row = y .0 in
-      let g : Run s (seen ++ (b ∷ [])) (i + 1) (at + length (b .body)) bs = subst (λ (a : ℕ). Run s (seen ++ (b ∷ [])) (i + 1) a bs) (x .2) (y .2) in
+      let g : Run s (seen ++ (b ∷ [])) (i + 1) (at + length (b .body)) bs
+      = subst (λ (a : ℕ). Run s (seen ++ (b ∷ [])) (i + 1) a bs) (x .2) (y .2) in
       (b ∷ bs, omega (arith, y .1), run-more s seen i at b f bs w g, omega (arith, x .2, y .3, length-append (b .body) (joined bs)))
 
   -- ---- from the bodies to the check
@@ -125,13 +131,15 @@ module _ (l : Layout) (ok : LayoutOk l) where
       let q : RowSays l ok s (rowPlace l i) at b = stands-says l ok s seen i at b f (omega arith) w in
       let short : length (b .body) ≤ 32768 = read-in (b .body) f (w .reads) .short in
       let next : ℕ = at + length (b .body) in
-      let held : noted (same (rowId s (rowPlace l i)) id) h at (rowLength s (rowPlace l i)) f ≡ heldAfter (same (idOf (b .body)) id) h at (length (b .body)) (reading (b .body))
+      let held : noted (same (rowId s (rowPlace l i)) id) h at (rowLength s (rowPlace l i)) f ≡ heldAfter (same (idOf (b .body)) id) h at
+      (length (b .body)) (reading (b .body))
       = ap₂ (λ (y : List ℕ) (n : ℕ). noted (same y id) h at n f) (q .id) (q .size)
       ∙ ap (heldAfter (same (idOf (b .body)) id) h at (length (b .body))) (sym (w .reads)) in
       let end : next + length (joined bs) ≡ at + length (b .body ++ joined bs) = omega (arith, length-append (b .body) (joined bs)) in
       bind-got (rowAt l s i at) _ f next (row-complete l ok s seen i at b f (omega arith) p w)
       ∙ ap (rowsFrom l s id (length bs) (i + 1) next) held
-      ∙ rows-complete s id bs (seen ++ (b ∷ [])) (i + 1) next _ (omega arith) (past-more l ok s seen i b p (q .id)) (run-rest s seen i at b bs g)
+      ∙ rows-complete s id bs (seen ++ (b ∷ [])) (i + 1) next _ (omega arith) (past-more l ok s seen i b p (q .id))
+      (run-rest s seen i at b bs g)
       ∙ ap (got (heldFrom id at h (b ∷ bs))) end
 
   -- The parts that the rows of bodies that stand name are the bodies.
@@ -144,5 +152,7 @@ module _ (l : Layout) (ok : LayoutOk l) where
       let w : Stands l ok s seen i at b (x .0) = x .1 in
       let q : RowSays l ok s (rowPlace l i) at b = stands-says l ok s seen i at b (x .0) (omega arith) w in
       let short : length (b .body) ≤ 32768 = read-in (b .body) (x .0) (w .reads) .short in
-      let e : part s (rowOffset s (rowPlace l i)) (rowLength s (rowPlace l i)) ≡ b .body = ap₂ (part s) (q .offset) (q .size) ∙ has-part s at (b .body) (w .has-body) in
-      ap₂ (λ (y : List ℕ) (ys : List Row). rowOf y ∷ ys) e (rows-bodies s bs (seen ++ (b ∷ [])) (i + 1) (at + length (b .body)) (omega arith) (run-rest s seen i at b bs g))
+      let e : part s (rowOffset s (rowPlace l i)) (rowLength s (rowPlace l i)) ≡ b .body
+      = ap₂ (part s) (q .offset) (q .size) ∙ has-part s at (b .body) (w .has-body) in
+      ap₂ (λ (y : List ℕ) (ys : List Row). rowOf y ∷ ys) e
+      (rows-bodies s bs (seen ++ (b ∷ [])) (i + 1) (at + length (b .body)) (omega arith) (run-rest s seen i at b bs g))

@@ -56,7 +56,8 @@ module _ (l : Layout) (ok : LayoutOk l) where
   pub says-header : (s : List ℕ) (n : ℕ) → AreBytes s → HeaderSays s n → Has s 0 (header l n)
   says-header s n bytes q =
       let inside : headerSize ≤ length s = q .inside in
-      let number : (at m : ℕ) → at + headerWidth ≤ length s → numberAt s at headerWidth ≡ m → Has s at (bigEndian headerWidth m) = λ at m i e.
+      let number : (at m : ℕ) → at + headerWidth ≤ length s → numberAt s at headerWidth ≡ m → Has s at (bigEndian headerWidth m)
+      = λ at m i e.
       subst (λ (k : ℕ). Has s at (bigEndian headerWidth k)) e (has-of-number s at headerWidth bytes i) in
       parts-header l ok s n (record {
         edition = number editionPlace (l .edition) (omega arith) (q .edition);
@@ -120,7 +121,7 @@ module _ (l : Layout) (ok : LayoutOk l) where
       let rows : List ℕ = rowsOf l (rowPlace l n) bs in
       let w : Has s 0 (header l n ++ (rows ++ joined bs)) = holds-has s bs h in
       let r : Has s (rowPlace l 0) (rows ++ joined bs)
-      = has-after s 0 headerSize (rowPlace l 0) (header l n) (rows ++ joined bs) (header-length l ok n) (sym (place-first l)) w in
+      = has-after s 0 headerSize (rowPlace l 0) (header l n) (rows ++ joined bs) (header-length l n) (sym (place-first l)) w in
       record {
         has-header = has-left s 0 (header l n) (rows ++ joined bs) w;
         has-rows = has-left s (rowPlace l 0) rows (joined bs) r;
@@ -133,8 +134,9 @@ module _ (l : Layout) (ok : LayoutOk l) where
   run-whole s bs w =
       let n : ℕ = length bs in
       let rows : List ℕ = rowsOf l (rowPlace l n) bs in
-      has-both s 0 headerSize (rowPlace l 0) (header l n) (rows ++ joined bs) (header-length l ok n) (sym (place-first l)) (w .has-header)
-      (has-both s (rowPlace l 0) (length rows) (rowPlace l n) rows (joined bs) refl (rows-end l ok (rowPlace l n) bs) (w .has-rows) (w .has-bodies))
+      has-both s 0 headerSize (rowPlace l 0) (header l n) (rows ++ joined bs) (header-length l n) (sym (place-first l)) (w .has-header)
+      (has-both s (rowPlace l 0) (length rows) (rowPlace l n) rows (joined bs) refl (rows-end l ok (rowPlace l n) bs) (w .has-rows)
+      (w .has-bodies))
 
   -- The rows and the bodies of an image that s begins with stand.
   pub holds-run : (s : List ℕ) (bs : List Row) → Holds l s bs → Run l ok s [] 0 (rowPlace l (length bs)) bs
@@ -142,7 +144,8 @@ module _ (l : Layout) (ok : LayoutOk l) where
 
   -- An image that s begins with lies within s.
   pub holds-room : (s : List ℕ) (bs : List Row) → Holds l s bs → length (imageOf l bs) ≤ length s
-  holds-room s bs h = omega (arith, has-fits s 0 (imageOf l bs) (omega (arith, image-length l ok bs, place-after l (length bs))) (holds-has s bs h))
+  holds-room s bs h = omega
+      (arith, has-fits s 0 (imageOf l bs) (omega (arith, image-length l ok bs, place-after l (length bs))) (holds-has s bs h))
 
   -- Its header says how many bodies it has.
   pub holds-says : (s : List ℕ) (bs : List Row) → Holds l s bs → HeaderSays s (length bs)
@@ -164,7 +167,8 @@ module _ (l : Layout) (ok : LayoutOk l) where
       let q : HeaderSays s n = holds-says s bs h in
       let room : rowPlace l n ≤ length s = omega (arith, holds-room s bs h, image-length l ok bs) in
       rw (count-of s bs h, le-leb headerSize (length s) (q .inside), says-fits s n few q, le-leb (rowPlace l n) (length s) room)
-      (rows-complete l ok s id bs [] 0 (rowPlace l n) Missing (place-small l ok n few) (past-none l ok s) (holds-run s bs h) ∙ ap (got (heldFrom id (rowPlace l n) Missing bs)) (sym (image-length l ok bs)))
+      (rows-complete l ok s id bs [] 0 (rowPlace l n) Missing (place-small l ok n few) (past-none l ok s) (holds-run s bs h) ∙ ap
+      (got (heldFrom id (rowPlace l n) Missing bs)) (sym (image-length l ok bs)))
 
   -- What a check that passes says before the rows.
   pub record Checked (s id : List ℕ) (h : Held) (end : ℕ) : Type 0 where
@@ -215,4 +219,5 @@ module _ (l : Layout) (ok : LayoutOk l) where
   unfolding rowsHeld
   holds-bodies s bs h =
       let few : length bs ≤ mostRows l = h .rows .few in
-      ap (λ (n : ℕ). rowsHeldFrom l s n 0) (count-of s bs h) ∙ rows-bodies l ok s bs [] 0 (rowPlace l (length bs)) (place-small l ok (length bs) few) (holds-run s bs h)
+      ap (λ (n : ℕ). rowsHeldFrom l s n 0) (count-of s bs h) ∙ rows-bodies l ok s bs [] 0 (rowPlace l (length bs))
+      (place-small l ok (length bs) few) (holds-run s bs h)

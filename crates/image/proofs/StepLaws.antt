@@ -121,7 +121,8 @@ module _ (l : Layout) where
   hit-suc s id j e = rw (e, idAmong)
 
   -- Where the last row has another id, the rows before it count.
-  pub among-next : (s id : List ℕ) (i : ℕ) → 0 < i → same (rowId s (rowPlace l (i - 1))) id ≡ false → idAmong l s id i ≡ idAmong l s id (i - 1)
+  pub among-next : (s id : List ℕ) (i : ℕ) → 0 < i → same (rowId s (rowPlace l (i - 1))) id ≡ false
+      → idAmong l s id i ≡ idAmong l s id (i - 1)
   among-next s id i m e =
       let k : i ≡ suc (i - 1) = omega arith in
       ap (idAmong l s id) k ∙ among-suc s id (i - 1) e

@@ -15,8 +15,8 @@ use Rattle.image.specs.declared.layout.Layout.{Layout}
 use Rattle.image.specs.Layout.{rowPlace, LayoutOk}
 use Rattle.image.specs.Image.{Row, imageOf, Holds}
 use Rattle.image.specs.Check.{rowCount, checked, surveyed, surveyOf, isSound, rowsHeld}
-use Rattle.image.specs.Laws.{HeldIs, SurveyTells, Surveyed, SurveySays, SurveyUnsound, HeldFits, SurveyFits, SurveyInside}
-use Rattle.image.specs.Laws.{RowsNamed, EditionsSurveyed}
+use Rattle.image.specs.Laws.{HeldIs, SurveyTellsFor, Surveyed, SurveySaysFor, SurveyUnsoundFor, HeldFits, SurveyFits, SurveyInsideFor}
+use Rattle.image.specs.Laws.{RowsNamedFor, EditionsSurveyedFor}
 use Rattle.image.proofs.HeldLaws.{heldIn, held-is}
 use Rattle.image.proofs.RunLaws.{Run}
 use Rattle.image.proofs.SoundLaws.{HeaderSays, fits-says, holds-run, holds-room, count-of, check-complete, Checked, check-is}
@@ -28,11 +28,12 @@ module _ (l : Layout) (ok : LayoutOk l) where
   -- What is held of the bodies of an image that s begins with is the body with the id.
   pub held-in : (s id : List ℕ) (bs : List Row) → Holds l s bs → HeldIs s id bs (heldIn l id bs)
   unfolding heldIn
-  held-in s id bs h = let g : Run l ok s [] 0 (rowPlace l (length bs)) bs = holds-run l ok s bs h in held-is s id (rowPlace l (length bs)) [] bs
+  held-in s id bs h = let g : Run l ok s [] 0 (rowPlace l (length bs)) bs = holds-run l ok s bs h in held-is s id
+      (rowPlace l (length bs)) [] bs
       (g .each) (g .has-bodies)
 
-  -- `SurveyTells`.
-  pub survey-tells : SurveyTells l
+  -- `SurveyTellsFor`.
+  pub survey-tells : SurveyTellsFor l
   unfolding surveyOf
   survey-tells s id bs h = (heldIn l id bs, rw (check-complete l ok s id bs h, count-of l ok s bs h), held-in s id bs h)
 
@@ -40,8 +41,8 @@ module _ (l : Layout) (ok : LayoutOk l) where
   held-same : (n n′ end end′ : ℕ) (h h′ : Held) → Sound n end h ≡ Sound n′ end′ h′ → h ≡ h′
   held-same n n′ end end′ h h′ e = cc
 
-  -- `SurveySays`.
-  pub survey-says : SurveySays l
+  -- `SurveySaysFor`.
+  pub survey-says : SurveySaysFor l
   unfolding surveyOf
   survey-says s id bytes n end h e = go (checked l s id) refl e
     where
@@ -57,7 +58,8 @@ module _ (l : Layout) (ok : LayoutOk l) where
             holds = x;
             rows = sym a ∙ count-of l ok s (rowsHeld l s) x;
             ends = sym b ∙ k .2 ∙ ap (λ (bs : List Row). length (imageOf l bs)) (sym q);
-            held = subst (HeldIs s id (rowsHeld l s)) (held-same (length (rowsHeld l s)) n (length (imageOf l (rowsHeld l s))) end (w .0) h (sym (w .1) ∙ e)) (w .2);
+            held = subst (HeldIs s id (rowsHeld l s))
+                (held-same (length (rowsHeld l s)) n (length (imageOf l (rowsHeld l s))) end (w .0) h (sym (w .1) ∙ e)) (w .2);
           }
       go refused c f = absurd (let z : _≡_ {A = ℕ} 0 1 = cc in omega arith)
 
@@ -65,8 +67,8 @@ module _ (l : Layout) (ok : LayoutOk l) where
   sound-other : (n end : ℕ) (h : Held) → Sound n end h ≡ Unsound → ⊥
   sound-other n end h e = false≢true (sym (ap isSound e))
 
-  -- `SurveyUnsound`.
-  pub survey-unsound : SurveyUnsound l
+  -- `SurveyUnsoundFor`.
+  pub survey-unsound : SurveyUnsoundFor l
   survey-unsound s id bytes = (
     λ e bs h. let w = survey-tells s id bs h in sound-other (length bs) (length (imageOf l bs)) (w .0) (sym (w .1) ∙ e),
     λ n. go n (surveyOf l s id) refl,
@@ -76,8 +78,8 @@ module _ (l : Layout) (ok : LayoutOk l) where
       go n (Sound k end h) e = absurd (n (rowsHeld l s) (survey-says s id bytes k end h e .holds))
       go n Unsound e = refl
 
-  -- `SurveyInside`.
-  pub survey-inside : SurveyInside l
+  -- `SurveyInsideFor`.
+  pub survey-inside : SurveyInsideFor l
   survey-inside s id bytes = go (surveyOf l s id) refl
     where
       fits : (h : Held) → HeldIs s id (rowsHeld l s) h → HeldFits s h
@@ -92,16 +94,16 @@ module _ (l : Layout) (ok : LayoutOk l) where
 
   -- ---- which bodies are held
 
-  -- `RowsNamed`.
-  pub rows-named : RowsNamed l
+  -- `RowsNamedFor`.
+  pub rows-named : RowsNamedFor l
   rows-named s bs h = holds-bodies l ok s bs h
 
   -- A buffer holds one list of bodies.
   pub bodies-once : (s : List ℕ) (bs cs : List Row) → Holds l s bs → Holds l s cs → bs ≡ cs
   bodies-once s bs cs h k = sym (rows-named s bs h) ∙ rows-named s cs k
 
-  -- `EditionsSurveyed`.
-  pub editions-surveyed : EditionsSurveyed l
+  -- `EditionsSurveyedFor`.
+  pub editions-surveyed : EditionsSurveyedFor l
   unfolding surveyOf
   editions-surveyed s id other = go (checked l s id) refl
     where

@@ -1,4 +1,5 @@
--- The image of edition 1: what depends on the edition, at its layout. It is what the promises and the crates above name.
+-- Edition 1: each definition that depends on the edition, under its own name, at the layout of edition 1. A reader of the promises does
+-- not need this page: they have the numbers.
 use mathlib.Core.Bool.{Bool}
 use mathlib.Core.List.{List}
 use Prim.Native.Nat.{ℕ}

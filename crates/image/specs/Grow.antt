@@ -45,8 +45,8 @@ grown l d n end b id mask =
 
 -- ---- what is answered
 
--- fewer rows than the most are held, whose bodies begin after them and end at `end`; the larger image does not exceed the buffer; and the id
--- lies in the body
+-- fewer rows are held than there may be, whose bodies begin after them and end at `end`; the larger image does not exceed the buffer; and
+-- the id lies in the body
 unfoldable pub fits : Layout → List ℕ → ℕ → ℕ → List ℕ → ℕ → Bool
 fits l d n end b id =
     ltb n (mostRows l)

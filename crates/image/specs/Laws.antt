@@ -1,4 +1,4 @@
--- What the crates above stand on, in the code's own answers; proofs/Laws.antt has it at edition 1. A reader of the promises does not
+-- What the crates above stand on, in the code's own answers: for a layout, and at the end at edition 1. A reader of the promises does not
 -- need this page.
 use mathlib.Core.Path.{_≡_}
 use mathlib.Core.Logic.{_↔_, _⊎_}
@@ -20,7 +20,7 @@ use Rattle.image.specs.declared.Survey.{Survey}
 use Rattle.image.specs.declared.Survey.the-variants.{Sound, Unsound}
 use Rattle.image.specs.declared.Added.the-variants.{Done, Full}
 use Rattle.image.specs.declared.layout.Layout.{Layout}
-use Rattle.image.specs.Layout.{modeEdition, headerWidth, editionPlace, modesPlace, idSize}
+use Rattle.image.specs.Layout.{modeEdition, headerWidth, editionPlace, modesPlace, idSize, edition1}
 use Rattle.image.specs.Image.{Row, rowOf, reading, isRead, idOf, modesOf, imageOf, RowsOk, Holds, bodyWith}
 use Rattle.image.specs.Check.{surveyOf, rowsHeld}
 use Rattle.image.specs.Grow.{addedOf, afterAdd, hasRoom, withBody}
@@ -57,13 +57,13 @@ EncodingRead = (d : Descriptor) → AreBytes (encode d) → Allowed d
 -- ---- the body with an id
 
 -- the body that has an id is that of a row in the list, and has it
-abbrev pub BodyWithExactly : Layout → Type 0
-BodyWithExactly l = (id : List ℕ) (rs : List Row) (b : List ℕ) → RowsOk l rs
+abbrev pub BodyWithExactlyFor : Layout → Type 0
+BodyWithExactlyFor l = (id : List ℕ) (rs : List Row) (b : List ℕ) → RowsOk l rs
     → (bodyWith id rs ≡ some b) ↔ ((idOf b ≡ id) × ((i : ℕ) × (i < length rs) × (getD rs i (rowOf []) .body ≡ b)))
 
 -- the rows that a buffer holds are those that stand in it
-abbrev pub RowsNamed : Layout → Type 0
-RowsNamed l = (s : List ℕ) (rs : List Row) → Holds l s rs → rowsHeld l s ≡ rs
+abbrev pub RowsNamedFor : Layout → Type 0
+RowsNamedFor l = (s : List ℕ) (rs : List Row) → Holds l s rs → rowsHeld l s ≡ rs
 
 -- ---- what a survey says
 
@@ -79,8 +79,8 @@ HeldIs s id rs Missing = bodyWith id rs ≡ none
 HeldIs s id rs (Body at len f) = HeldBody s id rs at len f
 
 -- the survey of an image says how many rows it has, where it ends, and which body has the id
-abbrev pub SurveyTells : Layout → Type 0
-SurveyTells l = (s id : List ℕ) (rs : List Row) → Holds l s rs
+abbrev pub SurveyTellsFor : Layout → Type 0
+SurveyTellsFor l = (s id : List ℕ) (rs : List Row) → Holds l s rs
     → (h : Held) × (surveyOf l s id ≡ Sound (length rs) (length (imageOf l rs)) h) × HeldIs s id rs h
 
 -- what is so of an image that a survey calls sound
@@ -91,16 +91,18 @@ pub record Surveyed (l : Layout) (s id : List ℕ) (n end : ℕ) (h : Held) : Ty
   pub held : HeldIs s id (rowsHeld l s) h
 
 -- bytes that a survey calls sound hold the rows that stand in them, and what it says of them is so
-abbrev pub SurveySays : Layout → Type 0
-SurveySays l = (s id : List ℕ) → AreBytes s → (n end : ℕ) (h : Held) → surveyOf l s id ≡ Sound n end h → Surveyed l s id n end h
+abbrev pub SurveySaysFor : Layout → Type 0
+SurveySaysFor l = (s id : List ℕ) → AreBytes s → (n end : ℕ) (h : Held) → surveyOf l s id ≡ Sound n end h → Surveyed l s id n end h
 
 -- bytes that a survey calls unsound hold no list of rows
-abbrev pub SurveyUnsound : Layout → Type 0
-SurveyUnsound l = (s id : List ℕ) → AreBytes s → (surveyOf l s id ≡ Unsound) ↔ ((rs : List Row) → Holds l s rs → ⊥)
+abbrev pub SurveyUnsoundFor : Layout → Type 0
+SurveyUnsoundFor l = (s id : List ℕ) → AreBytes s → (surveyOf l s id ≡ Unsound) ↔ ((rs : List Row) → Holds l s rs → ⊥)
 
 -- a survey calls an image of other editions unsound
-abbrev pub EditionsSurveyed : Layout → Type 0
-EditionsSurveyed l = (s id : List ℕ) → (numberAt s editionPlace headerWidth ≡ l .edition → ⊥) ⊎ (numberAt s modesPlace headerWidth ≡ modeEdition → ⊥) → surveyOf l s id ≡ Unsound
+abbrev pub EditionsSurveyedFor : Layout → Type 0
+EditionsSurveyedFor l = (s id : List ℕ)
+    → (numberAt s editionPlace headerWidth ≡ l .edition → ⊥) ⊎ (numberAt s modesPlace headerWidth ≡ modeEdition → ⊥)
+    → surveyOf l s id ≡ Unsound
 
 -- the body that is held lies in the image, and its fields are those that were read of it
 abbrev pub HeldFits : List ℕ → Held → Type 0
@@ -113,23 +115,52 @@ SurveyFits s (Sound n end h) = (end ≤ length s) × HeldFits s h
 SurveyFits s Unsound = Unit {0}
 
 -- the places that a survey answers lie in the image
-abbrev pub SurveyInside : Layout → Type 0
-SurveyInside l = (s id : List ℕ) → AreBytes s → SurveyFits s (surveyOf l s id)
+abbrev pub SurveyInsideFor : Layout → Type 0
+SurveyInsideFor l = (s id : List ℕ) → AreBytes s → SurveyFits s (surveyOf l s id)
 
 -- ---- one body more
 
 -- A body that reads is added to a buffer that holds rows exactly where there is room for it; the buffer is then the image of the rows and
 -- the new one, and beyond it what stood there. Else no byte is changed.
-abbrev pub BodyAdded : Layout → Type 0
-BodyAdded l = (d : List ℕ) (rs : List Row) (r : Row) (f : Fields) → Holds l d rs → reading (r .body) ≡ Read f
+abbrev pub BodyAddedFor : Layout → Type 0
+BodyAddedFor l = (d : List ℕ) (rs : List Row) (r : Row) (f : Fields) → Holds l d rs → reading (r .body) ≡ Read f
     → (addedOf l d (length rs) (length (imageOf l rs)) (r .body) (f .id) ≡ cond (hasRoom l d rs r) Done Full)
     × (afterAdd l d (length rs) (length (imageOf l rs)) (r .body) (f .id) (f .mask) ≡ cond (hasRoom l d rs r) (withBody l d rs r) d)
 
 -- where there is room, and none of the rows has its id, the larger buffer holds the rows and the new one; its id then has its body, and
 -- any other id what it had
-pub record OneMore (l : Layout) : Type 0 where
+pub record OneMoreFor (l : Layout) : Type 0 where
   pub holds : (d : List ℕ) (rs : List Row) (r : Row) → Holds l d rs → hasRoom l d rs r ≡ true → isRead (reading (r .body)) ≡ true
       → bodyWith (idOf (r .body)) rs ≡ none
       → Holds l (withBody l d rs r) (rs ++ (r ∷ []))
   pub mine : (rs : List Row) (r : Row) → bodyWith (idOf (r .body)) rs ≡ none → bodyWith (idOf (r .body)) (rs ++ (r ∷ [])) ≡ some (r .body)
   pub others : (id : List ℕ) (rs : List Row) (r : Row) → (idOf (r .body) ≡ id → ⊥) → bodyWith id (rs ++ (r ∷ [])) ≡ bodyWith id rs
+
+-- ---- at edition 1
+
+abbrev pub BodyWithExactly : Type 0
+BodyWithExactly = BodyWithExactlyFor edition1
+
+abbrev pub RowsNamed : Type 0
+RowsNamed = RowsNamedFor edition1
+
+abbrev pub SurveyTells : Type 0
+SurveyTells = SurveyTellsFor edition1
+
+abbrev pub SurveySays : Type 0
+SurveySays = SurveySaysFor edition1
+
+abbrev pub SurveyUnsound : Type 0
+SurveyUnsound = SurveyUnsoundFor edition1
+
+abbrev pub EditionsSurveyed : Type 0
+EditionsSurveyed = EditionsSurveyedFor edition1
+
+abbrev pub SurveyInside : Type 0
+SurveyInside = SurveyInsideFor edition1
+
+abbrev pub BodyAdded : Type 0
+BodyAdded = BodyAddedFor edition1
+
+abbrev pub OneMore : Type 0
+OneMore = OneMoreFor edition1

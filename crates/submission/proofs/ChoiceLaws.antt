@@ -74,8 +74,11 @@ ChoiceIs d b clock verdict window r v (Store n end id mask) = Storing d b clock 
 refuses : (d b : List ℕ) (clock verdict : ℕ) (window : Window) (r : Reading) (v : Survey) (a : Submission) → 0 < numberOf a
     → failsBy numberOf (numberOf a) (stepsBy d b clock verdict window r v) ≡ true → ChoiceIs d b clock verdict window r v (Answer a)
 refuses d b clock verdict window r v a n e =
-    let steps : List (Step Submission) = stepsBy d b clock verdict window r v in
-    (sym (number-is (inOrder steps answers.Done) a (failed-by numberOf (numberOf a) steps answers.Done e)), refused-keeps d b (isHeld v) a (λ z. omega (arith, ap numberOf z)))
+    let steps : List (Step Submission) = stepsBy d b clock verdict window r v in (
+      sym (number-is (inOrder steps answers.Done) a (failed-by numberOf (numberOf a) steps answers.Done e)),
+      refused-keeps d b
+          (isHeld v) a (λ z. omega (arith, ap numberOf z)),
+    )
 
 -- Where every step passes, the answer is 0.
 all-done : (d b : List ℕ) (clock verdict : ℕ) (window : Window) (r : Reading) (v : Survey)

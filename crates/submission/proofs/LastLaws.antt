@@ -95,7 +95,8 @@ module _ (d : List ℕ) (bs : List Row) (c : Descriptor) (clock : ℕ) (window :
       no-room : (length bs ≡ mostRows edition1) ⊎ (length d < length (imageOf (larger bs c))) → Gives d (encode c) clock 0 window 6 d
       no-room f =
           let t : (ltb (length bs) (mostRows edition1) && leb (length (imageOf (larger bs c))) (length d)) ≡ false
-          = ⊎-elim (λ x. rw (le-ltb (length bs) (mostRows edition1) (omega arith))) (λ x. rw (lt-leb (length (imageOf (larger bs c))) (length d) x) (and-no (ltb (length bs) (mostRows edition1)))) f in
+          = ⊎-elim (λ x. rw (le-ltb (length bs) (mostRows edition1) (omega arith)))
+          (λ x. rw (lt-leb (length (imageOf (larger bs c))) (length d) x) (and-no (ltb (length bs) (mostRows edition1)))) f in
           let q : numberOf (submitted d (encode c) clock 0 window) ≡ 6
           = fails-with 6 (rw (early, open-key, e, t)) in
           (q, refusal-keeps d (encode c) clock 0 window (λ z. omega arith))
@@ -111,7 +112,14 @@ module _ (d : List ℕ) (bs : List Row) (c : Descriptor) (clock : ℕ) (window :
       unfolding grow.withBody
       stores few room =
           let q : numberOf (submitted d (encode c) clock 0 window) ≡ 0
-          = all-passed (rw (early, open-key, e, lt-ltb (length bs) (mostRows edition1) few, le-leb (length (imageOf (larger bs c))) (length d) room)) in
+          = all-passed (rw (
+            early,
+            open-key,
+            e,
+            lt-ltb (length bs) (mostRows edition1) few,
+            le-leb (length (imageOf (larger bs c)))
+                (length d) room,
+          )) in
           let k = stored-last d (encode c) clock 0 window bs (r .holds) q (ap (λ (id : List ℕ). bodyWith id bs) id-of ∙ e) in
           ((q, k .1), k .0)
 
@@ -134,7 +142,8 @@ lead-boundary d bs c clock window r e few room = (
 -- `RowBoundary`.
 pub row-boundary : RowBoundary
 row-boundary d bs c clock window r l e room = (
-  λ q. let k = stores d bs c clock window r l e (omega arith) room in (k .0 .0, k .1, omega (arith, length-append bs (rowOf (encode c) ∷ []))),
+  λ q. let k = stores d bs c clock window r l e (omega arith) room in
+      (k .0 .0, k .1, omega (arith, length-append bs (rowOf (encode c) ∷ []))),
   λ q. no-room d bs c clock window r l e (inl q),
 )
 

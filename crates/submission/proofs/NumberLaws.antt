@@ -88,7 +88,8 @@ number-descriptor d clock verdict window bs c h bytes a =
     let r = encoding-read c bytes a in
     let w = survey-tells d (idOf (encode c)) bs h in
     number-by d (encode c) clock verdict window (Read (r .0)) (Sound (length bs) (length (imageOf bs)) (w .0)) (r .1) (w .1)
-    ∙ by-descriptor d clock verdict window bs c (r .0) (w .0) (rows-named d bs h) (r .2) (subst (λ (id : List ℕ). HeldIs d id bs (w .0)) (r .3) (w .2))
+    ∙ by-descriptor d clock verdict window bs c (r .0) (w .0) (rows-named d bs h) (r .2)
+    (subst (λ (id : List ℕ). HeldIs d id bs (w .0)) (r .3) (w .2))
 
 -- ---- every case
 

@@ -80,7 +80,8 @@ pub done-passed : (d b : List ℕ) (clock verdict : ℕ) (window : Window) → s
 unfolding steps stepsBy
 done-passed d b clock verdict window e =
     let p : AllPass (steps d b clock verdict window) = done-exactly d b clock verdict window .0 e in
-    let by : (n : ℕ) → passesBy numberOf n (steps d b clock verdict window) ≡ true = λ n. passed-by numberOf n (steps d b clock verdict window) p in
+    let by : (n : ℕ) → passesBy numberOf n (steps d b clock verdict window) ≡ true
+    = λ n. passed-by numberOf n (steps d b clock verdict window) p in
     record {
       sound = and-left _ true (by (numberOf answers.BadImage));
       reads = read-passes (reading b) (and-left _ true (by (numberOf answers.Structure)))

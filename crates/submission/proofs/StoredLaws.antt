@@ -55,7 +55,14 @@ survey-repeat d id bs c h held = let w = survey-tells d id bs h in go (w .0) (w 
   where
     go : (x : Held) → surveyOf d id ≡ Sound (length bs) (length (imageOf bs)) x → HeldIs d id bs x → Repeat d id bs c
     go Missing e k = absurd (none-some c (sym k ∙ held))
-    go (Body at len f) e k = record { at = at; len = len; fields = f; found = e; body = some-same (part d at len) c (sym (k .which) ∙ held) }
+    go (Body at len f) e k = record {
+      at = at;
+      len = len;
+      fields = f;
+      found = e;
+      body = some-same (part d at len) c
+          (sym (k .which) ∙ held);
+    }
 
 -- ---- what is kept
 
@@ -73,7 +80,8 @@ repeat-keeps d b clock verdict window bs c h held = after-held d b clock verdict
 -- `EditionsRefused`.
 pub editions-refused : EditionsRefused
 editions-refused d b clock verdict window h other =
-    let e : submitted d b clock verdict window ≡ answers.BadImage = unsound-refused d b clock verdict window h (editions-surveyed d (idOf b) other) in
+    let e : submitted d b clock verdict window ≡ answers.BadImage
+    = unsound-refused d b clock verdict window h (editions-surveyed d (idOf b) other) in
     (ap numberOf e, refusal-keeps d b clock verdict window (λ f. omega (arith, ap numberOf e, f)))
 
 -- ---- what an answer of 0 says
@@ -137,8 +145,13 @@ after-holds d b clock verdict window bs h = go (bodyWith (idOf b) bs) (eqb (numb
     go (some c) t e f = kept (repeat-keeps d b clock verdict window bs c h e)
         (λ z. e ∙ ap some (repeat-same d b clock verdict window bs h z c e))
     go none true e f =
-        let z : numberOf (submitted d b clock verdict window) ≡ 0 = eqb-true (numberOf (submitted d b clock verdict window)) 0 f in
-        (bs ++ (rowOf b ∷ []), stored-last d b clock verdict window bs h z e .0, λ i. one-more .mine bs (rowOf b) e, λ id o. one-more .others id bs (rowOf b) o)
+        let z : numberOf (submitted d b clock verdict window) ≡ 0 = eqb-true (numberOf (submitted d b clock verdict window)) 0 f in (
+          bs ++ (rowOf b ∷ []),
+          stored-last d b clock verdict window bs h z e .0,
+          λ i. one-more .mine bs
+              (rowOf b) e,
+          λ id o. one-more .others id bs (rowOf b) o,
+        )
     go none false e f =
         let n = eqb-false (numberOf (submitted d b clock verdict window)) 0 f in
         kept (refusal-keeps d b clock verdict window n) (λ z. absurd (n z))

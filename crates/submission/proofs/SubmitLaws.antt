@@ -46,7 +46,8 @@ pub choice-answer : (d b : List ℕ) (clock verdict : ℕ) (window : Window) (a 
 unfolding submitted steps afterOf
 choice-answer d b clock verdict window a e =
     let v : Survey = surveyOf d (idOf b) in
-    let k : ChoiceIs d b clock verdict window (reading b) v (Answer a) = subst (ChoiceIs d b clock verdict window (reading b) v) e (choice-is d b clock verdict window) in
+    let k : ChoiceIs d b clock verdict window (reading b) v (Answer a)
+    = subst (ChoiceIs d b clock verdict window (reading b) v) e (choice-is d b clock verdict window) in
     (k .0, sym (k .1) ∙ ap (afterAnswer d b (isHeld v)) (k .0))
 
 -- A body that is to be stored is added where there is room.
@@ -64,13 +65,15 @@ store-added d b clock verdict window n end id mask bytes e =
     let s = survey-says d (idOf b) bytes n end Missing (k .found) in
     let a = body-added d bs (rowOf b) f (s .holds) (k .reads) in
     let x = go k (hasRoom d bs (rowOf b)) refl in (
-      ap storedAs (ap₂ (λ (i j : ℕ). addedOf d i j b id) (s .rows) (s .ends) ∙ ap (addedOf d (length bs) (length (imageOf bs)) b) (k .named) ∙ a .0)
+      ap storedAs (ap₂ (λ (i j : ℕ). addedOf d i j b id) (s .rows) (s .ends) ∙ ap (addedOf d (length bs) (length (imageOf bs)) b)
+          (k .named) ∙ a .0)
           ∙ x .0,
       ap₂ (λ (i j : ℕ). afterAdd d i j b id mask) (s .rows) (s .ends)
           ∙ ap₂ (afterAdd d (length bs) (length (imageOf bs)) b) (k .named) (k .modes) ∙ a .1 ∙ x .1,
     )
   where
-    go : Storing d b clock verdict window (reading b) (surveyOf d (idOf b)) n end id mask → (t : Bool) → hasRoom d (rowsHeld d) (rowOf b) ≡ t
+    go : Storing d b clock verdict window (reading b) (surveyOf d (idOf b)) n end id mask → (t : Bool)
+        → hasRoom d (rowsHeld d) (rowOf b) ≡ t
         → (storedAs (cond t Done Full) ≡ submitted d b clock verdict window)
         × (cond t (withBody d (rowsHeld d) (rowOf b)) d ≡ afterOf d b clock verdict window)
     go k true u = (k .done u, ap₂ (afterAnswer d b) (sym (ap isHeld (k .found))) (k .done u))

@@ -14,7 +14,8 @@ returns-2 c =
     let p3 = p4 .before .before .before .before in
     let p2 = p3 .before .before .before .before in
     let p1 = p2 .before .before .before .before in
-    new-done _ _ _ _ _ _ (omega arith) (p1 .put-number .ensures) (p2 .put-number2 .ensures) (p3 .put-number3 .ensures) (p4 .put-number4 .ensures)
+    new-done _ _ _ _ _ _ (omega arith) (p1 .put-number .ensures) (p2 .put-number2 .ensures) (p3 .put-number3 .ensures)
+    (p4 .put-number4 .ensures)
 
 pub new-image-spec : {M : Type 1} → statement M
 new-image-spec =

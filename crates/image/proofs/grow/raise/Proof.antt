@@ -24,8 +24,12 @@ loop-again c =
     let p = c .before .before in
     let v = p .before .before in
     let k = v .before .before in
-    let l = k .before .before .loop in
-    (omega arith, ap length (p .put-number .ensures) ∙ put-length _ _ _ ∙ l .inv .1, l .inv .2 ∙ raise-next _ _ _ _ _ _ _ (omega arith) (k .row-place .ensures .0) (v .number-at .ensures .0) (p .put-number .ensures))
+    let l = k .before .before .loop in (
+      omega arith,
+      ap length (p .put-number .ensures) ∙ put-length _ _ _ ∙ l .inv .1,
+      l .inv .2 ∙ raise-next _ _ _ _ _ _ _ (omega arith)
+          (k .row-place .ensures .0) (v .number-at .ensures .0) (p .put-number .ensures),
+    )
 
 same-length : tie.Need-same-length Inv-loop μ-loop
 same-length c = c .before .loop .inv .1

@@ -33,8 +33,13 @@ loop-holds c = (omega arith, omega arith, rows-begin _ _ _ _ _ _ _ (c .row-place
 
 row-at-requires : tie.Need-row-at-requires Inv-loop μ-loop
 row-at-requires c κs =
-    let s = c .before .before .before .before .before in
-    (s .pre .0, omega arith, omega (arith, place-order (s .args .layout) (c .before .loop .i) (s .args .n) (c .loop-test .taken), s .pre .2), c .before .loop .inv .1)
+    let s = c .before .before .before .before .before in (
+      s .pre .0,
+      omega arith,
+      omega
+          (arith, place-order (s .args .layout) (c .before .loop .i) (s .args .n) (c .loop-test .taken), s .pre .2),
+      c .before .loop .inv .1,
+    )
 
 add-same-bytes : tie.Need-add-same-bytes Inv-loop μ-loop
 add-same-bytes c = omega (arith, inside c)
@@ -52,7 +57,8 @@ returns c =
     let r = c .before .before in
     let t = r .before in
     let l = t .before .loop in
-    sym (ap (surveyed (t .before .before .before .before .before .args .n)) (l .inv .2 ∙ rows-stop _ _ _ _ _ _ _ (t .loop-test .taken) (sym (ap rowRead (c .enum-told .given .1)) ∙ r .row-at .ensures)))
+    sym (ap (surveyed (t .before .before .before .before .before .args .n))
+    (l .inv .2 ∙ rows-stop _ _ _ _ _ _ _ (t .loop-test .taken) (sym (ap rowRead (c .enum-told .given .1)) ∙ r .row-at .ensures)))
 
 loop-again : tie.Need-loop-again Inv-loop μ-loop
 loop-again c =
@@ -61,8 +67,12 @@ loop-again c =
     let r = f .before .before in
     let t = r .before in
     let l = t .before .loop in
-    let e = sym (ap rowRead (f .fields .given .1)) ∙ r .row-at .ensures in
-    (omega arith, row-next-is _ _ _ _ _ _ e .1, l .inv .2 ∙ rows-noted _ _ _ _ _ _ _ _ _ _ _ _ (t .loop-test .taken) e (k .row-place2 .ensures .0) (c .before .same-bytes .ensures) (c .note .ensures))
+    let e = sym (ap rowRead (f .fields .given .1)) ∙ r .row-at .ensures in (
+      omega arith,
+      row-next-is _ _ _ _ _ _ e .1,
+      l .inv .2 ∙ rows-noted _ _ _ _ _ _ _ _ _ _ _ _ (t .loop-test .taken) e
+          (k .row-place2 .ensures .0) (c .before .same-bytes .ensures) (c .note .ensures),
+    )
 
 returns-2 : tie.Need-returns-2 Inv-loop μ-loop
 returns-2 c =

@@ -13,8 +13,11 @@ returns-2 c = survey-header _ _ _ (omega arith) _ (c .before .header-fits .ensur
 
 row-place-requires : tie.Need-row-place-requires
 row-place-requires c κs =
-    let u = c .before in
-    (u .before .before .before .before .before .pre, header-few _ _ _ _ (omega arith) (u .before .header-fits .ensures) (u .if2 .left) (c .number-at .ensures .0))
+    let u = c .before in (
+      u .before .before .before .before .before .pre,
+      header-few _ _ _ _ (omega arith) (u .before .header-fits .ensures) (u .if2 .left)
+          (c .number-at .ensures .0),
+    )
 
 returns-3 : tie.Need-returns-3
 returns-3 c =
@@ -25,14 +28,19 @@ returns-3 c =
 all-rows-requires : tie.Need-all-rows-requires
 all-rows-requires c κs =
     let n = c .before .before in
-    let u = n .before in
-    (u .before .before .before .before .before .pre, header-few _ _ _ _ (omega arith) (u .before .header-fits .ensures) (u .if2 .left) (n .number-at .ensures .0), omega arith)
+    let u = n .before in (
+      u .before .before .before .before .before .pre,
+      header-few _ _ _ _ (omega arith) (u .before .header-fits .ensures) (u .if2 .left)
+          (n .number-at .ensures .0),
+      omega arith,
+    )
 
 returns-4 : tie.Need-returns-4
 returns-4 c =
     let n = c .before .before .before in
     let u = n .before in
-    survey-rows _ _ _ (omega arith) _ (u .before .header-fits .ensures) (u .if2 .left) _ (n .number-at .ensures .0) (omega arith) _ (c .all-rows .ensures)
+    survey-rows _ _ _ (omega arith) _ (u .before .header-fits .ensures) (u .if2 .left) _ (n .number-at .ensures .0) (omega arith) _
+    (c .all-rows .ensures)
 
 pub check-spec : {M : Type 1} → statement M
 check-spec =

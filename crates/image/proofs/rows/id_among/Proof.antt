@@ -38,13 +38,17 @@ returns : tie.Need-returns Inv-loop μ-loop
 returns c =
     let k = c .before .before .before in
     let t = k .before in
-    sym (t .before .loop .inv .1 ∙ among-hit _ _ _ _ (t .loop-test .taken) (sym (id-is _ _ _ _ _ _ (k .row-place .ensures .0) (c .before .same-bytes .ensures)) ∙ c .if1 .taken))
+    sym (t .before .loop .inv .1 ∙ among-hit _ _ _ _ (t .loop-test .taken)
+    (sym (id-is _ _ _ _ _ _ (k .row-place .ensures .0) (c .before .same-bytes .ensures)) ∙ c .if1 .taken))
 
 loop-again : tie.Need-loop-again Inv-loop μ-loop
 loop-again c =
     let k = c .before .before .before in
-    let t = k .before in
-    (omega arith, t .before .loop .inv .1 ∙ among-next _ _ _ _ (t .loop-test .taken) (sym (id-is _ _ _ _ _ _ (k .row-place .ensures .0) (c .before .same-bytes .ensures)) ∙ c .if1 .left))
+    let t = k .before in (
+      omega arith,
+      t .before .loop .inv .1 ∙ among-next _ _ _ _ (t .loop-test .taken)
+          (sym (id-is _ _ _ _ _ _ (k .row-place .ensures .0) (c .before .same-bytes .ensures)) ∙ c .if1 .left),
+    )
 
 returns-2 : tie.Need-returns-2 Inv-loop μ-loop
 returns-2 c =

@@ -14,25 +14,32 @@ abbrev start : tie.After-read-descriptor → tie.Start
 start k = k .before .before .before .before .before .before
 
 -- the row's place
-placed : (k : tie.After-read-descriptor) → k .before .before .before .before .row-place .result ≡ rowPlace (start k .args .layout) (start k .args .i)
+placed : (k : tie.After-read-descriptor)
+    → k .before .before .before .before .row-place .result ≡ rowPlace (start k .args .layout) (start k .args .i)
 placed k = k .before .before .before .before .row-place .ensures .0
 
 -- the body was read
 opened : (k : tie.After-read-descriptor) → let a = start k .args in
     rowAt (a .layout) (a .s .now) (a .i) (a .at)
     ≡ onRead (k .read-descriptor .result) (afterRead (a .layout) (a .s .now) (a .i) (a .at) (k .before .before .before .number-at .result))
-opened k = row-read _ _ _ _ _ _ _ (start k .pre .0) (placed k) (omega arith) (k .before .before .before .number-at .ensures .0) (omega arith)
+opened k = row-read _ _ _ _ _ _ _ (start k .pre .0) (placed k) (omega arith) (k .before .before .before .number-at .ensures .0)
+    (omega arith)
     (omega arith) (k .read-descriptor .ensures)
 
 returns : tie.Need-returns
 returns c =
     let r = c .before .before in
-    row-short _ _ _ _ _ _ (r .before .before .pre .0) (r .row-place .ensures .0) (omega arith) (c .before .number-at .ensures .0) (omega arith) (omega arith)
+    row-short _ _ _ _ _ _ (r .before .before .pre .0) (r .row-place .ensures .0) (omega arith) (c .before .number-at .ensures .0)
+    (omega arith) (omega arith)
 
 row-fits-requires : tie.Need-row-fits-requires
 row-fits-requires c κs =
-    let k = c .before .before .before in
-    (start k .pre .0, omega arith, id-room _ _ (k .before .before .before .number-at .result) _ _ (omega arith) (omega arith) (k .read-descriptor .ensures) (c .before .fields .given .1))
+    let k = c .before .before .before in (
+      start k .pre .0,
+      omega arith,
+      id-room _ _ (k .before .before .before .number-at .result) _ _ (omega arith) (omega arith)
+          (k .read-descriptor .ensures) (c .before .fields .given .1),
+    )
 
 returns-2 : tie.Need-returns-2
 returns-2 c =
@@ -45,14 +52,16 @@ returns-3 c =
     let u = c .before .before .before in
     let f = u .before .before .before in
     let k = f .before .before in
-    sym (opened k ∙ row-twice _ _ _ _ _ _ (placed k) _ _ (f .fields .given .1) _ (u .before .row-fits .ensures) (u .if2 .left) _ (c .before .id-among .ensures) (c .if3 .taken))
+    sym (opened k ∙ row-twice _ _ _ _ _ _ (placed k) _ _ (f .fields .given .1) _ (u .before .row-fits .ensures) (u .if2 .left) _
+    (c .before .id-among .ensures) (c .if3 .taken))
 
 returns-4 : tie.Need-returns-4
 returns-4 c =
     let u = c .before .before .before in
     let f = u .before .before .before in
     let k = f .before .before in
-    sym (opened k ∙ row-good _ _ _ _ _ _ (placed k) _ _ (f .fields .given .1) _ (u .before .row-fits .ensures) (u .if2 .left) _ (c .before .id-among .ensures) (c .if3 .left))
+    sym (opened k ∙ row-good _ _ _ _ _ _ (placed k) _ _ (f .fields .given .1) _ (u .before .row-fits .ensures) (u .if2 .left) _
+    (c .before .id-among .ensures) (c .if3 .left))
 
 returns-5 : tie.Need-returns-5
 returns-5 c = sym (opened (c .before .before) ∙ read-not _ _ _ _ _ _ (inl (c .enum-told .given .1)))

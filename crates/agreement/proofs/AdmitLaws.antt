@@ -13,7 +13,8 @@ use Rattle.resource.specs.Identifier.{isFay, isTerminal}
 use Rattle.resource.specs.Pattern.{Path, IsPath, admits}
 use Rattle.resource.specs.Text.{isResource, pathOf, patternOf}
 use Rattle.resource.proofs.Promises.{resources-exact, resources-once}
-use Rattle.descriptor.specs.Model.{Grant, Descriptor, pairCount, encode}
+use Rattle.entries.specs.Model.{pairCount}
+use Rattle.descriptor.specs.Model.{Grant, Descriptor, encode}
 use Rattle.descriptor.specs.Allowed.{isIn}
 use Rattle.request.specs.Request.{Request}
 use Rattle.request.specs.Promises.{someServes, formed}

@@ -1,177 +1,157 @@
--- What the readers of a payload's pieces answer lies in the bytes, and a payload's period is not empty. Assumes nothing.
-use mathlib.Core.Path.{_≡_, refl, sym, ap₂, _∙_}
-use mathlib.Core.Bool.{Bool, true, false, _&&_}
+-- What the readers of a payload's pieces and of a whole descriptor answer lies in the bytes, and a payload's period is not empty. Assumes
+-- nothing.
+use mathlib.Core.Path.{_≡_, refl, ap₂}
+use mathlib.Core.Bool.{Bool, true, _&&_}
 use mathlib.Core.List.{List}
 use Prim.Native.Nat.{ℕ, _+_, _≤_, _<_}
 use native.Mathlib.Omega.{arith}
 use lib.ListN.{length}
 use lib.Dec.{T, ltb, leb, eqb, ltb→lt}
 use mir.Facts.{and-yes}
-use borrow.Author.Tests.{eq-eqb, ne-eqb, le-leb, lt-leb}
-use Rattle.octets.specs.Bytes.{part, same, hasAt}
-use Rattle.exact.specs.Reads.{Got, got, optAt}
-use Rattle.octets.specs.Span.{spanOf}
-use Rattle.resource.specs.Identifier.{isFay, isTerminal}
-use Rattle.descriptor.specs.declared.payload.PayloadFields.{PayloadFields}
-use Rattle.descriptor.specs.Keys.{kGrants, kMetadata, kIssuedAt, kIssuerId, kNotAfter, kGrantorId, kNotBefore, kTerminalId}
-use Rattle.descriptor.specs.Keys.{kDescriptorId, kSubjectFayId}
-use Rattle.descriptor.specs.Model.{size}
-use Rattle.descriptor.specs.Value.{timeAt, textAt, wordAt, bytesAt}
-use Rattle.descriptor.specs.Reader.{pairsAt, grantsAt, Opening, openingAt, middleAt, Closing, closingAt, PayloadSeen, payloadFits}
-use Rattle.descriptor.specs.Reader.{payloadAt}
-use Rattle.descriptor.specs.Answer.{optOf, flag, payloadOf}
-use Rattle.resource.proofs.Laws.{terminal-length}
-use Rattle.descriptor.proofs.GrantBounds.{GrantsIn, WordTo, CountTo, count-bounds, text-bounds, bytes-bounds, word-bounds, key-on}
-use Rattle.descriptor.proofs.GrantBounds.{pairs-bounds, grants-bounds}
-use Rattle.cbor_item.specs.Laws.{SpanTo}
+use borrow.Author.Tests.{leb-true}
+use Rattle.octets.specs.Bytes.{part, same}
+use Rattle.octets.proofs.Tests.{and-left}
+use Rattle.exact.specs.Reads.{got}
 use Rattle.exact.specs.Holds.{Holds}
-use Rattle.exact.proofs.HoldsLaws.{held, holds-map, holds-bind, holds-guard, holds-opt}
+use Rattle.exact.proofs.HoldsLaws.{held, holds-map, holds-bind, holds-then, holds-guard}
+use Rattle.resource.proofs.Laws.{terminal-length, fay-length}
+use Rattle.entries.specs.declared.value.Kind.the-variants.{Text, Bytes, Terminal, Fay}
+use Rattle.entries.specs.Keys.{kMetadata, kIssuedAt, kIssuerId, kNotAfter, kGrantorId, kNotBefore, kTerminalId, kDescriptorId, kSubjectFayId}
+use Rattle.entries.specs.Kinds.{isKind}
+use Rattle.entries.specs.Value.{timeAt, keyedAt, flag}
+use Rattle.entries.proofs.ValueBounds.{CountTo, count-bounds, keyed-count-bounds, StringTo, keyed-kind-bounds, opt-kind-on, opt-pairs-on}
+use Rattle.descriptor.specs.declared.payload.PayloadFields.{PayloadFields}
+use Rattle.descriptor.specs.Reader.{issueAt, grantorAt, Ids, idsAt, PayloadSeen, payloadFits, payloadAt, Seen, beforePayload}
+use Rattle.descriptor.specs.Reader.{descriptorAt}
+use Rattle.descriptor.specs.Answer.{payloadOf}
+use Rattle.descriptor.proofs.GrantBounds.{GrantsIn, grants-bounds}
 
--- an optional value after its key ends not before the key's place
-opt-on : {R : Type 0} (s : List ℕ) (at : ℕ) (k : List ℕ) (o : Got R) → Holds (λ r n. at + length k ≤ n) o
-    → Holds (λ r n. at ≤ n) (optAt (hasAt s at k) o at)
-opt-on s at k o h = holds-opt (λ r n. at ≤ n) (hasAt s at k) o at (omega arith)
-    (holds-map (λ r n. at + length k ≤ n) (λ r n. at ≤ n) o h (λ r n i. omega (arith, i)))
+-- ---- the pieces
 
--- a time ends not before its place
-time-on : (s : List ℕ) (at : ℕ) → Holds (λ t n. at ≤ n) (timeAt s at)
-time-on s at = holds-map (CountTo at 0 18446744073709551615) (λ t n. at ≤ n) (timeAt s at) (count-bounds s at 0 0 18446744073709551615)
-    (λ t n i. i .2)
+-- a time after its key ends not before the key's place
+time-on : (s : List ℕ) (at : ℕ) (k : List ℕ) → Holds (λ t n. at ≤ n) (keyedAt s at k (timeAt s))
+time-on s at k =
+    holds-map (CountTo (at + length k) 0 18446744073709551615) (λ t n. at ≤ n) (keyedAt s at k (timeAt s))
+    (keyed-count-bounds s at k 0 0 18446744073709551615)
+    (λ t n i. omega (arith, i .2))
 
--- nor does a text
-text-on : (s : List ℕ) (at lo hi : ℕ) → Holds (λ c n. at ≤ n) (textAt s at lo hi)
-text-on s at lo hi = holds-map (SpanTo s at) (λ c n. at ≤ n) (textAt s at lo hi) (text-bounds s at lo hi)
-    (λ c n i. omega (arith, i .after, i .ends))
-
--- nor do pairs
-pairs-on : (s : List ℕ) (most at : ℕ) → Holds (λ c n. at ≤ n) (pairsAt s most at)
-pairs-on s most at = holds-map (λ c n. (c ≤ most) × (at ≤ n)) (λ c n. at ≤ n) (pairsAt s most at) (pairs-bounds s most at) (λ c n i. i .1)
-
--- what is known of the opening: the first pattern lies within s
-abbrev OpeningIn : List ℕ → ℕ → Opening → ℕ → Type 0
-OpeningIn s at o n = (at ≤ n) × (o .grants .first + 45 ≤ length s)
-
--- the opening ends not before its place, and the first pattern lies within s
-pub opening-bounds : (s : List ℕ) (at : ℕ) → Holds (OpeningIn s at) (openingAt s at)
-unfolding openingAt
-opening-bounds s at =
-    holds-bind (CountTo at 8 10) (OpeningIn s at) _ _ (count-bounds s at 5 8 10)
-    (λ c n i.
-    holds-bind (GrantsIn s (n + length kGrants)) (OpeningIn s at) _ _
-    (holds-guard (GrantsIn s (n + length kGrants)) (hasAt s n kGrants) (grantsAt s (n + length kGrants)) (λ t. grants-bounds s (n + length kGrants)))
-    (λ g m j.
-    holds-bind (λ pairs k. m ≤ k) (OpeningIn s at) _ _ (opt-on s m kMetadata _ (pairs-on s 16 (m + length kMetadata)))
-    (λ pairs k l.
-    holds-bind (λ t p. k ≤ p) (OpeningIn s at) _ _ (key-on s k kIssuedAt _ (time-on s (k + length kIssuedAt)))
-    (λ t p q. (omega (arith, i .2, j .0, l, q), j .1)))))
-
--- the middle ends not before its place
-pub middle-bounds : (s : List ℕ) (at : ℕ) → Holds (λ m n. at ≤ n) (middleAt s at)
-unfolding middleAt
-middle-bounds s at =
-    holds-bind (λ c n. at ≤ n) (λ m n. at ≤ n) _ _ (key-on s at kIssuerId _ (text-on s (at + length kIssuerId) 1 128))
-    (λ c n i.
-    holds-bind (λ t m. n ≤ m) (λ m n. at ≤ n) _ _ (key-on s n kNotAfter _ (time-on s (n + length kNotAfter)))
+-- the first piece ends not before its place
+issue-on : (s : List ℕ) (at : ℕ) → Holds (λ i n. at ≤ n) (issueAt s at)
+unfolding issueAt
+issue-on s at =
+    holds-bind (λ v n. (at ≤ n) × (v .size ≤ 16)) (λ i n. at ≤ n) _ _ (opt-pairs-on s at kMetadata 16)
+    (λ v n i.
+    holds-bind (λ t m. n ≤ m) (λ i n. at ≤ n) _ _ (time-on s n kIssuedAt)
     (λ t m j.
-    holds-bind (λ g k. m ≤ k) (λ m n. at ≤ n) _ _ (opt-on s m kGrantorId _ (text-on s (m + length kGrantorId) 1 128))
-    (λ g k l.
-    holds-bind (λ t p. k ≤ p) (λ m n. at ≤ n) _ _ (key-on s k kNotBefore _ (time-on s (k + length kNotBefore)))
-    (λ u p q. omega (arith, i, j, l, q)))))
+    holds-bind (StringTo s (m + length kIssuerId) 0) (λ i n. at ≤ n) _ _ (keyed-kind-bounds (Text 1 128) 0 (λ c e. omega arith) s m kIssuerId)
+    (λ c k l.
+    holds-bind (λ t p. k ≤ p) (λ i n. at ≤ n) _ _ (time-on s k kNotAfter)
+    (λ u p q. omega (arith, i .0, j, l .0 .after, l .0 .ends, q)))))
 
--- what is known of the closing: the terminal id lies within s
-abbrev ClosingIn : List ℕ → ℕ → Closing → ℕ → Type 0
-ClosingIn s at c n = (at ≤ n) × (c .terminal + 45 ≤ length s)
+-- nor does the second
+grantor-on : (s : List ℕ) (at : ℕ) → Holds (λ g n. at ≤ n) (grantorAt s at)
+unfolding grantorAt
+grantor-on s at =
+    holds-bind (λ v n. at ≤ n) (λ g n. at ≤ n) _ _ (opt-kind-on s at kGrantorId (Text 1 128))
+    (λ v n i. holds-bind (λ t m. n ≤ m) (λ g n. at ≤ n) _ _ (time-on s n kNotBefore) (λ t m j. omega (arith, i, j)))
 
--- the closing ends not before its place, and the terminal id lies within s
-pub closing-bounds : (s : List ℕ) (at : ℕ) → Holds (ClosingIn s at) (closingAt s at)
-unfolding closingAt
-closing-bounds s at =
-    holds-bind (WordTo s (at + length kTerminalId) 45) (ClosingIn s at) _ _
-    (holds-guard (WordTo s (at + length kTerminalId) 45) (hasAt s at kTerminalId) (wordAt isTerminal s (at + length kTerminalId))
-    (λ t. word-bounds isTerminal 45 (λ c e. omega (arith, terminal-length c e)) s (at + length kTerminalId)))
+-- what is known of the ids: they lie within s
+pub record IdsIn (s : List ℕ) (at : ℕ) (ids : Ids) (n : ℕ) : Type 0 where
+  pub after : at ≤ n
+  pub terminal : ids .terminal + 45 ≤ length s
+  pub id : ids .id + 16 ≤ length s
+  pub fay : ids .fay + 40 ≤ length s
+
+-- the lengths of the three
+terminal-long : (c : List ℕ) → isKind Terminal c ≡ true → 45 ≤ length c
+unfolding isKind
+terminal-long c e = omega (arith, terminal-length c e)
+
+id-long : (c : List ℕ) → isKind (Bytes 16 16) c ≡ true → 16 ≤ length c
+unfolding isKind
+id-long c e = leb-true 16 (length c) (and-left (leb 16 (length c)) (leb (length c) 16) e)
+
+fay-long : (c : List ℕ) → isKind Fay c ≡ true → 40 ≤ length c
+unfolding isKind
+fay-long c e = omega (arith, fay-length c e)
+
+-- the ids lie within s
+ids-bounds : (s : List ℕ) (at : ℕ) → Holds (IdsIn s at) (idsAt s at)
+unfolding idsAt
+ids-bounds s at =
+    holds-bind (StringTo s (at + length kTerminalId) 45) (IdsIn s at) _ _ (keyed-kind-bounds Terminal 45 terminal-long s at kTerminalId)
     (λ c n i.
-    holds-bind (SpanTo s (n + length kDescriptorId)) (ClosingIn s at) _ _
-    (holds-guard (SpanTo s (n + length kDescriptorId)) (hasAt s n kDescriptorId) (bytesAt s (n + length kDescriptorId) 16 16) (λ t. bytes-bounds s (n + length kDescriptorId) 16 16))
+    holds-bind (StringTo s (n + length kDescriptorId) 16) (IdsIn s at) _ _ (keyed-kind-bounds (Bytes 16 16) 16 id-long s n kDescriptorId)
     (λ d m j.
-    holds-bind (WordTo s (m + length kSubjectFayId) 0) (ClosingIn s at) _ _
-    (holds-guard (WordTo s (m + length kSubjectFayId) 0) (hasAt s m kSubjectFayId) (wordAt isFay s (m + length kSubjectFayId))
-    (λ t. word-bounds isFay 0 (λ c e. omega arith) s (m + length kSubjectFayId)))
-    (λ f k l. (omega (arith, i .0 .after, i .0 .ends, j .after, j .ends, l .0 .after, l .0 .ends), omega (arith, i .0 .ends, i .0 .fits, i .1)))))
+    holds-bind (StringTo s (m + length kSubjectFayId) 40) (IdsIn s at) _ _ (keyed-kind-bounds Fay 40 fay-long s m kSubjectFayId)
+    (λ f k l. record {
+      after = omega (arith, i .0 .after, i .0 .ends, j .0 .after, j .0 .ends, l .0 .after, l .0 .ends);
+      terminal = omega (arith, i .0 .ends, i .0 .fits, i .1);
+      id = omega (arith, j .0 .ends, j .0 .fits, j .1);
+      fay = omega (arith, l .0 .ends, l .0 .fits, l .1);
+    })))
+
+-- so it is for ids that were read
+pub ids-room : {ids : Ids} {n : ℕ} (s : List ℕ) (at : ℕ) → got ids n ≡ idsAt s at → IdsIn s at ids n
+ids-room s at e = held (IdsIn s at) (ids-bounds s at) e
+
+-- ---- the payload
 
 -- a payload that fits begins before it ends
-fits-lasts : (s : List ℕ) (p : PayloadSeen) → T (payloadFits s p) → p .middle .notBefore < p .middle .notAfter
+fits-lasts : (s : List ℕ) (p : PayloadSeen) → T (payloadFits s p) → p .notBefore < p .notAfter
 unfolding payloadFits
 fits-lasts s p t =
-    let a = eqb (p .opening .keys) (8 + (size (p .opening .pairs) + size (p .middle .grantor))) in
-    let b = same (part s (p .opening .grants .first) 45) (part s (p .closing .terminal) 45) in
-    let c = leb (p .opening .issuedAt) (p .middle .notBefore) in
-    let d = ltb (p .middle .notBefore) (p .middle .notAfter) in
-    ltb→lt (p .middle .notBefore) (p .middle .notAfter) (and-yes c d (and-yes b (c && d) (and-yes a (b && (c && d)) t .1) .1) .1)
+    let a = eqb (p .keys) (8 + (flag (p .metadata .there) + flag (p .grantor .there))) in
+    let b = same (part s (p .grants .first) 45) (part s (p .terminal) 45) in
+    let c = leb (p .issuedAt) (p .notBefore) in
+    let d = ltb (p .notBefore) (p .notAfter) in
+    ltb→lt (p .notBefore) (p .notAfter) (and-yes c d (and-yes b (c && d) (and-yes a (b && (c && d)) t .1) .1) .1)
 
--- what is known of a payload: its period is not empty
-abbrev PayloadIn : ℕ → PayloadSeen → ℕ → Type 0
-PayloadIn at p n = (at ≤ n) × (p .middle .notBefore < p .middle .notAfter)
+-- what is known of a payload: its period is not empty, its mask is small, and its ids lie within s
+pub record PayloadIn (s : List ℕ) (p : PayloadSeen) : Type 0 where
+  pub lasts : p .notBefore < p .notAfter
+  pub small : p .grants .sum .mask < 16
+  pub terminal : p .terminal + 45 ≤ length s
+  pub id : p .id + 16 ≤ length s
+  pub fay : p .fay + 40 ≤ length s
 
--- a payload ends not before its place, and its period is not empty
-pub payload-bounds : (s : List ℕ) (at : ℕ) → Holds (PayloadIn at) (payloadAt s at)
+-- so it is for each that is answered, and it ends not before its place
+payload-bounds : (s : List ℕ) (at : ℕ) → Holds (λ p n. (at ≤ n) × PayloadIn s p) (payloadAt s at)
 unfolding payloadAt
 payload-bounds s at =
-    holds-bind (OpeningIn s at) (PayloadIn at) _ _ (opening-bounds s at)
-    (λ o n i.
-    holds-bind (λ m k. n ≤ k) (PayloadIn at) _ _ (middle-bounds s n)
-    (λ m k j.
-    holds-bind (ClosingIn s k) (PayloadIn at) _ _ (closing-bounds s k)
-    (λ c l q. holds-guard (PayloadIn at) _ _ (λ t. (omega (arith, i .0, j, q .0), fits-lasts s _ t)))))
+    let P : PayloadSeen → ℕ → Type 0 = λ p n. (at ≤ n) × PayloadIn s p in
+    holds-bind (CountTo at 8 10) P _ _ (count-bounds s at 5 8 10)
+    (λ c n i.
+    holds-bind (GrantsIn s n) P _ _ (grants-bounds s n)
+    (λ gs n₁ j.
+    holds-bind (λ x m. n₁ ≤ m) P _ _ (issue-on s n₁)
+    (λ x n₂ k.
+    holds-bind (λ y m. n₂ ≤ m) P _ _ (grantor-on s n₂)
+    (λ y n₃ l.
+    holds-bind (IdsIn s n₃) P _ _ (ids-bounds s n₃)
+    (λ ids n₄ m. holds-guard P _ _
+    (λ t. (
+      omega (arith, i .2, j .after, k, l, m .after),
+      record { lasts = fits-lasts s _ t; small = j .small; terminal = m .terminal; id = m .id; fay = m .fay },
+    )))))))
 
--- ---- the conditions on the whole payload, one by one
+-- and for one that was read
+pub payload-room : {p : PayloadSeen} {n : ℕ} (s : List ℕ) (at : ℕ) → got p n ≡ payloadAt s at → (at ≤ n) × PayloadIn s p
+payload-room s at e = held (λ p n. (at ≤ n) × PayloadIn s p) (payload-bounds s at) e
 
--- an optional value counts as its flag
-flag-size : {X : Type 0} (b : Bool) (x : X) → flag b ≡ size (optOf b x)
-flag-size true x = refl
-flag-size false x = refl
+-- and for that of each descriptor that is answered
+pub descriptor-bounds : (s : List ℕ) (at : ℕ) → Holds (λ v n. PayloadIn s (v .payload)) (descriptorAt s at)
+unfolding descriptorAt
+descriptor-bounds s at =
+    let P : Seen → ℕ → Type 0 = λ v n. PayloadIn s (v .payload) in
+    let b = at + length beforePayload in
+    holds-bind (λ p n. (b ≤ n) × PayloadIn s p) P _ _ (holds-guard (λ p n. (b ≤ n) × PayloadIn s p) _ _ (λ t. payload-bounds s b))
+    (λ p n i. holds-then P _ _ (λ g m. i .1))
 
-module _ (s : List ℕ) (p : PayloadFields) (r : ℕ) (k : r ≡ 8 + (flag (p .opening .present) + flag (p .middle .present))) where
-  -- the number of keys that there are, as it is tested
-  there : r ≡ 8 + (size (payloadOf p .opening .pairs) + size (payloadOf p .middle .grantor))
-  there = k ∙ ap₂ (λ (a b : ℕ). 8 + (a + b)) (flag-size (p .opening .present) (p .opening .pairs))
-      (flag-size (p .middle .present) (spanOf (p .middle .grantor) (p .middle .long)))
-
-  -- another number of keys does not fit
-  pub unfit-keys : (p .opening .keys ≡ r → ⊥) → false ≡ payloadFits s (payloadOf p)
-  unfolding payloadFits
-  unfit-keys h =
-      let e : (p .opening .keys ≡ 8 + (size (payloadOf p .opening .pairs) + size (payloadOf p .middle .grantor))) → ⊥ = λ q. h (q ∙ sym there) in
-      rw (ne-eqb _ _ e) refl
-
-  -- nor does another terminal
-  pub unfit-terminal : p .opening .keys ≡ r → same (part s (p .opening .grants .first) 45) (part s (p .closing .terminal) 45) ≡ false
-      → false ≡ payloadFits s (payloadOf p)
-  unfolding payloadFits
-  unfit-terminal h t = rw (eq-eqb _ _ (h ∙ there), t) refl
-
-  -- nor an issue after the beginning
-  pub unfit-issued : p .opening .keys ≡ r → same (part s (p .opening .grants .first) 45) (part s (p .closing .terminal) 45) ≡ true
-      → p .middle .before < p .opening .issued → false ≡ payloadFits s (payloadOf p)
-  unfolding payloadFits
-  unfit-issued h t i = rw (eq-eqb _ _ (h ∙ there), t, lt-leb _ _ i) refl
-
-  -- the last condition decides
-  pub fit-lasts : p .opening .keys ≡ r → same (part s (p .opening .grants .first) 45) (part s (p .closing .terminal) 45) ≡ true
-      → p .opening .issued ≤ p .middle .before → ltb (p .middle .before) (p .middle .after) ≡ payloadFits s (payloadOf p)
-  unfolding payloadFits
-  fit-lasts h t i = rw (eq-eqb _ _ (h ∙ there), t, le-leb _ _ i) refl
-
--- ---- what the code's proofs use
-
--- the first pattern of an opening that was read lies within s
-pub opening-room : {o : Opening} {n : ℕ} (s : List ℕ) (at : ℕ) → got o n ≡ openingAt s at → o .grants .first + 45 ≤ length s
-opening-room s at e = held (OpeningIn s at) (opening-bounds s at) e .1
-
--- the terminal id of a closing that was read lies within s
-pub closing-room : {c : Closing} {n : ℕ} (s : List ℕ) (at : ℕ) → got c n ≡ closingAt s at → c .terminal + 45 ≤ length s
-closing-room s at e = held (ClosingIn s at) (closing-bounds s at) e .1
-
--- a payload that was read ends not before its place, and its period is not empty
-pub payload-room : {p : PayloadSeen} {n : ℕ} (s : List ℕ) (at : ℕ) → got p n ≡ payloadAt s at
-    → (at ≤ n) × (p .middle .notBefore < p .middle .notAfter)
-payload-room s at e = held (PayloadIn at) (payload-bounds s at) e
+-- the code's test of a payload is the reader's
+pub fits-test : (s : List ℕ) (p : PayloadFields) (k l : ℕ) (o : Bool) → k ≡ flag (p .issue .metadata .there)
+    → l ≡ flag (p .grantor .grantor .there) → o ≡ same (part s (p .grants .first) 45) (part s (p .ids .terminal) 45)
+    → (eqb (p .keys) (8 + (k + l)) && (o && (leb (p .issue .issued) (p .grantor .before) && ltb (p .grantor .before) (p .issue .after))))
+    ≡ payloadFits s (payloadOf p)
+unfolding payloadFits
+fits-test s p k l o e f g = rw (e, f, g) refl

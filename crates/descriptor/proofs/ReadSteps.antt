@@ -1,38 +1,14 @@
--- The ways out of reading an algorithm and a whole descriptor, one by one (specs/Reader.antt). Assumes nothing.
+-- The ways out of reading a whole descriptor, one by one (specs/Reader.antt). Assumes nothing.
 use mathlib.Core.Path.{_≡_, refl, sym, ap, _∙_}
-use mathlib.Core.Bool.{Bool, true, false}
-use mathlib.Core.List.{List, [], _∷_}
-use Prim.Native.Nat.{ℕ, suc, _+_, _-_, _≤_, _<_}
+use mathlib.Core.List.{List}
+use Prim.Native.Nat.{ℕ, _-_, _≤_, _<_}
 use lib.ListN.{length}
 use borrow.Author.Tests.{eq-eqb, ne-eqb, le-leb, lt-leb}
-use Rattle.octets.specs.Bytes.{hasAt}
 use Rattle.exact.specs.Reads.{Got, got, refused}
 use Rattle.descriptor.specs.declared.Reading.the-variants.{Read, Structure, Validity}
 use Rattle.descriptor.specs.Allowed.{longest, longestPeriod}
-use Rattle.descriptor.specs.Value.{oneOf}
 use Rattle.descriptor.specs.Reader.{Seen, descriptorAt, whole, readOf}
 use Rattle.descriptor.specs.Answer.{fieldsOf, readingOf}
-
--- ---- one of a table
-
--- the first entry stands at the place
-pub one-first : (s : List ℕ) (at i : ℕ) (k : List ℕ) (ks : List (List ℕ)) (b : Bool) → b ≡ hasAt s at k → b ≡ true
-    → got i (at + length k) ≡ oneOf s at i (k ∷ ks)
-unfolding oneOf
-one-first s at i k ks b e t = rw (sym e ∙ t) refl
-
--- it does not, and the others decide
-pub one-next : (s : List ℕ) (at i : ℕ) (k : List ℕ) (ks : List (List ℕ)) (b : Bool) → b ≡ hasAt s at k → b ≡ false
-    → oneOf s at (suc i) ks ≡ oneOf s at i (k ∷ ks)
-unfolding oneOf
-one-next s at i k ks b e t = rw (sym e ∙ t) refl
-
--- none is left
-pub one-none : (s : List ℕ) (at i : ℕ) → refused ≡ oneOf s at i []
-unfolding oneOf
-one-none s at i = refl
-
--- ---- the whole
 
 module _ (s : List ℕ) where
   -- too many bytes
@@ -60,11 +36,11 @@ module _ (s : List ℕ) where
       read-more h = (rw (ne-eqb _ _ h) refl) ∙ after
 
       -- a period that is too long
-      pub read-period : n ≡ length s → longestPeriod < v .payload .middle .notAfter - v .payload .middle .notBefore
+      pub read-period : n ≡ length s → longestPeriod < v .payload .notAfter - v .payload .notBefore
           → Validity ≡ readingOf (readOf s)
       read-period h l = (rw (eq-eqb _ _ h, lt-leb _ _ l) refl) ∙ after
 
       -- an allowed descriptor
-      pub read-all : n ≡ length s → v .payload .middle .notAfter - v .payload .middle .notBefore ≤ longestPeriod
+      pub read-all : n ≡ length s → v .payload .notAfter - v .payload .notBefore ≤ longestPeriod
           → Read (fieldsOf v) ≡ readingOf (readOf s)
       read-all h l = (rw (eq-eqb _ _ h, le-leb _ _ l) refl) ∙ after

@@ -1,8 +1,6 @@
-pub mod Keys
 pub mod Model
 pub mod Allowed
 pub mod Modes
-pub mod Value
 pub mod Reader
 pub mod View
 pub mod Answer

@@ -1,22 +1,17 @@
 -- The data model of a descriptor and its deterministic encoding, as source 002 section 2.3 and document 01, "Descriptor bytes", have
--- them. Nothing of places or of reading.
+-- them; pairs, signatures and strings are in specs/Model.antt of `entries`. Nothing of places or of reading.
 use mathlib.Core.List.{List, [], _∷_, _++_}
-use mathlib.Core.Option.{Option, none, some}
+use mathlib.Core.Option.{Option}
 use Prim.Native.Nat.{ℕ, _+_}
 use lib.ListN.{length, getD}
 use Rattle.cbor_item.specs.Encoding.{head}
-use Rattle.cbor_item.specs.Head.{encodeString}
 use Rattle.exact.specs.Reads.{encOpt, encAll}
-use Rattle.descriptor.specs.Keys.{kPayload, kVersion, kSignature, kGrants, kMetadata, kIssuedAt, kIssuerId, kNotAfter, kGrantorId}
-use Rattle.descriptor.specs.Keys.{kNotBefore, kTerminalId, kDescriptorId, kSubjectFayId, kKeyId, kAlgorithm, kSignatureValue}
-use Rattle.descriptor.specs.Keys.{kModes, kConstraints, kResourcePattern, algorithms, modeNames}
+use Rattle.entries.specs.Keys.{kPayload, kVersion, kSignature, kGrants, kMetadata, kIssuedAt, kIssuerId, kNotAfter, kGrantorId, kNotBefore}
+use Rattle.entries.specs.Keys.{kTerminalId, kDescriptorId, kSubjectFayId, kModes, kConstraints, kResourcePattern}
+use Rattle.entries.specs.Keys.{mRead, mWrite, mExecute, mConfigure}
+use Rattle.entries.specs.Model.{Pair, Signature, size, encText, encBytes, encPairs, encSignature}
 
 -- ---- what there is
-
--- a pair of metadata or of constraints
-pub record Pair : Type 0 where
-  pub key : List ℕ
-  pub value : List ℕ
 
 -- a grant; modes by their numbers; absent and empty constraints are different values
 pub record Grant : Type 0 where
@@ -37,43 +32,16 @@ pub record Payload : Type 0 where
   pub id : List ℕ
   pub fay : List ℕ
 
--- a signature; the algorithm by its number
-pub record Signature : Type 0 where
-  pub keyId : List ℕ
-  pub algorithm : ℕ
-  pub value : List ℕ
-
 -- a descriptor; its version is 1
 pub record Descriptor : Type 0 where
   pub payload : Payload
   pub signature : Signature
 
--- how many pairs an optional map has
-abbrev pub pairCount : Option (List Pair) → ℕ
-pairCount none = 0
-pairCount (some ps) = length ps
-
 -- ---- its encoding: heads, keys and contents one after the other
 
--- a byte string
-abbrev pub encBytes : List ℕ → List ℕ
-encBytes c = encodeString 2 c
-
--- a text
-abbrev pub encText : List ℕ → List ℕ
-encText c = encodeString 3 c
-
--- one key more where a value is there
-abbrev pub size : {X : Type 0} → Option X → ℕ
-size none = 0
-size (some x) = 1
-
-unfoldable pub encPair : Pair → List ℕ
-encPair p = encText (p .key) ++ encText (p .value)
-
--- a map of pairs
-unfoldable pub encPairs : List Pair → List ℕ
-encPairs ps = head 5 (length ps) ++ encAll encPair ps
+-- the modes by number, in the order of source 002: read 0, write 1, execute 2, configure 3; these numbers never change
+unfoldable pub modeNames : List (List ℕ)
+modeNames = mRead ∷ mWrite ∷ mExecute ∷ mConfigure ∷ []
 
 -- a mode is the name of its number
 unfoldable pub encMode : ℕ → List ℕ
@@ -106,17 +74,6 @@ encodePayload p =
     ++ ((kTerminalId ++ encText (p .terminal))
     ++ ((kDescriptorId ++ encBytes (p .id))
     ++ (kSubjectFayId ++ encText (p .fay)))))))))))
-
--- an algorithm is the name of its number
-unfoldable pub encAlgorithm : ℕ → List ℕ
-encAlgorithm a = getD algorithms a []
-
-unfoldable pub encSignature : Signature → List ℕ
-encSignature s =
-    head 5 3
-    ++ ((kKeyId ++ encText (s .keyId))
-    ++ ((kAlgorithm ++ encAlgorithm (s .algorithm))
-    ++ (kSignatureValue ++ encBytes (s .value))))
 
 -- the bytes of a descriptor
 unfoldable pub encode : Descriptor → List ℕ

@@ -5,6 +5,7 @@ use mathlib.Core.List.{List}
 use Prim.Native.Nat.{ℕ}
 use Rattle.octets.specs.Span.{Span, spanOf, inside}
 use Rattle.exact.specs.Reads.{Got, got, refused}
+use Rattle.descriptor.specs.declared.Part.{Part}
 use Rattle.descriptor.specs.declared.Fields.{Fields}
 use Rattle.descriptor.specs.declared.Reading.{Reading}
 use Rattle.descriptor.specs.declared.Reading.the-variants.{Read, Structure, Validity}
@@ -12,11 +13,11 @@ use Rattle.descriptor.specs.declared.DescriptorNumbers.{DescriptorNumber
 use Rattle.descriptor.specs.declared.GrantNumbers.{GrantNumbers}
 use Rattle.descriptor.specs.Reader.{GrantSeen}
 
--- 0 and the fields
-abbrev pub fieldNumbers : Fields → DescriptorNumbers
-fieldNumbers f =
+-- an answer and fields
+abbrev pub answerNumbers : ℕ → Fields → DescriptorNumbers
+answerNumbers n f =
     record {
-      answer = 0;
+      answer = n;
       «payload_at» = f .payload .at;
       «payload_len» = f .payload .len;
       «issued_at» = f .issued;
@@ -41,34 +42,41 @@ fieldNumbers f =
       «signature_len» = f .signature .len;
     }
 
+-- no part of the bytes
+abbrev pub noPart : Part
+noPart = record { at = 0; len = 0 }
+
+-- fields that are all 0
+abbrev pub zeroFields : Fields
+zeroFields =
+    record {
+      payload = noPart;
+      issued = 0;
+      before = 0;
+      after = 0;
+      id = 0;
+      issuer = noPart;
+      grantor = noPart;
+      fay = 0;
+      terminal = 0;
+      grants = 0;
+      first = 0;
+      metadata = 0;
+      pairs = 0;
+      constraints = 0;
+      mask = 0;
+      key = noPart;
+      algorithm = 0;
+      signature = noPart;
+    }
+
+-- 0 and the fields
+abbrev pub fieldNumbers : Fields → DescriptorNumbers
+fieldNumbers f = answerNumbers 0 f
+
 -- a refusal's other numbers are 0
 abbrev pub noFields : ℕ → DescriptorNumbers
-noFields n =
-    record {
-      answer = n;
-      «payload_at» = 0;
-      «payload_len» = 0;
-      «issued_at» = 0;
-      «not_before» = 0;
-      «not_after» = 0;
-      «id_at» = 0;
-      «issuer_at» = 0;
-      «issuer_len» = 0;
-      «grantor_at» = 0;
-      «grantor_len» = 0;
-      «fay_at» = 0;
-      «terminal_at» = 0;
-      grants = 0;
-      «metadata_at» = 0;
-      «metadata_pairs» = 0;
-      «constraint_pairs» = 0;
-      mask = 0;
-      «key_id_at» = 0;
-      «key_id_len» = 0;
-      algorithm = 0;
-      «signature_at» = 0;
-      «signature_len» = 0;
-    }
+noFields n = answerNumbers n zeroFields
 
 -- document 01's answer and values of a reading
 abbrev pub numbersOf : Reading → DescriptorNumbers

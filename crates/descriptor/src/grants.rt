@@ -1,22 +1,27 @@
 // Grants.
 use crate::GrantFields;
 use crate::GrantRead;
-use crate::bytes::same_terminal;
-use crate::keys;
+use crate::ids::equal_terminals;
 use crate::modes::modes_at;
-use crate::pairs::OptPairs;
-use crate::pairs::opt_pairs;
-use crate::value::CountRead;
-use crate::value::count_at;
-use crate::value::keyed_word;
 use cbor_item::SpanRead;
-use octets::has_at;
+use entries::keys;
+use entries::pairs::opt_pairs;
+use entries::value::CountRead;
+use entries::value::Kind;
+use entries::value::OptionalRead;
+use entries::value::count_at;
+use entries::value::keyed;
+use entries::value::keyed_count;
+use entries::value::keys_of;
 ghost use mathlib.Core.Path.{_≡_};
 ghost use Prim.Native.Nat.{_+_, _≤_, _<_};
 ghost use lib.ListN.{length};
+ghost use lib.Dec.{eqb};
+ghost use Rattle.exact.specs.Reads.{got, guard};
+ghost use Rattle.entries.specs.Value.{flag};
 ghost use Rattle.descriptor.specs.Allowed.{terminalSize};
 ghost use Rattle.descriptor.specs.Reader.{grantAt, moreAt, grantsAt};
-ghost use Rattle.descriptor.specs.Answer.{grantEnd, grantRead, sumOf, sumRead, grantsRead};
+ghost use Rattle.descriptor.specs.Answer.{grantOf, grantRead, sumOf, sumRead, grantsRead};
 
 // The union of masks and the number of constraint pairs.
 pub(crate) struct Sum {
@@ -43,34 +48,12 @@ pub(crate) enum GrantsRead {
     NoGrants,
 }
 
-// The end of a grant, from its pattern on: the number of its keys is the one expected.
-fn grant_end(
-    s: &[u8],
-    at: usize,
-    same: bool,
-    mask: u64,
-    modes: usize,
-    constraints: usize,
-    pairs: u64,
-) -> GrantRead
-    ensures { λ r. ⌜ grantRead r ≡ grantEnd (now (s .entry)) at same mask modes constraints pairs ⌝ }
+// A grant whose map has as many keys as its head says.
+fn if_counts(count: u64, constrained: bool, fields: GrantFields, next: usize) -> GrantRead
+    ensures { λ r. ⌜ grantRead r ≡ guard (eqb count (2 + flag constrained)) (got (grantOf fields) next) ⌝ }
 {
-    let SpanRead::IsSpan { start, len } = keyed_word(s, at, &keys::RESOURCE_PATTERN, 2) else {
-        return GrantRead::NoGrant;
-    };
-    if same {
-        let fields = GrantFields {
-            mask,
-            modes,
-            constraints,
-            pairs,
-            pattern: start,
-            len,
-        };
-        return GrantRead::IsGrant {
-            fields,
-            next: start + len,
-        };
+    if count == 2 + keys_of(constrained) {
+        return GrantRead::IsGrant { fields, next };
     }
     GrantRead::NoGrant
 }
@@ -86,29 +69,25 @@ pub(crate) fn grant_at(s: &[u8], at: usize) -> GrantRead
     else {
         return GrantRead::NoGrant;
     };
-    if !has_at(s, n, &keys::MODES) {
+    let CountRead::IsCount { value: mask, next } = modes_at(s, n) else {
         return GrantRead::NoGrant;
-    }
-    let CountRead::IsCount {
-        value: mask,
-        next: after,
-    } = modes_at(s, n + 6)
+    };
+    let OptionalRead::IsOptional { value, next } = opt_pairs(s, next, &keys::CONSTRAINTS, 8) else {
+        return GrantRead::NoGrant;
+    };
+    let SpanRead::IsSpan { start, len } = keyed(s, next, &keys::RESOURCE_PATTERN, Kind::Pattern)
     else {
         return GrantRead::NoGrant;
     };
-    match opt_pairs(s, after, &keys::CONSTRAINTS, 8) {
-        OptPairs::Absent => grant_end(s, after, count == 2, mask, n + 6, 0, 0),
-        OptPairs::Present { pairs, next } => grant_end(
-            s,
-            next,
-            count == 3,
-            mask,
-            n + 6,
-            after + 12,
-            pairs,
-        ),
-        OptPairs::Broken => GrantRead::NoGrant,
-    }
+    let fields = GrantFields {
+        mask,
+        modes: n + 6,
+        constraints: value.at,
+        pairs: value.size,
+        pattern: start,
+        len,
+    };
+    if_counts(count, value.there, fields, start + len)
 }
 
 // One more grant, whose pattern has the terminal id that stands at `first`.
@@ -120,8 +99,7 @@ fn more_at(s: &[u8], first: usize, sum: Sum, at: usize) -> SumRead
     let GrantRead::IsGrant { fields, next } = grant_at(s, at) else {
         return SumRead::NoSum;
     };
-    let pattern = fields.pattern;
-    if same_terminal(&s[pattern..], &s[first..]) {
+    if equal_terminals(s, fields.pattern, first) {
         let mask = sum.mask | fields.mask;
         let pairs = sum.pairs + fields.pairs;
         return SumRead::IsSum {
@@ -132,17 +110,14 @@ fn more_at(s: &[u8], first: usize, sum: Sum, at: usize) -> SumRead
     SumRead::NoSum
 }
 
-// 1 to 256 grants.
+// 1 to 256 grants after their key.
 pub(crate) fn grants_at(s: &[u8], at: usize) -> GrantsRead
     ensures { λ r. ⌜ grantsRead r ≡ grantsAt (now (s .entry)) at ⌝ }
 {
-    let CountRead::IsCount {
-        value: count,
-        next: start,
-    } = count_at(s, at, 4, 1, 256)
-    else {
+    let CountRead::IsCount { value, next } = keyed_count(s, at, &keys::GRANTS, 4, 1, 256) else {
         return GrantsRead::NoGrants;
     };
+    let start = next;
     let GrantRead::IsGrant { fields, next } = grant_at(s, start) else {
         return GrantsRead::NoGrants;
     };
@@ -151,7 +126,7 @@ pub(crate) fn grants_at(s: &[u8], at: usize) -> GrantsRead
         mask: fields.mask,
         pairs: fields.pairs,
     };
-    let mut left = count - 1;
+    let mut left = value - 1;
     let mut here = next;
     while 0 < left {
         match more_at(s, first, sum, here) {
@@ -168,7 +143,7 @@ pub(crate) fn grants_at(s: &[u8], at: usize) -> GrantsRead
     }
     GrantsRead::IsGrants {
         grants: GrantsFields {
-            count,
+            count: value,
             start,
             first,
             sum,

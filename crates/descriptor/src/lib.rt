@@ -1,14 +1,11 @@
 // Descriptors: the data model of source 002 in the deterministic encoding of RFC 8949, as document 01 limits it. What is promised is in
 // specs/Promises.antt of `descriptor_laws`.
-mod bytes;
 mod grants;
-mod keys;
+mod ids;
 mod modes;
-mod pairs;
 mod payload;
-mod signature;
 mod sizes;
-mod value;
+mod whole;
 
 ghost use mathlib.Core.Path.{_≡_};
 ghost use Rattle.octets.specs.Bytes.{PartOf};
@@ -114,7 +111,7 @@ pub struct GrantNumbers {
 pub fn read_descriptor(s: &[u8]) -> Reading
     ensures { λ r. ⌜ r ≡ readingOf (readOf (now (s .entry))) ⌝ }
 {
-    signature::whole(s)
+    whole::descriptor(s)
 }
 
 // The payload of what was read from s, which the signature covers, as the part of s itself; the empty part at the start on a refusal.

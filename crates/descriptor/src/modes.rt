@@ -1,12 +1,13 @@
 // Modes, by the names of their numbers.
-use crate::keys;
-use crate::value::CountRead;
-use crate::value::count_at;
+use entries::keys;
+use entries::value::CountRead;
+use entries::value::keyed_count;
 use octets::has_at;
 ghost use mathlib.Core.Path.{_≡_};
 ghost use Prim.Native.Nat.{_<_, _^_};
 ghost use Rattle.descriptor.specs.Reader.{modeAt, modesAt};
-ghost use Rattle.descriptor.specs.Answer.{countRead, withMode};
+ghost use Rattle.descriptor.specs.Answer.{withMode};
+ghost use Rattle.entries.specs.Answer.{countRead};
 
 // The mask with one bit more, which it does not have yet.
 fn with_mode(mask: u64, bit: u64, next: usize) -> CountRead
@@ -42,11 +43,11 @@ fn mode_at(s: &[u8], mask: u64, at: usize) -> CountRead
     CountRead::NoCount
 }
 
-// 1 to 4 modes; the value is their mask.
+// 1 to 4 modes after their key; the value is their mask.
 pub(crate) fn modes_at(s: &[u8], at: usize) -> CountRead
     ensures { λ r. ⌜ countRead r ≡ modesAt (now (s .entry)) at ⌝ }
 {
-    let CountRead::IsCount { value, next } = count_at(s, at, 4, 1, 4) else {
+    let CountRead::IsCount { value, next } = keyed_count(s, at, &keys::MODES, 4, 1, 4) else {
         return CountRead::NoCount;
     };
     let mut left = value;

@@ -1,76 +1,75 @@
-// The payload, in three pieces.
-use crate::bytes::same_terminal;
+// The payload: the number of its keys, its grants, and the rest in three pieces.
+use crate::Part;
 use crate::grants::GrantsFields;
 use crate::grants::GrantsRead;
 use crate::grants::grants_at;
-use crate::keys;
-use crate::pairs::OptPairs;
-use crate::pairs::opt_pairs;
+use crate::ids::equal_terminals;
 use crate::sizes;
-use crate::value::CountRead;
-use crate::value::OptText;
-use crate::value::count_at;
-use crate::value::keyed_bytes;
-use crate::value::keyed_text;
-use crate::value::keyed_time;
-use crate::value::keyed_word;
-use crate::value::opt_text;
 use cbor_item::SpanRead;
-use octets::has_at;
+use entries::keys;
+use entries::pairs::opt_pairs;
+use entries::value::CountRead;
+use entries::value::Kind;
+use entries::value::LAST_TIME;
+use entries::value::Optional;
+use entries::value::OptionalRead;
+use entries::value::count_at;
+use entries::value::keyed;
+use entries::value::keyed_count;
+use entries::value::keys_of;
+use entries::value::opt_keyed;
 ghost use mathlib.Core.Path.{_≡_};
 ghost use Prim.Native.Nat.{_+_, _≤_};
 ghost use lib.ListN.{length};
+ghost use Rattle.exact.specs.Reads.{got, guard};
 ghost use Rattle.descriptor.specs.Allowed.{terminalSize};
-ghost use Rattle.descriptor.specs.Reader.{openingAt, middleAt, closingAt, payloadFits, payloadAt};
-ghost use Rattle.descriptor.specs.Answer.{flag, openingEnd, openingRead, middleEnd, middleRead, closingRead, payloadOf, payloadRead};
+ghost use Rattle.descriptor.specs.Reader.{issueAt, grantorAt, idsAt, payloadFits, payloadAt};
+ghost use Rattle.descriptor.specs.Answer.{issueRead, grantorRead, idsRead, payloadOf, payloadRead};
 
-// The number of keys, the grants, metadata (whether it is there, its place and its number of pairs, 0 where it is absent) and issued_at.
-pub(crate) struct OpeningFields {
-    pub(crate) keys: u64,
-    pub(crate) grants: GrantsFields,
-    pub(crate) present: bool,
-    pub(crate) metadata: usize,
-    pub(crate) pairs: u64,
+// metadata, issued_at, issuer_id and not_after.
+pub(crate) struct IssueFields {
+    pub(crate) metadata: Optional,
     pub(crate) issued: u64,
-}
-
-pub(crate) enum OpeningRead {
-    IsOpening { opening: OpeningFields, next: usize },
-    NoOpening,
-}
-
-// issuer_id, not_after, grantor_id (whether it is there, its place and its length, 0 where it is absent) and not_before.
-pub(crate) struct MiddleFields {
-    pub(crate) issuer: usize,
-    pub(crate) len: usize,
+    pub(crate) issuer: Part,
     pub(crate) after: u64,
-    pub(crate) present: bool,
-    pub(crate) grantor: usize,
-    pub(crate) long: usize,
+}
+
+// grantor_id and not_before.
+pub(crate) struct GrantorFields {
+    pub(crate) grantor: Optional,
     pub(crate) before: u64,
 }
 
-pub(crate) enum MiddleRead {
-    IsMiddle { middle: MiddleFields, next: usize },
-    NoMiddle,
-}
-
 // The places of terminal_id, descriptor_id and subject_fay_id.
-pub(crate) struct ClosingFields {
+pub(crate) struct IdsFields {
     pub(crate) terminal: usize,
     pub(crate) id: usize,
     pub(crate) fay: usize,
 }
 
-pub(crate) enum ClosingRead {
-    IsClosing { closing: ClosingFields, next: usize },
-    NoClosing,
+// A payload: the number of its keys, its grants and these pieces.
+pub(crate) struct PayloadFields {
+    pub(crate) keys: u64,
+    pub(crate) grants: GrantsFields,
+    pub(crate) issue: IssueFields,
+    pub(crate) grantor: GrantorFields,
+    pub(crate) ids: IdsFields,
 }
 
-pub(crate) struct PayloadFields {
-    pub(crate) opening: OpeningFields,
-    pub(crate) middle: MiddleFields,
-    pub(crate) closing: ClosingFields,
+// Each of them, and the place after it.
+pub(crate) enum IssueRead {
+    IsIssue { issue: IssueFields, next: usize },
+    NoIssue,
+}
+
+pub(crate) enum GrantorRead {
+    IsGrantor { grantor: GrantorFields, next: usize },
+    NoGrantor,
+}
+
+pub(crate) enum IdsRead {
+    AreIds { ids: IdsFields, next: usize },
+    NoIds,
 }
 
 pub(crate) enum PayloadRead {
@@ -78,214 +77,151 @@ pub(crate) enum PayloadRead {
     NoPayload,
 }
 
-// The end of the opening, from issued_at on.
-fn opening_end(
-    s: &[u8],
-    at: usize,
-    count: u64,
-    grants: GrantsFields,
-    present: bool,
-    metadata: usize,
-    pairs: u64,
-) -> OpeningRead
-    ensures { λ r. ⌜ openingRead r ≡ openingEnd (now (s .entry)) at count grants present metadata pairs ⌝ }
+// metadata, issued_at, issuer_id and not_after.
+fn issue_at(s: &[u8], at: usize) -> IssueRead
+    ensures { λ r. ⌜ issueRead r ≡ issueAt (now (s .entry)) at ⌝ }
 {
-    match keyed_time(s, at, &keys::ISSUED_AT) {
-        CountRead::IsCount {
-            value: issued,
-            next,
-        } => {
-            let opening = OpeningFields {
-                keys: count,
-                grants,
-                present,
-                metadata,
-                pairs,
-                issued,
-            };
-            OpeningRead::IsOpening { opening, next }
-        }
-        CountRead::NoCount => OpeningRead::NoOpening,
-    }
-}
-
-// The payload up to issued_at.
-fn opening_at(s: &[u8], at: usize) -> OpeningRead
-    ensures { λ r. ⌜ openingRead r ≡ openingAt (now (s .entry)) at ⌝ }
-{
-    let CountRead::IsCount {
-        value: count,
-        next: n,
-    } = count_at(s, at, 5, 8, 10)
-    else {
-        return OpeningRead::NoOpening;
-    };
-    if !has_at(s, n, &keys::GRANTS) {
-        return OpeningRead::NoOpening;
-    }
-    let GrantsRead::IsGrants {
-        grants,
-        next: after,
-    } = grants_at(s, n + 7)
-    else {
-        return OpeningRead::NoOpening;
-    };
-    match opt_pairs(s, after, &keys::METADATA, 16) {
-        OptPairs::Absent => opening_end(s, after, count, grants, false, 0, 0),
-        OptPairs::Present { pairs, next } => opening_end(
-            s,
-            next,
-            count,
-            grants,
-            true,
-            after + 9,
-            pairs,
-        ),
-        OptPairs::Broken => OpeningRead::NoOpening,
-    }
-}
-
-// The end of the middle, from not_before on.
-fn middle_end(
-    s: &[u8],
-    at: usize,
-    issuer: usize,
-    len: usize,
-    after: u64,
-    present: bool,
-    grantor: usize,
-    long: usize,
-) -> MiddleRead
-    ensures { λ r. ⌜ middleRead r ≡ middleEnd (now (s .entry)) at issuer len after present grantor long ⌝ }
-{
-    match keyed_time(s, at, &keys::NOT_BEFORE) {
-        CountRead::IsCount {
-            value: before,
-            next,
-        } => {
-            let middle = MiddleFields {
-                issuer,
-                len,
-                after,
-                present,
-                grantor,
-                long,
-                before,
-            };
-            MiddleRead::IsMiddle { middle, next }
-        }
-        CountRead::NoCount => MiddleRead::NoMiddle,
-    }
-}
-
-// The payload from issuer_id to not_before.
-fn middle_at(s: &[u8], at: usize) -> MiddleRead
-    ensures { λ r. ⌜ middleRead r ≡ middleAt (now (s .entry)) at ⌝ }
-{
-    let SpanRead::IsSpan { start, len } = keyed_text(s, at, &keys::ISSUER_ID, 1, 128) else {
-        return MiddleRead::NoMiddle;
+    let OptionalRead::IsOptional { value, next } = opt_pairs(s, at, &keys::METADATA, 16) else {
+        return IssueRead::NoIssue;
     };
     let CountRead::IsCount {
-        value: after,
-        next: n,
-    } = keyed_time(s, start + len, &keys::NOT_AFTER)
+        value: issued,
+        next,
+    } = keyed_count(s, next, &keys::ISSUED_AT, 0, 0, LAST_TIME)
     else {
-        return MiddleRead::NoMiddle;
+        return IssueRead::NoIssue;
     };
-    match opt_text(s, n, &keys::GRANTOR_ID, 1, 128) {
-        OptText::NoText => middle_end(s, n, start, len, after, false, 0, 0),
-        OptText::IsText {
-            start: grantor,
-            len: long,
-        } => middle_end(s, grantor + long, start, len, after, true, grantor, long),
-        OptText::Wrong => MiddleRead::NoMiddle,
-    }
+    let SpanRead::IsSpan { start, len } = keyed(
+        s,
+        next,
+        &keys::ISSUER_ID,
+        Kind::Text { lo: 1, hi: 128 },
+    ) else {
+        return IssueRead::NoIssue;
+    };
+    let CountRead::IsCount { value: after, next } = keyed_count(
+        s,
+        start + len,
+        &keys::NOT_AFTER,
+        0,
+        0,
+        LAST_TIME,
+    ) else {
+        return IssueRead::NoIssue;
+    };
+    let issue = IssueFields {
+        metadata: value,
+        issued,
+        issuer: Part { at: start, len },
+        after,
+    };
+    IssueRead::IsIssue { issue, next }
 }
 
-// The payload from terminal_id on.
-fn closing_at(s: &[u8], at: usize) -> ClosingRead
-    ensures { λ r. ⌜ closingRead r ≡ closingAt (now (s .entry)) at ⌝ }
+// grantor_id and not_before.
+fn grantor_at(s: &[u8], at: usize) -> GrantorRead
+    ensures { λ r. ⌜ grantorRead r ≡ grantorAt (now (s .entry)) at ⌝ }
+{
+    let OptionalRead::IsOptional { value, next } = opt_keyed(
+        s,
+        at,
+        &keys::GRANTOR_ID,
+        Kind::Text { lo: 1, hi: 128 },
+    ) else {
+        return GrantorRead::NoGrantor;
+    };
+    let CountRead::IsCount {
+        value: before,
+        next,
+    } = keyed_count(s, next, &keys::NOT_BEFORE, 0, 0, LAST_TIME)
+    else {
+        return GrantorRead::NoGrantor;
+    };
+    let grantor = GrantorFields {
+        grantor: value,
+        before,
+    };
+    GrantorRead::IsGrantor { grantor, next }
+}
+
+// terminal_id, descriptor_id and subject_fay_id.
+fn ids_at(s: &[u8], at: usize) -> IdsRead
+    ensures { λ r. ⌜ idsRead r ≡ idsAt (now (s .entry)) at ⌝ }
 {
     let SpanRead::IsSpan {
         start: terminal,
         len,
-    } = keyed_word(s, at, &keys::TERMINAL_ID, 0)
+    } = keyed(s, at, &keys::TERMINAL_ID, Kind::Terminal)
     else {
-        return ClosingRead::NoClosing;
+        return IdsRead::NoIds;
     };
-    let SpanRead::IsSpan { start: id, len: n } = keyed_bytes(
+    let bytes = Kind::Bytes {
+        lo: sizes::ID_SIZE,
+        hi: sizes::ID_SIZE,
+    };
+    let SpanRead::IsSpan { start: id, len: n } = keyed(
         s,
         terminal + len,
         &keys::DESCRIPTOR_ID,
-        sizes::ID_SIZE,
-        sizes::ID_SIZE,
+        bytes,
     ) else {
-        return ClosingRead::NoClosing;
+        return IdsRead::NoIds;
     };
-    let SpanRead::IsSpan { start: fay, len: m } = keyed_word(s, id + n, &keys::SUBJECT_FAY_ID, 1)
+    let SpanRead::IsSpan { start: fay, len: m } = keyed(s, id + n, &keys::SUBJECT_FAY_ID, Kind::Fay)
     else {
-        return ClosingRead::NoClosing;
+        return IdsRead::NoIds;
     };
-    ClosingRead::IsClosing {
-        closing: ClosingFields { terminal, id, fay },
+    IdsRead::AreIds {
+        ids: IdsFields { terminal, id, fay },
         next: fay + m,
     }
 }
 
-// The number of keys that a payload has.
-fn keys_of(a: bool, b: bool) -> u64
-    ensures { λ r. ⌜ r ≡ 8 + (flag a + flag b) ⌝ }
+// A payload that meets the conditions on the whole.
+fn if_fits(s: &[u8], payload: PayloadFields, next: usize) -> PayloadRead
+    requires { ⌜ (payload .grants .first + terminalSize ≤ length (now s)) × (payload .ids .terminal + terminalSize ≤ length (now s)) ⌝ }
+    ensures { λ r. ⌜ payloadRead r ≡ guard (payloadFits (now (s .entry)) (payloadOf payload)) (got (payloadOf payload) next) ⌝ }
 {
-    if a {
-        if b { 10 } else { 9 }
-    } else {
-        if b { 9 } else { 8 }
+    let grants = payload.grants;
+    let issue = payload.issue;
+    let metadata = issue.metadata;
+    let grantor = payload.grantor;
+    let named = grantor.grantor;
+    let ids = payload.ids;
+    let keys = 8 + (keys_of(metadata.there) + keys_of(named.there));
+    let own = equal_terminals(s, grants.first, ids.terminal);
+    let lasts = (issue.issued <= grantor.before) & (grantor.before < issue.after);
+    if (payload.keys == keys) & (own & lasts) {
+        return PayloadRead::IsPayload { payload, next };
     }
-}
-
-// The conditions on the whole payload.
-fn fits(s: &[u8], p: PayloadFields) -> bool
-    requires { ⌜ (p .opening .grants .first + terminalSize ≤ length (now s)) × (p .closing .terminal + terminalSize ≤ length (now s)) ⌝ }
-    ensures { λ r. ⌜ r ≡ payloadFits (now (s .entry)) (payloadOf p) ⌝ }
-{
-    let opening = p.opening;
-    let middle = p.middle;
-    let closing = p.closing;
-    let grants = opening.grants;
-    let first = grants.first;
-    let terminal = closing.terminal;
-    if opening.keys != keys_of(opening.present, middle.present) {
-        return false;
-    }
-    if !same_terminal(&s[first..], &s[terminal..]) {
-        return false;
-    }
-    if middle.before < opening.issued {
-        return false;
-    }
-    middle.before < middle.after
+    PayloadRead::NoPayload
 }
 
 // The payload at a place.
 pub(crate) fn payload_at(s: &[u8], at: usize) -> PayloadRead
     ensures { λ r. ⌜ payloadRead r ≡ payloadAt (now (s .entry)) at ⌝ }
 {
-    let OpeningRead::IsOpening { opening, next: n } = opening_at(s, at) else {
+    let CountRead::IsCount { value, next } = count_at(s, at, 5, 8, 10) else {
         return PayloadRead::NoPayload;
     };
-    let MiddleRead::IsMiddle { middle, next: m } = middle_at(s, n) else {
+    let GrantsRead::IsGrants { grants, next } = grants_at(s, next) else {
         return PayloadRead::NoPayload;
     };
-    let ClosingRead::IsClosing { closing, next } = closing_at(s, m) else {
+    let IssueRead::IsIssue { issue, next } = issue_at(s, next) else {
+        return PayloadRead::NoPayload;
+    };
+    let GrantorRead::IsGrantor { grantor, next } = grantor_at(s, next) else {
+        return PayloadRead::NoPayload;
+    };
+    let IdsRead::AreIds { ids, next } = ids_at(s, next) else {
         return PayloadRead::NoPayload;
     };
     let payload = PayloadFields {
-        opening,
-        middle,
-        closing,
+        keys: value,
+        grants,
+        issue,
+        grantor,
+        ids,
     };
-    if fits(s, payload) {
-        return PayloadRead::IsPayload { payload, next };
-    }
-    PayloadRead::NoPayload
+    if_fits(s, payload, next)
 }

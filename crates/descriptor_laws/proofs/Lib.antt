@@ -1,5 +1,4 @@
 pub mod encoding
-pub mod values
 pub mod grants
 pub mod payload
 pub mod whole

@@ -1,4 +1,5 @@
--- The readers of one grant and of all grants are exact; the levels of their patterns, and their masks.
+-- The readers of modes, of one grant and of all grants are exact, and their masks.
+pub mod ModeLaws
 pub mod GrantLaws
 pub mod GrantsLaws
 pub mod MaskLaws

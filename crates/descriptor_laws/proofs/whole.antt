@@ -1,5 +1,4 @@
--- The readers of a signature and of a descriptor are exact, and so is the answer; and what is allowed in numbers.
-pub mod SignatureLaws
+-- The reader of a descriptor is exact, and so is the answer; and what is allowed in numbers.
 pub mod DescriptorLaws
 pub mod AnswerLaws
 pub mod LimitLaws

@@ -8,7 +8,8 @@ use Prim.Native.Nat.{ℕ, suc, _+_, _-_, _<_}
 use lib.ListN.{length, take, drop, getD}
 use Rattle.octets.specs.Bytes.{AreBytes, part}
 use Rattle.exact.specs.Reads.{got}
-use Rattle.descriptor.specs.Model.{Grant, Descriptor, pairCount, encode}
+use Rattle.entries.specs.Model.{pairCount}
+use Rattle.descriptor.specs.Model.{Grant, Descriptor, encode}
 use Rattle.descriptor.specs.Allowed.{isIn, GrantOk, longestPeriod, period, Formed, Allowed}
 use Rattle.descriptor.specs.Modes.{unionOf}
 use Rattle.descriptor.specs.Reader.{hasMode, GrantSeen, Seen, read, structure, validity, readOf, grantAt}
@@ -89,5 +90,5 @@ pub data InTurn (s t : List ℕ) : ℕ → ℕ → List Grant → Type 0 where
 -- so are those of a formed descriptor in its encoding
 abbrev pub GrantsInTurn : Type 0
 GrantsInTurn = (d : Descriptor) → AreBytes (encode d) → Formed d
-    → let v = descriptorView 0 d .payload .opening .grants
+    → let v = descriptorView 0 d .payload .grants
     in InTurn (encode d) (d .payload .terminal) (v .count) (v .start) (d .payload .grants)

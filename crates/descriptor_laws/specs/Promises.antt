@@ -18,13 +18,14 @@ use Rattle.resource.specs.Identifier.{isFay, isTerminal}
 use Rattle.resource.specs.Text.{isPattern}
 use Rattle.descriptor.specs.declared.DescriptorNumbers.{DescriptorNumbers}
 use Rattle.descriptor.specs.declared.GrantNumbers.{GrantNumbers}
-use Rattle.descriptor.specs.Keys.{kPayload, kVersion, kSignature, kGrants, kMetadata, kIssuedAt, kIssuerId, kNotAfter, kGrantorId}
-use Rattle.descriptor.specs.Keys.{kNotBefore, kTerminalId, kDescriptorId, kSubjectFayId, kKeyId, kAlgorithm, kSignatureValue, kModes}
-use Rattle.descriptor.specs.Keys.{kConstraints, kResourcePattern, ed25519, ecdsaP256Sha256, mRead, mWrite, mExecute, mConfigure}
-use Rattle.descriptor.specs.Model.{Pair, Grant, Payload, Signature, Descriptor, encPairs, encMode, encGrant, encodePayload, encAlgorithm}
-use Rattle.descriptor.specs.Model.{encSignature, encode}
+use Rattle.entries.specs.Keys.{kPayload, kVersion, kSignature, kGrants, kMetadata, kIssuedAt, kIssuerId, kNotAfter, kGrantorId}
+use Rattle.entries.specs.Keys.{kNotBefore, kTerminalId, kDescriptorId, kSubjectFayId, kKeyId, kAlgorithm, kSignatureValue, kModes}
+use Rattle.entries.specs.Keys.{kConstraints, kResourcePattern, ed25519, ecdsaP256Sha256, mRead, mWrite, mExecute, mConfigure}
+use Rattle.entries.specs.Model.{Pair, Signature, encPairs, encAlgorithm, encSignature}
+use Rattle.entries.specs.Allowed.{PairsOk}
+use Rattle.descriptor.specs.Model.{Grant, Payload, Descriptor, encMode, encGrant, encodePayload, encode}
+use Rattle.descriptor.specs.Allowed.{longest, longestPeriod, Formed, Allowed}
 use Rattle.octets.specs.Order.{before}
-use Rattle.descriptor.specs.Allowed.{PairsOk, longest, longestPeriod, Formed, Allowed}
 use Rattle.descriptor.specs.Modes.{unionOf}
 use Rattle.descriptor.specs.Reader.{readOf, grantAt}
 use Rattle.descriptor.specs.View.{maskOf, grantPlace}

@@ -8,7 +8,7 @@ use borrow.Author.Tests.{le-leb}
 use Rattle.exact.specs.Reads.{refused}
 use Rattle.cbor_item.specs.Head.{headAt}
 use Rattle.exact.proofs.ReadsLaws.{stopped}
-use Rattle.descriptor.specs.Value.{countAt}
+use Rattle.entries.specs.Value.{countAt}
 use Rattle.descriptor.specs.Reader.{grantAt}
 
 -- there is no head

@@ -34,7 +34,7 @@ unfolding startOf
 starts s e f = ap (firstIn s) (sym f ∙ e) ∙ first-start s (readOf s)
 
 -- where a descriptor is read, the walk begins at its first grant
-pub start-read : (s : List ℕ) (v : Seen) → readOf s ≡ read v → startOf s ≡ v .payload .opening .grants .start
+pub start-read : (s : List ℕ) (v : Seen) → readOf s ≡ read v → startOf s ≡ v .payload .grants .start
 unfolding startOf
 start-read s v e = ap (startIn s) e
 

@@ -7,7 +7,7 @@ use Rattle.descriptor.specs.Reader.{GrantSeen, grantAt, Answer, read, structure
 
 -- the place of the first grant of what was read from s; the end of s where nothing was
 abbrev pub startIn : List ℕ → Answer → ℕ
-startIn s (read v) = v .payload .opening .grants .start
+startIn s (read v) = v .payload .grants .start
 startIn s structure = length s
 startIn s validity = length s
 

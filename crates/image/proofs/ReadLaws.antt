@@ -37,8 +37,8 @@ seen-row : (b : List ℕ) (v : Seen) (d : Descriptor) → Formed d → readOf b 
 unfolding reading
 seen-row b v d q e i j =
     let r = ap readingOf e in (
-      id-read b (fieldsOf v) r ∙ ap₂ (λ (x : List ℕ) (u : Seen). part x (u .payload .closing .id) idSize) i j ∙ seen-handed d q .id,
-      modes-read b (fieldsOf v) r ∙ ap (λ (u : Seen). u .payload .opening .grants .sum .mask) j ∙ seen-handed d q .mask,
+      id-read b (fieldsOf v) r ∙ ap₂ (λ (x : List ℕ) (u : Seen). part x (u .payload .id) idSize) i j ∙ seen-handed d q .id,
+      modes-read b (fieldsOf v) r ∙ ap (λ (u : Seen). u .payload .grants .sum .mask) j ∙ seen-handed d q .mask,
     )
 
 -- `BodyRead`.

@@ -227,10 +227,10 @@ first-found s t {ps = ps} st c u {gs = gs} r =
 
 -- the search through the bytes of two descriptors that were read answers what the search through their rules does
 pub scan-agrees : (s t : List ℕ) (v w : Seen) → AreBytes s → AreBytes t → readOf s ≡ read v → readOf t ≡ read w
-    → firstIn s (v .payload .opening .grants .start) (v .payload .opening .grants .count)
-    (cbor.same (part s (v .payload .closing .terminal) terminalSize) (part t (w .payload .closing .terminal) terminalSize)) t 0
-    (w .payload .opening .grants .count)
-    (w .payload .opening .grants .start)
+    → firstIn s (v .payload .grants .start) (v .payload .grants .count)
+    (cbor.same (part s (v .payload .terminal) terminalSize) (part t (w .payload .terminal) terminalSize)) t 0
+    (w .payload .grants .count)
+    (w .payload .grants .start)
     ≡ answerAt (rulesIn s v) (rulesIn t w) (firstRule (rulesIn s v) (rulesIn t w))
 scan-agrees s t v w bs bt e f =
     let a = read-turn s v bs e .1 in

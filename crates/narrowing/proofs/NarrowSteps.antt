@@ -23,7 +23,7 @@ use Rattle.descriptor.specs.Numbers.{numbersOf, numberOf}
 use Rattle.descriptor_laws.specs.Promises.{DescriptorHanded}
 use Rattle.descriptor_laws.proofs.Promises.{answered-exactly, hands-back}
 use Rattle.resource.proofs.Laws.{terminal-length}
-use Rattle.descriptor.proofs.ValueSteps.{lent-levels}
+use Rattle.entries.proofs.ValueSteps.{lent-levels}
 use Rattle.narrowing.specs.declared.Narrowing.{Narrowing}
 use Rattle.narrowing.specs.declared.Narrowing.the-variants.{Accepted, NoParent, Structure, Validity, Constrained, Period, NotCovered}
 use Rattle.narrowing.specs.declared.search.Found.{Found}
@@ -57,17 +57,17 @@ compared-agrees : (s t : List ℕ) (v w : Seen) → AreBytes s → AreBytes t �
     → comparedIn s (fieldsOf v) t (fieldsOf w) ≡ compared s v t w
 unfolding comparedIn compared
 compared-agrees s t v w bs bt e f =
-    let g : Narrowing = firstIn s (v .payload .opening .grants .start) (v .payload .opening .grants .count)
-    (cbor.same (part s (v .payload .closing .terminal) terminalSize) (part t (w .payload .closing .terminal) terminalSize)) t 0
-    (w .payload .opening .grants .count)
-    (w .payload .opening .grants .start) in
-    ap₂ (λ (x y : Bool). cond (not (eqb (v .payload .opening .grants .sum .pairs) 0)) Constrained
-    (cond (not (eqb (w .payload .opening .grants .sum .pairs) 0)) Constrained (cond x Period (cond y Period g))))
-    (later-not (v .payload .middle .notBefore) (w .payload .middle .notBefore))
-    (later-not (w .payload .middle .notAfter) (v .payload .middle .notAfter))
-    ∙ tests-agree (eqb (v .payload .opening .grants .sum .pairs) 0) (eqb (w .payload .opening .grants .sum .pairs) 0)
-    (leb (v .payload .middle .notBefore) (w .payload .middle .notBefore))
-    (leb (w .payload .middle .notAfter) (v .payload .middle .notAfter)) g _
+    let g : Narrowing = firstIn s (v .payload .grants .start) (v .payload .grants .count)
+    (cbor.same (part s (v .payload .terminal) terminalSize) (part t (w .payload .terminal) terminalSize)) t 0
+    (w .payload .grants .count)
+    (w .payload .grants .start) in
+    ap₂ (λ (x y : Bool). cond (not (eqb (v .payload .grants .sum .pairs) 0)) Constrained
+    (cond (not (eqb (w .payload .grants .sum .pairs) 0)) Constrained (cond x Period (cond y Period g))))
+    (later-not (v .payload .notBefore) (w .payload .notBefore))
+    (later-not (w .payload .notAfter) (v .payload .notAfter))
+    ∙ tests-agree (eqb (v .payload .grants .sum .pairs) 0) (eqb (w .payload .grants .sum .pairs) 0)
+    (leb (v .payload .notBefore) (w .payload .notBefore))
+    (leb (w .payload .notAfter) (v .payload .notAfter)) g _
     (scan-agrees s t v w bs bt e f)
 
 -- ---- what was read

@@ -11,7 +11,8 @@ use borrow.Author.Tests.{eqb-true, eq-eqb}
 use lib.ListN.{length}
 use Rattle.resource.specs.Identifier.{terminalSize}
 use Rattle.octets.specs.Bytes.{AreBytes, part}
-use Rattle.descriptor.specs.Model.{Pair, Grant, Descriptor, pairCount, encode}
+use Rattle.entries.specs.Model.{Pair, pairCount}
+use Rattle.descriptor.specs.Model.{Grant, Descriptor, encode}
 use Rattle.descriptor.specs.Allowed.{Formed}
 use Rattle.descriptor.specs.Reader.{Seen, read, readOf}
 use Rattle.descriptor.specs.View.{descriptorView}
@@ -41,16 +42,16 @@ rules-in d b q = turn-rules (grants-in-turn d b q)
 
 -- the grants gs, of the terminal t, are read in turn of a descriptor that was read from s
 abbrev TurnIn : List ℕ → List ℕ → Seen → List Grant → Type 0
-TurnIn s t v gs = InTurn s t (v .payload .opening .grants .count) (v .payload .opening .grants .start) gs
+TurnIn s t v gs = InTurn s t (v .payload .grants .count) (v .payload .grants .start) gs
 
 -- there are such grants for the terminal id that stands there
 pub read-turn : (s : List ℕ) (v : Seen) → AreBytes s → readOf s ≡ read v
-    → (gs : List Grant) × TurnIn s (part s (v .payload .closing .terminal) terminalSize) v gs
+    → (gs : List Grant) × TurnIn s (part s (v .payload .terminal) terminalSize) v gs
 read-turn s v b e =
     let r = reads-exactly s b v .0 e in
     let d : Descriptor = r .0 in
     let gs : List Grant = d .payload .grants in
-    let turn : (x : List ℕ) (w : Seen) → Type 0 = λ x w. TurnIn x (part x (w .payload .closing .terminal) terminalSize) w gs in
+    let turn : (x : List ℕ) (w : Seen) → Type 0 = λ x w. TurnIn x (part x (w .payload .terminal) terminalSize) w gs in
     let here : turn (encode d) (descriptorView 0 d)
     = subst (λ (t : List ℕ). TurnIn (encode d) t (descriptorView 0 d) gs) (sym (seen-handed d (r .1 .formed) .terminal))
     (grants-in-turn d (subst AreBytes (r .2) b) (r .1 .formed)) in

@@ -25,16 +25,16 @@ rulesAt s (suc n) at = elim (grantAt s at) [ got g next ↦ ruleOf s g ∷ rules
 
 -- the rules of a descriptor that was read from s
 abbrev pub rulesIn : List ℕ → Seen → List Rule
-rulesIn s v = rulesAt s (v .payload .opening .grants .count) (v .payload .opening .grants .start)
+rulesIn s v = rulesAt s (v .payload .grants .count) (v .payload .grants .start)
 
 -- a descriptor that was read has no constraint pair
 abbrev pub unconstrained : Seen → Bool
-unconstrained v = eqb (v .payload .opening .grants .sum .pairs) 0
+unconstrained v = eqb (v .payload .grants .sum .pairs) 0
 
 -- the period of w, [not_before, not_after), lies within that of v
 abbrev pub periodWithin : Seen → Seen → Bool
-periodWithin v w = leb (v .payload .middle .notBefore) (w .payload .middle .notBefore)
-    && leb (w .payload .middle .notAfter) (v .payload .middle .notAfter)
+periodWithin v w = leb (v .payload .notBefore) (w .payload .notBefore)
+    && leb (w .payload .notAfter) (v .payload .notAfter)
 
 -- the answer by the first rule by which a path escapes: 20 with its place, the lowest mode and the fewest names; 0 where there is none
 abbrev pub answerAt : List Rule → List Rule → Option ℕ → Narrowing

@@ -8,7 +8,8 @@ use Prim.Native.Nat.{ℕ, _≤_, _<_}
 use lib.ListN.{length, getD}
 use Rattle.octets.specs.Bytes.{AreBytes}
 use Rattle.resource.specs.Pattern.{Path, IsPath}
-use Rattle.descriptor.specs.Model.{Grant, Descriptor, pairCount, encode}
+use Rattle.entries.specs.Model.{pairCount}
+use Rattle.descriptor.specs.Model.{Grant, Descriptor, encode}
 use Rattle.descriptor.specs.Allowed.{Allowed}
 use Rattle.descriptor.specs.Reader.{readOf}
 use Rattle.descriptor.specs.Answer.{readingOf}

@@ -10,7 +10,8 @@ use Rattle.octets.specs.Bytes.{AreBytes, same}
 use Rattle.exact.specs.Reads.{got}
 use Rattle.resource.specs.Pattern.{admits}
 use Rattle.resource.specs.Text.{resourceOk, pathOf, patternOf, levelsMatch}
-use Rattle.descriptor.specs.Model.{Grant, Descriptor, pairCount, encode}
+use Rattle.entries.specs.Model.{pairCount}
+use Rattle.descriptor.specs.Model.{Grant, Descriptor, encode}
 use Rattle.descriptor.specs.Allowed.{isIn, GrantOk, Formed}
 use Rattle.descriptor.specs.Reader.{hasMode, GrantSeen, grantAt}
 use Rattle.descriptor.specs.View.{maskOf, descriptorView}
@@ -90,8 +91,8 @@ matched-agree d r m b q w h =
     t = d .payload .terminal
 
     found : Matched
-    found = firstFrom (encode d) (drop 46 r) m (descriptorView 0 d .payload .opening .grants .count)
-        (descriptorView 0 d .payload .opening .grants .start) 0
+    found = firstFrom (encode d) (drop 46 r) m (descriptorView 0 d .payload .grants .count)
+        (descriptorView 0 d .payload .grants .start) 0
 
     go : (c : Bool) → same t (take 45 r) ≡ c → cond c found Nothing ≡ firstServing (d .payload .grants) m (pathOf r) 0
     go true s = first-from (encode d) t r m w h s (grants-in-turn d b q) 0

@@ -17,7 +17,7 @@ use Rattle.resource.specs.Text.{levelsMatch}
 use Rattle.resource.specs.Laws.{Stepped}
 use Rattle.resource.proofs.Laws.{step-decides}
 use Rattle.descriptor.specs.Reader.{hasMode, GrantSeen, grantAt}
-use Rattle.descriptor.proofs.ValueSteps.{lent-levels}
+use Rattle.entries.proofs.ValueSteps.{lent-levels}
 use Rattle.request.specs.declared.search.Matched.the-variants.{IsAt, Nothing}
 use Rattle.request.specs.Decision.{serves, orNext, firstFrom}
 use Rattle.request.specs.Stages.{eligible}

@@ -11,7 +11,8 @@ use Rattle.octets.specs.Number.{numberAt}
 use Rattle.resource.specs.Identifier.{isFay, isTerminal}
 use Rattle.resource.specs.Pattern.{Path, admits}
 use Rattle.resource.specs.Text.{isResource, pathOf, patternOf}
-use Rattle.descriptor.specs.Model.{Grant, Descriptor, pairCount, encode}
+use Rattle.entries.specs.Model.{pairCount}
+use Rattle.descriptor.specs.Model.{Grant, Descriptor, encode}
 use Rattle.descriptor.specs.Allowed.{isIn, Allowed}
 use Rattle.descriptor.specs.Modes.{unionOf}
 use Rattle.steps.specs.declared.Window.{Window}

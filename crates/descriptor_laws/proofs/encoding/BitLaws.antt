@@ -5,7 +5,8 @@ use mathlib.Core.List.{List, [], _∷_}
 use Prim.Native.Nat.{ℕ, _+_}
 use lib.Dec.{eqb}
 use Rattle.cbor_item.specs.Encoding.{head}
-use Rattle.descriptor.specs.Keys.{mRead, mWrite, mExecute, mConfigure, modeNames}
+use Rattle.entries.specs.Keys.{mRead, mWrite, mExecute, mConfigure}
+use Rattle.descriptor.specs.Model.{modeNames}
 use Rattle.descriptor.specs.Model.{Grant, encMode}
 use Rattle.descriptor.specs.Allowed.{isIn}
 use Rattle.descriptor.specs.Modes.{anyHas, bit}

@@ -7,12 +7,13 @@ use Prim.Native.Nat.{ℕ, suc}
 use lib.ListN.{length}
 use Rattle.exact.specs.Reads.{encAll}
 use Rattle.cbor_item.specs.Encoding.{head}
-use Rattle.descriptor.specs.Model.{Pair, Grant, Payload, Signature, Descriptor, encPair, encPairs, encModes, encGrant, encGrants}
-use Rattle.descriptor.specs.Model.{encodePayload, encSignature, encode}
+use Rattle.entries.specs.Model.{Pair, Signature, encPair, encPairs, encSignature}
+use Rattle.descriptor.specs.Model.{Grant, Payload, Descriptor, encModes, encGrant, encGrants, encodePayload, encode}
 use Rattle.octets.specs.Order.{before}
 use Rattle.descriptor_laws.specs.Promises.{Entry, text, map, descriptorEntries, payloadEntries, signatureEntries, grantEntries}
 use Rattle.descriptor_laws.specs.Promises.{pairEntries, ascending, IsMap, MapsDeterministic}
 use Rattle.descriptor_laws.proofs.encoding.NameLaws as named
+use Rattle.descriptor_laws.proofs.encoding.NameLaws.{payload-keys}
 
 -- ---- payload
 
@@ -22,58 +23,10 @@ module _ (gs : List Grant) (issued : ℕ) (issuer : List ℕ) (after since : ℕ
 
   payload-map : (m : Option (List Pair)) (g : Option (List ℕ)) → encodePayload (payloadWith m g) ≡ map (payloadEntries (payloadWith m g))
   unfolding encodePayload encGrants
-  payload-map none none =
-      simp (
-        append-nil,
-        named.grants,
-        named.issued-at,
-        named.issuer-id,
-        named.not-after,
-        named.not-before,
-        named.terminal-id,
-        named.descriptor-id,
-        named.subject-fay-id,
-      )
-  payload-map none (some g) =
-      simp (
-        append-nil,
-        named.grants,
-        named.issued-at,
-        named.issuer-id,
-        named.not-after,
-        named.grantor-id,
-        named.not-before,
-        named.terminal-id,
-        named.descriptor-id,
-        named.subject-fay-id,
-      )
-  payload-map (some m) none =
-      simp (
-        append-nil,
-        named.grants,
-        named.metadata,
-        named.issued-at,
-        named.issuer-id,
-        named.not-after,
-        named.not-before,
-        named.terminal-id,
-        named.descriptor-id,
-        named.subject-fay-id,
-      )
-  payload-map (some m) (some g) =
-      simp (
-        append-nil,
-        named.grants,
-        named.metadata,
-        named.issued-at,
-        named.issuer-id,
-        named.not-after,
-        named.grantor-id,
-        named.not-before,
-        named.terminal-id,
-        named.descriptor-id,
-        named.subject-fay-id,
-      )
+  payload-map none none = simp (append-nil, payload-keys)
+  payload-map none (some g) = simp (append-nil, payload-keys)
+  payload-map (some m) none = simp (append-nil, payload-keys)
+  payload-map (some m) (some g) = simp (append-nil, payload-keys)
 
   payload-order : (m : Option (List Pair)) (g : Option (List ℕ)) → ascending (payloadEntries (payloadWith m g)) ≡ true
   unfolding before head

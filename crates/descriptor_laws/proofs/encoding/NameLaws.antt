@@ -1,11 +1,10 @@
 -- Each fixed byte string of a descriptor is the text of its name (specs/Keys.antt of `descriptor`). Assumes nothing.
 use mathlib.Core.Path.{_≡_, refl}
 use Rattle.cbor_item.specs.Encoding.{head}
-use Rattle.descriptor.specs.Keys.{kPayload, kVersion, kSignature, kGrants, kMetadata, kIssuedAt, kIssuerId, kNotAfter, kGrantorId}
-use Rattle.descriptor.specs.Keys.{kNotBefore, kTerminalId, kDescriptorId, kSubjectFayId, kKeyId, kAlgorithm, kSignatureValue, kModes}
-use Rattle.descriptor.specs.Keys.{kConstraints, kResourcePattern, ed25519, ecdsaP256Sha256, algorithms, mRead, mWrite, mExecute}
-use Rattle.descriptor.specs.Keys.{mConfigure}
-use Rattle.descriptor.specs.Model.{encAlgorithm}
+use Rattle.entries.specs.Keys.{kPayload, kVersion, kSignature, kGrants, kMetadata, kIssuedAt, kIssuerId, kNotAfter, kGrantorId}
+use Rattle.entries.specs.Keys.{kNotBefore, kTerminalId, kDescriptorId, kSubjectFayId, kKeyId, kAlgorithm, kSignatureValue, kModes}
+use Rattle.entries.specs.Keys.{kConstraints, kResourcePattern, ed25519, ecdsaP256Sha256, algorithms, mRead, mWrite, mExecute, mConfigure}
+use Rattle.entries.specs.Model.{encAlgorithm}
 use Rattle.descriptor_laws.specs.Promises.{name, NamesEncoded, AlgorithmsFixed}
 
 -- ---- descriptor
@@ -63,6 +62,20 @@ descriptor-id = refl
 pub subject-fay-id : kSubjectFayId ≡ name "subject_fay_id"
 unfolding head kSubjectFayId
 subject-fay-id = refl
+
+-- the keys of a payload
+pub ruleset payload-keys = (
+  grants,
+  metadata,
+  issued-at,
+  issuer-id,
+  not-after,
+  grantor-id,
+  not-before,
+  terminal-id,
+  descriptor-id,
+  subject-fay-id,
+)
 
 -- ---- signature
 

@@ -9,9 +9,9 @@ use lib.Dec.{ltb, eqb}
 use borrow.Author.Tests.{ltb-true, eqb-true, lt-ltb, eq-eqb}
 use Rattle.exact.specs.Reads.{AllFrom}
 use Rattle.octets.proofs.Tests.{and-left, and-right, and-both, or-elim, no-flag}
-use Rattle.descriptor.specs.Model.{Pair}
+use Rattle.entries.specs.Model.{Pair}
+use Rattle.entries.specs.Allowed.{PairOk, keyOf}
 use Rattle.octets.specs.Order.{before}
-use Rattle.descriptor.specs.Allowed.{PairOk, keyOf}
 use Rattle.descriptor_laws.specs.Promises.{text, Less, BytewiseOrder, Each, EachTwo, PairsAscend, PairsDistinct}
 
 -- ---- the order

@@ -1,6 +1,6 @@
 -- The reader of grants is exact (specs/Reader.antt of `descriptor`): all of them have the terminal id of the first. Assumes nothing.
 use mathlib.Core.Path.{_≡_, refl, sym, subst}
-use mathlib.Core.List.{List, [], _∷_, _++_}
+use mathlib.Core.List.{List, [], _∷_, _++_, append-assoc}
 use Prim.Native.Nat.{ℕ, suc, _+_, _-_, _≤_}
 use native.Mathlib.Omega.{arith}
 use lib.ListN.{length, take}
@@ -9,15 +9,16 @@ use Rattle.octets.specs.Bytes.{AreBytes, part, Has, same}
 use Rattle.exact.specs.Reads.{Reads, encOpt, encAll, AllFrom, viewAll}
 use Rattle.cbor_item.specs.Encoding.{head}
 use Rattle.octets.proofs.BytesLaws.{has-left, has-right, part-take}
-use Rattle.exact.proofs.ReadsLaws.{recast, seq, refine, mapped}
+use Rattle.exact.proofs.ReadsLaws.{recast, seq, keyed, refine, mapped}
 use Rattle.exact.proofs.CountedLaws.{counted}
-use Rattle.descriptor.specs.Keys.{kModes, kConstraints, kResourcePattern}
-use Rattle.descriptor.specs.Model.{Grant, size, encPairs, encModes, encGrant, encGrants}
+use Rattle.entries.specs.Keys.{kGrants, kModes, kConstraints, kResourcePattern}
+use Rattle.entries.specs.Model.{size, encPairs}
+use Rattle.descriptor.specs.Model.{Grant, encModes, encGrant, encGrants}
 use Rattle.descriptor.specs.Allowed.{GrantOk, All}
 use Rattle.descriptor.specs.Reader.{Sum, addGrant, moreAt, grantsAt}
 use Rattle.descriptor.specs.View.{grantView, sumFrom, grantsRest, grantsView}
 use Rattle.octets.proofs.TruthLaws.{same-test}
-use Rattle.descriptor_laws.proofs.values.ValueLaws.{count-exact}
+use Rattle.entries.proofs.ValueLaws.{count-exact}
 use Rattle.resource.proofs.Laws.{pattern-short}
 use Rattle.descriptor_laws.proofs.grants.GrantLaws.{grant-exact}
 
@@ -90,6 +91,10 @@ sum-seen : (sum : Sum) (at : ℕ) (gs : List Grant) → viewAll encGrant addSeen
 sum-seen sum at [] = refl
 sum-seen sum at (g ∷ gs) = sum-seen (addSeen sum g at) (at + length (encGrant g)) gs
 
+-- the encoding of grants after their key
+abbrev pub encKeyed : List Grant → List ℕ
+encKeyed gs = kGrants ++ encGrants gs
+
 -- ---- where a pattern stands
 
 module _ (s : List ℕ) where
@@ -108,10 +113,14 @@ module _ (s : List ℕ) where
   owner-at at g q h = part-take s _ 45 (g .pattern) (omega (arith, pattern-short (g .pattern) (q .pattern))) (pattern-at at g h)
 
   -- those of the first grant
-  pub first-at : (at : ℕ) (gs : List Grant) → GrantsOk gs → Has s at (encGrants gs) → part s (grantsView at gs .first) 45 ≡ owner gs
+  pub first-at : (at : ℕ) (gs : List Grant) → GrantsOk gs → Has s at (encKeyed gs) → part s (grantsView at gs .first) 45 ≡ owner gs
   unfolding encGrants
   first-at at [] q h = absurd (q .each)
-  first-at at (g ∷ gs) q h = owner-at _ g (q .each .0) (has-left s _ (encGrant g) (encAll encGrant gs) (has-right s at (head 4 (suc (length gs))) _ h))
+  first-at at (g ∷ gs) q h =
+      let n : List ℕ = head 4 (suc (length gs)) in
+      owner-at _ g (q .each .0)
+      (has-left s _ (encGrant g) (encAll encGrant gs)
+      (has-right s at (kGrants ++ n) _ (subst (Has s at) (sym (append-assoc kGrants n (encAll encGrant (g ∷ gs)))) h)))
 
 -- ---- the readers
 
@@ -119,11 +128,11 @@ module _ (s : List ℕ) where
 grants-from : (gs : List Grant) → GrantsOk gs
     → (x : ℕ × (Grant × List Grant))
     × (((1 ≤ x .0) × (x .0 ≤ 256)) × (GrantOk (x .1 .0) × ((length (x .1 .1) ≡ x .0 - 1) × AllFrom Of constant (ownerOf (x .1 .0)) (x .1 .1))))
-    × (head 4 (x .0) ++ (encGrant (x .1 .0) ++ encAll encGrant (x .1 .1)) ≡ encGrants gs)
+    × ((kGrants ++ head 4 (x .0)) ++ (encGrant (x .1 .0) ++ encAll encGrant (x .1 .1)) ≡ encKeyed gs)
     × (_≡_ {A = List Grant} (x .1 .0 ∷ x .1 .1) gs)
 unfolding encGrants
 grants-from [] q = absurd (q .each)
-grants-from (g ∷ gs) q = ((suc (length gs), (g, gs)), ((omega arith, q .most), (q .each .0, (omega arith, q .each .1))), refl, refl)
+grants-from (g ∷ gs) q = ((suc (length gs), (g, gs)), ((omega arith, q .most), (q .each .0, (omega arith, q .each .1))), append-assoc kGrants (head 4 (suc (length gs))) (encAll encGrant (g ∷ gs)), refl)
 
 module _ (s : List ℕ) (bs : AreBytes s) where
   -- one more grant is read exactly, where its terminal is to be that whose id stands at `first`
@@ -136,13 +145,13 @@ module _ (s : List ℕ) (bs : AreBytes s) where
       (λ g p h. (rw (owner-at s at g p h, i) (same-test (ownerOf g) t), refl))
 
   -- grants are read exactly
-  pub grants-exact : (at : ℕ) → Reads s at GrantsOk encGrants (grantsView at) (grantsAt s at)
+  pub grants-exact : (at : ℕ) → Reads s at GrantsOk encKeyed (grantsView at) (grantsAt s at)
   unfolding grantsAt encGrants
   grants-exact at =
       recast
-      (seq _ (count-exact s bs at 4 1 256 (lit< tt) (lit< tt)) (λ c p₀ h₀.
+      (seq _ (keyed kGrants (count-exact s bs _ 4 1 256 (lit< tt) (lit< tt))) (λ c p₀ h₀.
       seq _ (grant-exact s bs _) (λ g p₁ h₁.
-      let n = at + length (head 4 c) in
+      let n = at + length (kGrants ++ head 4 c) in
       mapped
       (counted s encGrant Of constant (λ sum t. part s (grantView n g .pattern .start) 45 ≡ t) addSeen
       (moreAt s (grantView n g .pattern .start))
@@ -151,8 +160,8 @@ module _ (s : List ℕ) (bs : AreBytes s) where
       (c - 1) _ (ownerOf g) _ (owner-at s _ g p₁ h₁))
       (λ gs. grantsRest n g gs) _
       (λ gs q h₂. let e : c ≡ suc (length gs) = omega arith in rw (sum-seen, e)))))
-      GrantsOk encGrants (grantsView at) (λ v. v .1 .0 ∷ v .1 .1)
+      GrantsOk encKeyed (grantsView at) (λ v. v .1 .0 ∷ v .1 .1)
       (λ v p h.
       let e : suc (length (v .1 .1)) ≡ v .0 = omega arith in
-      (record { least = omega arith; most = omega arith; each = (p .1 .0, p .1 .1 .1) }, rw e, rw e))
+      (record { least = omega arith; most = omega arith; each = (p .1 .0, p .1 .1 .1) }, rw e (sym (append-assoc kGrants (head 4 (v .0)) _)), rw e))
       (λ gs q h. grants-from gs q)

@@ -13,7 +13,7 @@ use Rattle.descriptor.specs.Modes.{anyHas, bit, unionOf}
 use Rattle.descriptor.specs.Reader.{hasMode, Sum}
 use Rattle.descriptor.specs.View.{maskOf, sumFrom, grantsView}
 use Rattle.descriptor_laws.specs.Laws.{MaskExactly}
-use Rattle.descriptor_laws.proofs.values.ModeLaws.{allBelow, all-below, no-marks, mask-exact}
+use Rattle.descriptor_laws.proofs.grants.ModeLaws.{allBelow, all-below, no-marks, mask-exact}
 
 -- One test before two others.
 or-assoc : (a b c : Bool) → (a || (b || c)) ≡ ((a || b) || c)

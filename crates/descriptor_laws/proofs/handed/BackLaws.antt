@@ -12,16 +12,19 @@ use Rattle.octets.specs.Span.{spanOf}
 use Rattle.octets.proofs.BytesLaws.{has-length}
 use Rattle.octets.proofs.SpanLaws.{inside-fits}
 use Rattle.descriptor.specs.declared.DescriptorNumbers.{DescriptorNumbers}
-use Rattle.descriptor.specs.Model.{Pair, Grant, Descriptor, encodePayload, encode}
+use Rattle.entries.specs.Keys.{kMetadata}
+use Rattle.entries.specs.Model.{Pair, pairCount}
+use Rattle.descriptor.specs.Model.{Grant, Descriptor, encodePayload, encode}
 use Rattle.descriptor.specs.Allowed.{Allowed}
-use Rattle.descriptor.specs.Reader.{Answer, read, structure, validity, readOf, pairsOf, beforePayload, beforeKeyId}
-use Rattle.descriptor.specs.View.{maskOf, countOf, sumFrom, grantsView, descriptorView}
-use Rattle.descriptor.specs.Answer.{readingOf, pairsIf}
+use Rattle.descriptor.specs.Reader.{Answer, read, structure, validity, readOf, beforePayload, beforeKeyId}
+use Rattle.entries.specs.View.{optPairsView}
+use Rattle.descriptor.specs.View.{maskOf, sumFrom, grantsView, descriptorView}
+use Rattle.descriptor.specs.Answer.{readingOf}
 use Rattle.descriptor.specs.Numbers.{numbersOf, payloadSpan}
 use Rattle.descriptor_laws.specs.Promises.{pairsIn, constraintPairs, DescriptorHanded, HandsBack, PayloadHanded, handed}
 use Rattle.descriptor_laws.specs.Laws.{SeenHanded}
 use Rattle.descriptor_laws.proofs.grants.MaskLaws.{grants-union}
-use Rattle.descriptor_laws.proofs.whole.SignatureLaws.{encFromKey}
+use Rattle.entries.proofs.SignatureLaws.{encFromKey}
 use Rattle.descriptor_laws.proofs.whole.DescriptorLaws.{halves-encode}
 use Rattle.descriptor_laws.proofs.whole.AnswerLaws.{reads-exactly}
 use Rattle.descriptor_laws.proofs.places.SeenLaws.{payload-here}
@@ -38,20 +41,20 @@ count-of at [] = refl
 count-of at (g ∷ gs) = refl
 
 -- the pairs of metadata
-metadata-count : (m : Option (List Pair)) → pairsIf (countOf m) ≡ pairsIn m
-metadata-count none = refl
-metadata-count (some ps) = refl
+metadata-count : (at : ℕ) (key : List ℕ) (m : Option (List Pair)) → optPairsView at key m .size ≡ pairsIn m
+metadata-count at key none = refl
+metadata-count at key (some ps) = refl
 
 -- the constraint pairs that are summed after k others
 sum-count : (m k : ℕ) (gs : List Grant) → sumFrom (record { mask = m; pairs = k }) gs .pairs ≡ k + constraintPairs gs
 sum-count m k [] = sym (add-zero k)
 sum-count m k (g ∷ gs) =
-    omega (arith, sum-count (bitOr m (maskOf (g .modes))) (k + pairsOf (countOf (g .constraints))) gs, pairs-count (g .constraints))
+    omega (arith, sum-count (bitOr m (maskOf (g .modes))) (k + pairCount (g .constraints)) gs, pairs-count (g .constraints))
 
 -- are those of all grants
 constraints-count : (at : ℕ) (gs : List Grant) → grantsView at gs .sum .pairs ≡ constraintPairs gs
 constraints-count at [] = refl
-constraints-count at (g ∷ gs) = omega (arith, sum-count (maskOf (g .modes)) (pairsOf (countOf (g .constraints))) gs, pairs-count (g .constraints))
+constraints-count at (g ∷ gs) = omega (arith, sum-count (maskOf (g .modes)) (pairCount (g .constraints)) gs, pairs-count (g .constraints))
 
 -- ---- an allowed descriptor
 
@@ -75,7 +78,7 @@ seen-handed d q =
       terminal = terminal-part d q;
       grants = count-of _ (d .payload .grants);
       metadata = metadata-stands d;
-      pairs = metadata-count (d .payload .metadata);
+      pairs = metadata-count _ kMetadata (d .payload .metadata);
       constraints = constraints-count _ (d .payload .grants);
       mask = grants-union _ (d .payload .grants) (q .payload .grants);
       key = key-lies d;
@@ -101,7 +104,8 @@ payload-inside s d e =
     let b : List ℕ = encodePayload (d .payload) in
     let h : Has s (0 + length beforePayload) b = subst (λ (u : List ℕ). Has u (0 + length beforePayload) b) (sym e) (payload-here d) in
     let l : length (encode d) ≡ length s = ap length (sym e) in
-    let all : length ((beforePayload ++ b) ++ (beforeKeyId ++ encFromKey (d .signature))) ≡ length (encode d) = ap length (halves-encode d) in
+    let all : length ((beforePayload ++ b) ++ (beforeKeyId ++ encFromKey (d .signature)))
+    ≡ length (encode d) = ap length (halves-encode d) in
     let starts : 0 + length beforePayload ≤ length s
     = omega (arith, l, all, length-append (beforePayload ++ b) (beforeKeyId ++ encFromKey (d .signature)), length-append beforePayload b) in
     inside-fits s (0 + length beforePayload) (length b) starts (has-length s _ b h)

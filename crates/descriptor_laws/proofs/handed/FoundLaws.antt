@@ -9,8 +9,9 @@ use Rattle.exact.specs.Reads.{Got, got, refused, Reads, found, lacks, encOpt}
 use Rattle.cbor_item.specs.Encoding.{head}
 use Rattle.octets.proofs.BytesLaws.{has-left, has-right}
 use Rattle.exact.proofs.ReadsLaws.{complete}
-use Rattle.descriptor.specs.Keys.{kModes, kConstraints, kResourcePattern}
-use Rattle.descriptor.specs.Model.{Grant, size, encText, encPairs, encMode, encModes, encGrant}
+use Rattle.entries.specs.Keys.{kModes, kConstraints, kResourcePattern}
+use Rattle.entries.specs.Model.{size, encText, encPairs}
+use Rattle.descriptor.specs.Model.{Grant, encMode, encModes, encGrant}
 use Rattle.descriptor.specs.Allowed.{GrantOk}
 use Rattle.descriptor.specs.Reader.{GrantSeen, grantAt}
 use Rattle.descriptor.specs.View.{grantView}

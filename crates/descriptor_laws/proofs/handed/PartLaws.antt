@@ -6,21 +6,24 @@ use Prim.Native.Nat.{ℕ, _+_}
 use native.Mathlib.Omega.{arith}
 use lib.ListN.{length, length-append}
 use Rattle.octets.specs.Bytes.{Has}
-use Rattle.exact.specs.Reads.{encOpt, viewOpt}
+use Rattle.exact.specs.Reads.{encOpt}
 use Rattle.cbor_item.specs.Encoding.{head}
 use Rattle.cbor_item.specs.Head.{encodeString}
 use Rattle.octets.proofs.BytesLaws.{has-left, has-right, has-part, all-has}
-use Rattle.descriptor.specs.Keys.{kGrants, kMetadata, kIssuerId, kNotAfter, kGrantorId, kAlgorithm, kSignatureValue}
-use Rattle.descriptor.specs.Model.{Pair, Payload, Signature, Descriptor, encText, encPairs, encGrants, encodePayload, encAlgorithm, encode}
-use Rattle.descriptor.specs.Reader.{pairsOf, placeOf, beforePayload, beforeKeyId}
-use Rattle.descriptor.specs.View.{countOf, contentSpan, keysOf, descriptorView}
-use Rattle.descriptor.specs.Answer.{partIf}
+use Rattle.entries.specs.declared.value.Kind.the-variants.{Text}
+use Rattle.entries.specs.Keys.{kMetadata, kIssuedAt, kIssuerId, kGrantorId, kAlgorithm, kSignatureValue}
+use Rattle.entries.specs.Model.{Pair, Signature, pairCount, encText, encPairs, encAlgorithm}
+use Rattle.entries.specs.View.{contentSpan, optKindView, optPairsView}
+use Rattle.descriptor.specs.Model.{Payload, Descriptor, encodePayload, encode}
+use Rattle.descriptor.specs.View.{descriptorView}
+use Rattle.descriptor.specs.Reader.{beforePayload, beforeKeyId}
 use Rattle.descriptor_laws.specs.Promises.{Lies, LiesIf, StandsIf, pairsIn}
-use Rattle.descriptor_laws.proofs.payload.PayloadLaws.{pieces-encode}
-use Rattle.descriptor_laws.proofs.whole.SignatureLaws.{encFromKey}
+use Rattle.descriptor_laws.proofs.payload.PieceLaws.{issueBytes, grantorBytes}
+use Rattle.descriptor_laws.proofs.payload.PayloadLaws.{issueOf, grantorOf}
+use Rattle.entries.proofs.SignatureLaws.{encFromKey}
 use Rattle.descriptor_laws.proofs.whole.DescriptorLaws.{halves-encode}
 use Rattle.descriptor_laws.proofs.places.SeenLaws.{payload-here}
-use Rattle.descriptor_laws.proofs.places.PlaceLaws.{front, centre}
+use Rattle.descriptor_laws.proofs.places.PlaceLaws.{issue-at, grantor-at}
 
 -- ---- at a place
 
@@ -36,58 +39,43 @@ module _ (s : List ℕ) (at : ℕ) where
 
   -- an optional map of pairs stands behind its key
   pub pairs-stand : (key : List ℕ) (m : Option (List Pair)) (rest : List ℕ) → Has s at (encOpt key encPairs m ++ rest)
-      → StandsIf s (placeOf m (at + length key)) m
+      → StandsIf s (optPairsView at key m .at) m
   pairs-stand key none rest h = refl
   pairs-stand key (some ps) rest h = has-right s at key (encPairs ps) (has-left s at (key ++ encPairs ps) rest h)
 
 module _ (s : List ℕ) (at : ℕ) where
   -- an optional text lies behind its key and its head
   text-lies : (key : List ℕ) (g : Option (List ℕ)) (rest : List ℕ) → Has s at (encOpt key encText g ++ rest)
-      → let p = partIf (viewOpt (contentSpan (at + length key) 3) g) in LiesIf s (p .at) (p .len) g
+      → let v = optKindView at key (Text 1 128) g in LiesIf s (v .at) (v .size) g
   text-lies key none rest h = (refl, refl)
   text-lies key (some x) rest h = content-lies s _ 3 x (has-right s at key (encText x) (has-left s at (key ++ encText x) rest h))
 
 -- ---- counts
 
 -- the pairs that are seen of an optional map are those that it has
-pub pairs-count : (m : Option (List Pair)) → pairsOf (countOf m) ≡ pairsIn m
+pub pairs-count : (m : Option (List Pair)) → pairCount m ≡ pairsIn m
 pairs-count none = refl
 pairs-count (some ps) = refl
 
 -- ---- the payload
 
 module _ (d : Descriptor) where
-  -- the payload stands at its place in three pieces
-  front-at : Has (encode d) (0 + length beforePayload) (front (d .payload))
-  front-at = has-left (encode d) _ (front (d .payload)) _ (subst (Has (encode d) (0 + length beforePayload)) (sym (pieces-encode (d .payload))) (payload-here d))
-
-  centre-at : Has (encode d) (0 + length beforePayload + length (front (d .payload))) (centre (d .payload))
-  centre-at =
-      let s : List ℕ = encode d in
-      let p : Payload = d .payload in
-      has-left s _ (centre p) _ (has-right s _ (front p) _ (subst (Has s (0 + length beforePayload)) (sym (pieces-encode p)) (payload-here d)))
-
   -- metadata stands behind the grants
-  pub metadata-stands : StandsIf (encode d) (descriptorView 0 d .payload .opening .metadata) (d .payload .metadata)
-  metadata-stands =
-      let s : List ℕ = encode d in
-      let p : Payload = d .payload in
-      pairs-stand s _ kMetadata (p .metadata) _ (has-right s _ (kGrants ++ encGrants (p .grants)) _ (has-right s _ (head 5 (keysOf p)) _ front-at))
+  pub metadata-stands : StandsIf (encode d) (descriptorView 0 d .payload .metadata .at) (d .payload .metadata)
+  metadata-stands = pairs-stand (encode d) _ kMetadata (d .payload .metadata) _ (has-left (encode d) _ (issueBytes (issueOf (d .payload))) _ (issue-at d))
 
   -- issuer_id
-  pub issuer-lies : let v = descriptorView 0 d .payload .middle .issuer in Lies (encode d) (v .start) (v .len) (d .payload .issuer)
+  pub issuer-lies : let v = descriptorView 0 d .payload .issuer in Lies (encode d) (v .start) (v .len) (d .payload .issuer)
   issuer-lies =
       let s : List ℕ = encode d in
       let p : Payload = d .payload in
-      content-lies s _ 3 (p .issuer) (has-right s _ kIssuerId _ (has-left s _ (kIssuerId ++ encText (p .issuer)) _ centre-at))
+      let here = has-right s _ (kIssuedAt ++ head 0 (p .issuedAt)) _
+      (has-right s _ (encOpt kMetadata encPairs (p .metadata)) _ (has-left s _ (issueBytes (issueOf p)) _ (issue-at d))) in
+      content-lies s _ 3 (p .issuer) (has-right s _ kIssuerId _ (has-left s _ (kIssuerId ++ encText (p .issuer)) _ here))
 
   -- grantor_id
-  pub grantor-lies : let v = partIf (descriptorView 0 d .payload .middle .grantor) in LiesIf (encode d) (v .at) (v .len)
-      (d .payload .grantor)
-  grantor-lies =
-      let s : List ℕ = encode d in
-      let p : Payload = d .payload in
-      text-lies s _ kGrantorId (p .grantor) _ (has-right s _ (kNotAfter ++ head 0 (p .notAfter)) _ (has-right s _ (kIssuerId ++ encText (p .issuer)) _ centre-at))
+  pub grantor-lies : let v = descriptorView 0 d .payload .grantor in LiesIf (encode d) (v .at) (v .size) (d .payload .grantor)
+  grantor-lies = text-lies (encode d) _ kGrantorId (d .payload .grantor) _ (has-left (encode d) _ (grantorBytes (grantorOf (d .payload))) _ (grantor-at d))
 
 -- ---- the signature
 

@@ -5,101 +5,98 @@ use mathlib.Core.List.{List, _++_, append-assoc}
 use Prim.Native.Nat.{ℕ, _+_, _≤_, _<_}
 use native.Mathlib.Omega.{arith}
 use lib.ListN.{length}
-use lib.Dec.{T, leb, ltb, eqb}
+use lib.Dec.{T, leb, ltb, eqb, lit<}
 use Rattle.octets.specs.Bytes.{AreBytes, part, Has, same}
-use Rattle.exact.specs.Reads.{Reads}
-use Rattle.cbor_item.specs.Encoding.{head}
 use Rattle.octets.proofs.BytesLaws.{has-left, has-right, has-part}
-use Rattle.exact.proofs.ReadsLaws.{recast, seq, refine}
-use Rattle.descriptor.specs.Keys.{kGrants, kTerminalId}
-use Rattle.descriptor.specs.Model.{Payload, size, encText, encGrants, encodePayload}
-use Rattle.descriptor.specs.Allowed.{PayloadOk}
-use Rattle.descriptor.specs.Reader.{PayloadSeen, payloadFits, payloadAt}
-use Rattle.descriptor.specs.View.{keysOf, payloadView}
 use Rattle.octets.proofs.TruthLaws.{eqb-test, leb-test, ltb-test, same-test, and-test}
-use Rattle.descriptor_laws.proofs.values.OptionLaws.{size-small, size-view}
+use Rattle.exact.specs.Reads.{Reads}
+use Rattle.exact.proofs.ReadsLaws.{recast, seq, refine}
+use Rattle.cbor_item.specs.Encoding.{head}
 use Rattle.resource.proofs.Laws.{terminal-length}
-use Rattle.descriptor_laws.proofs.grants.GrantsLaws.{owner, first-at, together-own, own-together}
-use Rattle.descriptor_laws.proofs.payload.PieceLaws.{Front, FrontOk, encFront, frontView, Centre, encCentre, centreView, Back}
-use Rattle.descriptor_laws.proofs.payload.PieceLaws.{BackOk, encBack, backView, opening-exact, middle-exact, closing-exact}
+use Rattle.entries.specs.declared.value.Kind.the-variants.{Text}
+use Rattle.entries.specs.Keys.{kMetadata, kGrantorId, kTerminalId}
+use Rattle.entries.specs.Model.{size, encText}
+use Rattle.entries.specs.Value.{flag}
+use Rattle.entries.proofs.ValueLaws.{count-exact}
+use Rattle.entries.proofs.OptionalLaws.{size-small, pairs-there, kind-there}
+use Rattle.descriptor.specs.Model.{Grant, Payload, encodePayload}
+use Rattle.descriptor.specs.Allowed.{PayloadOk}
+use Rattle.descriptor.specs.Reader.{PayloadSeen, seenIn, payloadFits, payloadAt}
+use Rattle.descriptor.specs.View.{keysOf, grantsView, encIssue, encGrantor, encIds, payloadView}
+use Rattle.descriptor_laws.proofs.grants.GrantsLaws.{encKeyed, owner, first-at, together-own, own-together, grants-exact}
+use Rattle.descriptor_laws.proofs.payload.PieceLaws.{Issue, issueBytes, issueSeen, issue-exact, Grantor, grantorBytes, grantorSeen}
+use Rattle.descriptor_laws.proofs.payload.PieceLaws.{grantor-exact, Ids, IdsOk, idsBytes, idsSeen, ids-exact}
 
 -- ---- a payload and its pieces
 
--- the payload of three pieces
-abbrev payloadOf : Front → Centre → Back → Payload
-payloadOf f c b =
+-- the payload of its grants and three pieces
+abbrev payloadOf : List Grant → Issue → Grantor → Ids → Payload
+payloadOf gs i g ids =
     record {
-      grants = f .grants;
-      metadata = f .metadata;
-      issuedAt = f .issuedAt;
-      issuer = c .issuer;
-      notAfter = c .notAfter;
-      grantor = c .grantor;
-      notBefore = c .notBefore;
-      terminal = b .terminal;
-      id = b .id;
-      fay = b .fay;
+      grants = gs;
+      metadata = i .0;
+      issuedAt = i .1 .0;
+      issuer = i .1 .1 .0;
+      notAfter = i .1 .1 .1;
+      grantor = g .0;
+      notBefore = g .1;
+      terminal = ids .0;
+      id = ids .1 .0;
+      fay = ids .1 .1;
     }
 
 -- the first piece of a payload
-abbrev pub frontOf : Payload → Front
-frontOf p = record { keys = keysOf p; grants = p .grants; metadata = p .metadata; issuedAt = p .issuedAt }
+abbrev pub issueOf : Payload → Issue
+issueOf p = (p .metadata, (p .issuedAt, (p .issuer, p .notAfter)))
 
 -- its second piece
-abbrev centreOf : Payload → Centre
-centreOf p = record { issuer = p .issuer; notAfter = p .notAfter; grantor = p .grantor; notBefore = p .notBefore }
+abbrev pub grantorOf : Payload → Grantor
+grantorOf p = (p .grantor, p .notBefore)
 
 -- its last piece
-abbrev backOf : Payload → Back
-backOf p = record { terminal = p .terminal; id = p .id; fay = p .fay }
+abbrev pub idsOf : Payload → Ids
+idsOf p = (p .terminal, (p .id, p .fay))
 
--- the encoding of a payload is that of its pieces, one after the other
-pub pieces-encode : (p : Payload) → encFront (frontOf p) ++ (encCentre (centreOf p) ++ encBack (backOf p)) ≡ encodePayload p
+-- the encoding of a payload is that of its head, its grants and its pieces, one after the other
+pub pieces-encode : (p : Payload)
+    → head 5 (keysOf p) ++ (encKeyed (p .grants) ++ (encIssue (p .metadata) (p .issuedAt) (p .issuer) (p .notAfter) ++ (encGrantor (p .grantor) (p .notBefore) ++ encIds (p .terminal) (p .id) (p .fay))))
+    ≡ encodePayload p
 unfolding encodePayload
 pieces-encode p = simp append-assoc
 
--- what is seen of three pieces, one after the other
-abbrev piecesView : ℕ → Front → Centre → Back → PayloadSeen
-piecesView at f c b =
-    let n = at + length (encFront f) in
-    record { opening = frontView at f; middle = centreView n c; closing = backView (n + length (encCentre c)) b }
+-- what is seen of them, one after the other
+abbrev piecesView : ℕ → ℕ → List Grant → Issue → Grantor → Ids → PayloadSeen
+piecesView at keys gs i g ids =
+    let n = at + length (head 5 keys) in
+    let n₁ = n + length (encKeyed gs) in
+    let n₂ = n₁ + length (issueBytes i) in
+    seenIn keys (grantsView n gs) (issueSeen n₁ i) (grantorSeen n₂ g) (idsSeen (n₂ + length (grantorBytes g)) ids)
 
 -- ---- the conditions on the whole
 
 -- as many keys as there are, the patterns' terminal is the payload's, and issued_at ≤ not_before < not_after
-abbrev Fits : Front → Centre → Back → Type 0
-Fits f c b =
-    (f .keys ≡ 8 + (size (f .metadata) + size (c .grantor)))
-    × ((owner (f .grants) ≡ b .terminal)
-    × ((f .issuedAt ≤ c .notBefore) × (c .notBefore < c .notAfter)))
+abbrev Fits : ℕ → List Grant → Issue → Grantor → Ids → Type 0
+Fits keys gs i g ids =
+    (keys ≡ 8 + (size (i .0) + size (g .0)))
+    × ((owner gs ≡ ids .0)
+    × ((i .1 .0 ≤ g .1) × (g .1 < i .1 .1 .1)))
 
 -- the test of these conditions
 fits-test : (s : List ℕ) (p : PayloadSeen) (k : ℕ) (u t : List ℕ)
-    → size (p .opening .pairs) + size (p .middle .grantor) ≡ k → part s (p .opening .grants .first) 45 ≡ u
-    → part s (p .closing .terminal) 45 ≡ t
-    → T (payloadFits s p) ↔ ((p .opening .keys ≡ 8 + k) × ((u ≡ t) × ((p .opening .issuedAt ≤ p .middle .notBefore) × (p .middle .notBefore < p .middle .notAfter))))
+    → flag (p .metadata .there) + flag (p .grantor .there) ≡ k → part s (p .grants .first) 45 ≡ u → part s (p .terminal) 45 ≡ t
+    → T (payloadFits s p) ↔ ((p .keys ≡ 8 + k) × ((u ≡ t) × ((p .issuedAt ≤ p .notBefore) × (p .notBefore < p .notAfter))))
 unfolding payloadFits
 fits-test s p k u t ek eu et =
     rw (ek, eu, et)
-    (and-test (eqb (p .opening .keys) (8 + k)) _ (eqb-test (p .opening .keys) (8 + k))
+    (and-test (eqb (p .keys) (8 + k)) _ (eqb-test (p .keys) (8 + k))
     (and-test (same u t) _ (same-test u t)
-    (and-test (leb (p .opening .issuedAt) (p .middle .notBefore)) (ltb (p .middle .notBefore) (p .middle .notAfter))
-    (leb-test (p .opening .issuedAt) (p .middle .notBefore)) (ltb-test (p .middle .notBefore) (p .middle .notAfter)))))
+    (and-test (leb (p .issuedAt) (p .notBefore)) (ltb (p .notBefore) (p .notAfter)) (leb-test (p .issuedAt) (p .notBefore)) (ltb-test (p .notBefore) (p .notAfter)))))
 
-module _ (s : List ℕ) (at : ℕ) where
-  -- where the grants stand
-  grants-at : (f : Front) → Has s at (encFront f) → Has s (at + length (head 5 (f .keys)) + length kGrants) (encGrants (f .grants))
-  grants-at f h = has-right s _ kGrants _ (has-left s _ (kGrants ++ encGrants (f .grants)) _ (has-right s at (head 5 (f .keys)) _ h))
-
-  -- the terminal id of the first pattern
-  front-owner : (f : Front) → FrontOk f → Has s at (encFront f) → part s (frontView at f .grants .first) 45 ≡ owner (f .grants)
-  front-owner f p h = first-at s _ (f .grants) (p .grants) (grants-at f h)
-
-  -- the terminal id of the payload
-  back-terminal : (b : Back) → BackOk b → Has s at (encBack b) → part s (backView at b .terminal) 45 ≡ b .terminal
-  back-terminal b p h =
-      let k = has-right s _ (head 3 (length (b .terminal))) _ (has-right s _ kTerminalId _ (has-left s _ (kTerminalId ++ encText (b .terminal)) _ h)) in
-      ap (part s _) (sym (terminal-length (b .terminal) (p .terminal))) ∙ has-part s _ (b .terminal) k
+-- the terminal id of the payload
+terminal-at : (s : List ℕ) (at : ℕ) (ids : Ids) → IdsOk ids → Has s at (idsBytes ids) → part s (idsSeen at ids .terminal) 45 ≡ ids .0
+terminal-at s at ids p h =
+    let k = has-right s _ (head 3 (length (ids .0))) _ (has-right s _ kTerminalId _ (has-left s _ (kTerminalId ++ encText (ids .0)) _ h)) in
+    ap (part s _) (sym (terminal-length (ids .0) (p .0))) ∙ has-part s _ (ids .0) k
 
 -- ---- the reader
 
@@ -109,49 +106,57 @@ module _ (s : List ℕ) (bs : AreBytes s) where
   unfolding payloadAt
   payload-exact at =
       recast
-      (seq _ (opening-exact s bs at) (λ f p₀ h₀.
-      seq _ (middle-exact s bs _) (λ c p₁ h₁.
-      refine (closing-exact s bs _) (λ b. Fits f c b) (λ b. piecesView at f c b) _ _
-      (λ b p₂ h₂. (
-        fits-test s (piecesView at f c b) (size (f .metadata) + size (c .grantor)) (owner (f .grants)) (b .terminal)
-            (ap₂ (λ (i j : ℕ). i + j) (size-view _ (f .metadata)) (size-view _ (c .grantor))) (front-owner s at f p₀ h₀)
-            (back-terminal s _ b p₂ h₂),
+      (seq _ (count-exact s bs at 5 8 10 (lit< tt) (lit< tt)) (λ c p₀ h₀.
+      seq _ (grants-exact s bs _) (λ gs p₁ h₁.
+      seq _ (issue-exact s bs _) (λ i p₂ h₂.
+      seq _ (grantor-exact s bs _) (λ g p₃ h₃.
+      refine (ids-exact s bs _) (λ ids. Fits c gs i g ids) (λ ids. piecesView at c gs i g ids) _ _
+      (λ ids p₄ h₄. (
+        fits-test s (piecesView at c gs i g ids) (size (i .0) + size (g .0)) (owner gs) (ids .0)
+            (ap₂ (λ (m n : ℕ). m + n) (pairs-there _ kMetadata (i .0)) (kind-there _ kGrantorId (Text 1 128) (g .0)))
+            (first-at s _ gs p₁ h₁) (terminal-at s _ ids p₄ h₄),
         refl,
-      )))))
-      PayloadOk encodePayload (payloadView at) (λ v. payloadOf (v .0) (v .1 .0) (v .1 .1))
+      )))))))
+      PayloadOk encodePayload (payloadView at) (λ v. payloadOf (v .1 .0) (v .1 .1 .0) (v .1 .1 .1 .0) (v .1 .1 .1 .1))
       (λ v p h.
-      let fits = p .1 .1 .1 in
-      let own = together-own (v .1 .1 .terminal) (v .0 .grants) (p .0 .grants) (fits .1 .0) in (
+      let i = p .1 .1 .0 in
+      let g = p .1 .1 .1 .0 in
+      let ids = p .1 .1 .1 .1 .0 in
+      let fits = p .1 .1 .1 .1 .1 in
+      let own = together-own (v .1 .1 .1 .1 .0) (v .1 .0) (p .1 .0) (fits .1 .0) in (
         record {
-          least = p .0 .grants .least;
-          most = p .0 .grants .most;
+          least = p .1 .0 .least;
+          most = p .1 .0 .most;
           grants = own .0;
-          metadata = p .0 .metadata;
-          issuedAt = p .0 .issuedAt;
-          issuer = p .1 .0 .issuer;
-          notAfter = p .1 .0 .notAfter;
-          grantor = p .1 .0 .grantor;
-          notBefore = p .1 .0 .notBefore;
-          terminal = p .1 .1 .0 .terminal;
-          id = p .1 .1 .0 .id;
-          fay = p .1 .1 .0 .fay;
+          metadata = i .0;
+          issuedAt = i .1 .0;
+          issuer = i .1 .1 .0;
+          notAfter = i .1 .1 .1;
+          grantor = g .0;
+          notBefore = g .1;
+          terminal = ids .0;
+          id = omega (arith, ids .1 .0);
+          fay = ids .1 .1;
           own = own .1;
           issued = fits .1 .1 .0;
           lasts = fits .1 .1 .1;
         },
-        rw (fits .0) (sym (pieces-encode (payloadOf (v .0) (v .1 .0) (v .1 .1)))),
+        rw (fits .0) (sym (pieces-encode (payloadOf (v .1 .0) (v .1 .1 .0) (v .1 .1 .1 .0) (v .1 .1 .1 .1)))),
         rw (fits .0),
       ))
       (λ p q h.
       let own = own-together (p .terminal) (p .grants) (q .least) (q .most) (q .grants) (q .own) in (
-        (frontOf p, (centreOf p, backOf p)),
+        (keysOf p, (p .grants, (issueOf p, (grantorOf p, idsOf p)))),
         (
-          record { least = omega arith; most = omega (arith, size-small (p .metadata), size-small (p .grantor)); grants = own .0; metadata = q .metadata; issuedAt = q .issuedAt },
+          (omega arith, omega (arith, size-small (p .metadata), size-small (p .grantor))),
           (
-            record { issuer = q .issuer; notAfter = q .notAfter; grantor = q .grantor; notBefore = q .notBefore },
+            own .0,
             (
-              record { terminal = q .terminal; id = q .id; fay = q .fay },
-              (refl, (own .1, (q .issued, q .lasts))),
+              (q .metadata, (q .issuedAt, (q .issuer, q .notAfter))),
+              (
+                (q .grantor, q .notBefore),
+                ((q .terminal, ((omega (arith, q .id), omega (arith, q .id)), q .fay)), (refl, (own .1, (q .issued, q .lasts)))),
+              ),
             ),
           ),
         ),

@@ -1,6 +1,6 @@
 -- Behind the last grant of a descriptor stands a key, and no grant (specs/Laws.antt). Assumes nothing.
-use mathlib.Core.Path.{sym, subst}
-use mathlib.Core.List.{List, _++_}
+use mathlib.Core.Path.{_≡_, sym, subst}
+use mathlib.Core.List.{List, _++_, append-assoc}
 use mathlib.Core.Option.{Option, none, some}
 use Prim.Native.Nat.{ℕ, _+_}
 use lib.ListN.{length}
@@ -10,8 +10,9 @@ use Rattle.octets.specs.Bytes.{Has, clash}
 use Rattle.exact.specs.Reads.{encOpt, encAll}
 use Rattle.cbor_item.specs.Encoding.{head}
 use Rattle.octets.proofs.BytesLaws.{has-left, has-right, has-clash}
-use Rattle.descriptor.specs.Keys.{kMetadata, kIssuedAt}
-use Rattle.descriptor.specs.Model.{Pair, Grant, size, encPairs, encGrant, encode}
+use Rattle.entries.specs.Keys.{kMetadata, kIssuedAt}
+use Rattle.entries.specs.Model.{Pair, size, encPairs}
+use Rattle.descriptor.specs.Model.{Grant, encGrant, encode}
 use Rattle.descriptor.specs.View.{descriptorView, grantPlace}
 use Rattle.descriptor_laws.specs.Laws.{GrantsEnd}
 use Rattle.descriptor_laws.proofs.places.SeenLaws.{behindGrants, grants-here}
@@ -34,12 +35,16 @@ key-apart s at (some ps) rest g h k =
     has-clash s at _ kMetadata (heads-apart (g .constraints) .0) (has-left s at (head 5 (2 + size (g .constraints))) _ k)
     (has-left s at kMetadata (encPairs ps) (has-left s at (kMetadata ++ encPairs ps) (kIssuedAt ++ rest) h))
 
+-- what stands behind the grants begins with one of the keys
+behind-keys : (a b c d : List ℕ) → (a ++ ((kIssuedAt ++ b) ++ c)) ++ d ≡ a ++ (kIssuedAt ++ (b ++ (c ++ d)))
+behind-keys a b c d = simp append-assoc
+
 pub grants-end : GrantsEnd
 grants-end d bs q =
     let s : List ℕ = encode d in
     let gs : List Grant = d .payload .grants in
-    let start : ℕ = descriptorView 0 d .payload .opening .grants .start in
+    let start : ℕ = descriptorView 0 d .payload .grants .start in
     let here : Has s (grantPlace d (length gs)) (behindGrants (d .payload))
     = subst (λ (hs : List Grant). Has s (start + length (encAll encGrant hs)) (behindGrants (d .payload))) (sym (take-length gs))
     (has-right s start (encAll encGrant gs) _ (grants-here d q)) in
-    grant-absent s bs _ .1 (λ g w. key-apart s _ (d .payload .metadata) _ g here (w .there))
+    grant-absent s bs _ .1 (λ g w. key-apart s _ (d .payload .metadata) _ g (subst (Has s _) (behind-keys (encOpt kMetadata encPairs (d .payload .metadata)) _ _ _) here) (w .there))

@@ -6,22 +6,34 @@ use lib.ListN.{length}
 use Rattle.octets.specs.Bytes.{Has, part}
 use Rattle.cbor_item.specs.Encoding.{head}
 use Rattle.octets.proofs.BytesLaws.{has-left, has-right, has-part}
-use Rattle.descriptor.specs.Keys.{kTerminalId, kDescriptorId, kSubjectFayId}
-use Rattle.descriptor.specs.Model.{Payload, Descriptor, encBytes, encText, encode}
+use Rattle.entries.specs.Keys.{kTerminalId, kDescriptorId, kSubjectFayId}
+use Rattle.entries.specs.Model.{encBytes, encText}
+use Rattle.descriptor.specs.Model.{Payload, Descriptor, encode}
 use Rattle.descriptor.specs.Allowed.{Formed}
 use Rattle.descriptor.specs.Reader.{beforePayload}
-use Rattle.descriptor.specs.View.{encOpening, encMiddle, keysOf, descriptorView}
+use Rattle.descriptor.specs.View.{keysOf, descriptorView}
 use Rattle.resource.proofs.Laws.{terminal-length, fay-length}
-use Rattle.descriptor_laws.proofs.payload.PayloadLaws.{pieces-encode}
+use Rattle.descriptor_laws.proofs.grants.GrantsLaws.{encKeyed}
+use Rattle.descriptor_laws.proofs.payload.PieceLaws.{issueBytes, grantorBytes, idsBytes}
+use Rattle.descriptor_laws.proofs.payload.PayloadLaws.{issueOf, grantorOf, idsOf, pieces-encode}
 use Rattle.descriptor_laws.proofs.places.SeenLaws.{payload-here}
 
--- the encoding of a payload up to issued_at
-abbrev pub front : Payload → List ℕ
-front p = encOpening (keysOf p) (p .grants) (p .metadata) (p .issuedAt)
+-- where the pieces of a descriptor's payload stand
+module _ (d : Descriptor) where
+  abbrev afterGrants : ℕ
+  afterGrants = 0 + length beforePayload + length (head 5 (keysOf (d .payload))) + length (encKeyed (d .payload .grants))
 
--- from issuer_id to not_before
-abbrev pub centre : Payload → List ℕ
-centre p = encMiddle (p .issuer) (p .notAfter) (p .grantor) (p .notBefore)
+  pub issue-at : Has (encode d) afterGrants (issueBytes (issueOf (d .payload)) ++ (grantorBytes (grantorOf (d .payload)) ++ idsBytes (idsOf (d .payload))))
+  issue-at =
+      let s : List ℕ = encode d in
+      let p : Payload = d .payload in
+      has-right s _ (encKeyed (p .grants)) _ (has-right s _ (head 5 (keysOf p)) _ (subst (Has s (0 + length beforePayload)) (sym (pieces-encode p)) (payload-here d)))
+
+  pub grantor-at : Has (encode d) (afterGrants + length (issueBytes (issueOf (d .payload)))) (grantorBytes (grantorOf (d .payload)) ++ idsBytes (idsOf (d .payload)))
+  grantor-at = has-right (encode d) _ (issueBytes (issueOf (d .payload))) _ issue-at
+
+  ids-at : Has (encode d) (afterGrants + length (issueBytes (issueOf (d .payload))) + length (grantorBytes (grantorOf (d .payload)))) (idsBytes (idsOf (d .payload)))
+  ids-at = has-right (encode d) _ (grantorBytes (grantorOf (d .payload))) _ grantor-at
 
 -- terminal_id
 abbrev ofTerminal : Payload → List ℕ
@@ -35,37 +47,29 @@ ofId p = kDescriptorId ++ encBytes (p .id)
 abbrev ofFay : Payload → List ℕ
 ofFay p = kSubjectFayId ++ encText (p .fay)
 
--- the three stand behind the rest of the payload
-back-at : (d : Descriptor)
-    → Has (encode d) (0 + length beforePayload + length (front (d .payload)) + length (centre (d .payload))) (ofTerminal (d .payload) ++ (ofId (d .payload) ++ ofFay (d .payload)))
-back-at d =
-    let s : List ℕ = encode d in
-    let p : Payload = d .payload in
-    has-right s _ (centre p) _ (has-right s _ (front p) _ (subst (Has s (0 + length beforePayload)) (sym (pieces-encode p)) (payload-here d)))
-
 -- the terminal id of a formed descriptor stands in its encoding
-pub terminal-part : (d : Descriptor) → Formed d → part (encode d) (descriptorView 0 d .payload .closing .terminal) 45 ≡ d .payload .terminal
+pub terminal-part : (d : Descriptor) → Formed d → part (encode d) (descriptorView 0 d .payload .terminal) 45 ≡ d .payload .terminal
 terminal-part d q =
     let s : List ℕ = encode d in
     let p : Payload = d .payload in
     let t : List ℕ = p .terminal in
-    let k = has-right s _ (head 3 (length t)) _ (has-right s _ kTerminalId _ (has-left s _ (ofTerminal p) (ofId p ++ ofFay p) (back-at d))) in
+    let k = has-right s _ (head 3 (length t)) _ (has-right s _ kTerminalId _ (has-left s _ (ofTerminal p) (ofId p ++ ofFay p) (ids-at d))) in
     ap (part s _) (sym (terminal-length t (q .payload .terminal))) ∙ has-part s _ t k
 
 -- so does its id
-pub id-part : (d : Descriptor) → Formed d → part (encode d) (descriptorView 0 d .payload .closing .id) 16 ≡ d .payload .id
+pub id-part : (d : Descriptor) → Formed d → part (encode d) (descriptorView 0 d .payload .id) 16 ≡ d .payload .id
 id-part d q =
     let s : List ℕ = encode d in
     let p : Payload = d .payload in
-    let mine = has-left s _ (ofId p) (ofFay p) (has-right s _ (ofTerminal p) (ofId p ++ ofFay p) (back-at d)) in
+    let mine = has-left s _ (ofId p) (ofFay p) (has-right s _ (ofTerminal p) (ofId p ++ ofFay p) (ids-at d)) in
     let k = has-right s _ (head 2 (length (p .id))) _ (has-right s _ kDescriptorId _ mine) in
     ap (part s _) (sym (q .payload .id)) ∙ has-part s _ (p .id) k
 
 -- and the subject's fay id
-pub fay-part : (d : Descriptor) → Formed d → part (encode d) (descriptorView 0 d .payload .closing .fay) 40 ≡ d .payload .fay
+pub fay-part : (d : Descriptor) → Formed d → part (encode d) (descriptorView 0 d .payload .fay) 40 ≡ d .payload .fay
 fay-part d q =
     let s : List ℕ = encode d in
     let p : Payload = d .payload in
-    let mine = has-right s _ (ofId p) (ofFay p) (has-right s _ (ofTerminal p) (ofId p ++ ofFay p) (back-at d)) in
+    let mine = has-right s _ (ofId p) (ofFay p) (has-right s _ (ofTerminal p) (ofId p ++ ofFay p) (ids-at d)) in
     let k = has-right s _ (head 3 (length (p .fay))) _ (has-right s _ kSubjectFayId _ mine) in
     ap (part s _) (sym (fay-length (p .fay) (q .payload .fay))) ∙ has-part s _ (p .fay) k

@@ -6,20 +6,21 @@ use native.Mathlib.Numerals.{add-one}
 use native.Mathlib.Omega.{arith}
 use lib.ListN.{length, take, getD, length-append}
 use Rattle.octets.specs.Bytes.{Has}
-use Rattle.exact.specs.Reads.{got, encOpt, encAll}
+use Rattle.exact.specs.Reads.{got, encAll}
 use Rattle.cbor_item.specs.Encoding.{head}
 use Rattle.octets.proofs.BytesLaws.{has-left, has-right, all-has}
 use Rattle.exact.proofs.ReadsLaws.{complete}
 use Rattle.exact.proofs.CountedLaws.{all-at}
-use Rattle.descriptor.specs.Keys.{kGrants, kMetadata, kIssuedAt}
-use Rattle.descriptor.specs.Model.{Grant, Payload, Descriptor, encPairs, encGrant, encGrants, encodePayload, encode}
+use Rattle.entries.specs.Keys.{kGrants}
+use Rattle.descriptor.specs.Model.{Grant, Payload, Descriptor, encGrant, encGrants, encodePayload, encode}
 use Rattle.descriptor.specs.Allowed.{GrantOk, All, Formed}
 use Rattle.descriptor.specs.Reader.{beforePayload}
 use Rattle.descriptor.specs.View.{keysOf, grantView, grantsView, descriptorView, grantPlace}
 use Rattle.descriptor_laws.specs.Laws.{GrantsWalk}
 use Rattle.descriptor_laws.proofs.grants.GrantLaws.{grant-exact}
-use Rattle.descriptor_laws.proofs.payload.PieceLaws.{encFront}
-use Rattle.descriptor_laws.proofs.payload.PayloadLaws.{frontOf, pieces-encode}
+use Rattle.descriptor_laws.proofs.grants.GrantsLaws.{encKeyed}
+use Rattle.descriptor_laws.proofs.payload.PieceLaws.{issueBytes, grantorBytes, idsBytes}
+use Rattle.descriptor_laws.proofs.payload.PayloadLaws.{issueOf, grantorOf, idsOf, pieces-encode}
 use Rattle.descriptor_laws.proofs.whole.DescriptorLaws.{halves-encode}
 
 -- ---- lists
@@ -46,35 +47,32 @@ payload-here d =
     let s : List ℕ = encode d in
     has-right s 0 beforePayload _ (has-left s 0 (beforePayload ++ encodePayload (d .payload)) _ (subst (Has s 0) (sym (halves-encode d)) (all-has s)))
 
--- where the first piece of the payload stands
-front-at : (s : List ℕ) (at : ℕ) (p : Payload) → Has s at (encodePayload p) → Has s at (encFront (frontOf p))
-front-at s at p h = has-left s at (encFront (frontOf p)) _ (subst (Has s at) (sym (pieces-encode p)) h)
-
--- where the first grant stands, and what follows the last
-start-at : (s : List ℕ) (at : ℕ) (gs : List Grant) (rest : List ℕ) → 1 ≤ length gs → Has s at (encGrants gs ++ rest)
+-- where the first grant stands, and what follows the last, where the key of the grants stands at a place
+start-at : (s : List ℕ) (at : ℕ) (gs : List Grant) (rest : List ℕ) → 1 ≤ length gs → Has s at (encKeyed gs ++ rest)
     → Has s (grantsView at gs .start) (encAll encGrant gs ++ rest)
 unfolding encGrants
 start-at s at [] rest l h = absurd (omega arith)
 start-at s at (g ∷ gs) rest l h =
     let n : List ℕ = head 4 (length (g ∷ gs)) in
-    has-right s at n _ (subst (Has s at) (append-assoc n (encAll encGrant (g ∷ gs)) rest) h)
+    let all : List ℕ = encAll encGrant (g ∷ gs) in
+    let e : (kGrants ++ (n ++ all)) ++ rest ≡ (kGrants ++ n) ++ (all ++ rest) = simp append-assoc in
+    has-right s at (kGrants ++ n) _ (subst (Has s at) e h)
 
--- what stands in a payload behind the grants: "metadata" with its pairs, or none, and "issued_at" with the time
+-- what stands in a payload behind the grants: "metadata" with its pairs, or none, and "issued_at" with what follows
 abbrev pub behindGrants : Payload → List ℕ
-behindGrants p = encOpt kMetadata encPairs (p .metadata) ++ (kIssuedAt ++ head 0 (p .issuedAt))
+behindGrants p = issueBytes (issueOf p) ++ (grantorBytes (grantorOf p) ++ idsBytes (idsOf p))
 
 -- where all the grants of a descriptor stand with what is behind them
 pub grants-here : (d : Descriptor) → Formed d
-    → Has (encode d) (descriptorView 0 d .payload .opening .grants .start) (encAll encGrant (d .payload .grants) ++ behindGrants (d .payload))
+    → Has (encode d) (descriptorView 0 d .payload .grants .start) (encAll encGrant (d .payload .grants) ++ behindGrants (d .payload))
 grants-here d q =
     let s : List ℕ = encode d in
     let p : Payload = d .payload in
-    let keys = has-right s _ (head 5 (keysOf p)) _ (front-at s _ p (payload-here d)) in
     start-at s _ (p .grants) (behindGrants p) (q .payload .least)
-    (has-right s _ kGrants _ (subst (Has s _) (append-assoc kGrants (encGrants (p .grants)) (behindGrants p)) keys))
+    (has-right s _ (head 5 (keysOf p)) _ (subst (Has s (0 + length beforePayload)) (sym (pieces-encode p)) (payload-here d)))
 
 -- where they stand
-pub all-grants : (d : Descriptor) → Formed d → Has (encode d) (descriptorView 0 d .payload .opening .grants .start)
+pub all-grants : (d : Descriptor) → Formed d → Has (encode d) (descriptorView 0 d .payload .grants .start)
     (encAll encGrant (d .payload .grants))
 all-grants d q = has-left (encode d) _ (encAll encGrant (d .payload .grants)) (behindGrants (d .payload)) (grants-here d q)
 
@@ -88,7 +86,8 @@ grant-here d q i g l e = subst (λ (x : Grant). Has (encode d) (grantPlace d i) 
 next-grant : (d : Descriptor) (i : ℕ) (g : Grant) → i < length (d .payload .grants) → getD (d .payload .grants) i g ≡ g
     → grantPlace d i + length (encGrant g) ≡ grantPlace d (i + 1)
 next-grant d i g l e =
-    let more : length (encAll encGrant (take i (d .payload .grants))) + length (encGrant g) ≡ length (encAll encGrant (take (i + 1) (d .payload .grants)))
+    let more : length (encAll encGrant (take i (d .payload .grants))) + length (encGrant g)
+    ≡ length (encAll encGrant (take (i + 1) (d .payload .grants)))
     = rw add-one (rw e at (take-next encGrant (d .payload .grants) i g l)) in
     omega arith
 

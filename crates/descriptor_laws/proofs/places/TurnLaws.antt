@@ -1,7 +1,6 @@
 -- The grants of a descriptor are read one after the other (specs/Laws.antt). Assumes nothing.
 use mathlib.Core.Path.{_≡_, refl, sym, ap, _∙_, subst}
 use mathlib.Core.List.{List, [], _∷_}
-use mathlib.Core.Option.{Option, none, some}
 use Prim.Native.Nat.{ℕ, zero, suc, _+_, _-_}
 use native.Mathlib.Nat.{sub-zero, zero-sub, suc-sub-suc}
 use lib.ListN.{length, take, drop}
@@ -10,10 +9,9 @@ use Rattle.octets.specs.Bytes.{AreBytes, part, Has}
 use Rattle.exact.specs.Reads.{encAll}
 use Rattle.octets.proofs.BytesLaws.{has-left, has-right, has-part}
 use Rattle.exact.proofs.ReadsLaws.{complete}
-use Rattle.descriptor.specs.Model.{Pair, Grant, pairCount, encGrant, encode}
+use Rattle.descriptor.specs.Model.{Grant, encGrant, encode}
 use Rattle.descriptor.specs.Allowed.{GrantOk, All}
-use Rattle.descriptor.specs.Reader.{pairsOf}
-use Rattle.descriptor.specs.View.{countOf, grantView, descriptorView}
+use Rattle.descriptor.specs.View.{grantView, descriptorView}
 use Rattle.descriptor_laws.specs.Laws.{SeenAs, InTurn, no-more, one-more, GrantsInTurn, GrantsAllowed}
 use Rattle.descriptor_laws.proofs.grants.GrantLaws.{grant-exact}
 use Rattle.descriptor_laws.proofs.grants.GrantsLaws.{OwnedBy, pattern-at}
@@ -32,11 +30,6 @@ part-below : (s : List ℕ) (a n : ℕ) → part s (a + 46) (n - 46) ≡ drop 46
 unfolding part
 part-below s a n = sym (drop-take 46 n (drop a s) ∙ ap (take (n - 46)) (drop-drop 46 a s))
 
--- as many pairs are seen as there are
-pairs-of : (ps : Option (List Pair)) → pairsOf (countOf ps) ≡ pairCount ps
-pairs-of none = refl
-pairs-of (some ps) = refl
-
 module _ (s t : List ℕ) (bs : AreBytes s) where
   -- what is seen of a grant that stands at a place
   grant-seen : (at : ℕ) (g : Grant) → GrantOk g → take 45 (g .pattern) ≡ t → Has s at (encGrant g) → SeenAs s t g (grantView at g)
@@ -46,7 +39,7 @@ module _ (s t : List ℕ) (bs : AreBytes s) where
         allowed = q;
         own = o;
         mask = refl;
-        pairs = pairs-of (g .constraints);
+        pairs = refl;
         pattern = e;
         below = part-below s (grantView at g .pattern .start) (grantView at g .pattern .len) ∙ ap (drop 46) e;
       }
@@ -62,7 +55,7 @@ module _ (s t : List ℕ) (bs : AreBytes s) where
 
 pub grants-in-turn : GrantsInTurn
 grants-in-turn d bs q =
-    subst (λ (n : ℕ). InTurn (encode d) (d .payload .terminal) n (descriptorView 0 d .payload .opening .grants .start) (d .payload .grants)) (sym (seen-handed d q .grants))
+    subst (λ (n : ℕ). InTurn (encode d) (d .payload .terminal) n (descriptorView 0 d .payload .grants .start) (d .payload .grants)) (sym (seen-handed d q .grants))
     (turn-from (encode d) (d .payload .terminal) bs (d .payload .grants) _ (q .payload .grants) (q .payload .own) (all-grants d q))
 
 pub grants-allowed : GrantsAllowed

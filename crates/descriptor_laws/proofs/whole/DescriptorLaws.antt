@@ -8,13 +8,15 @@ use Rattle.octets.specs.Bytes.{AreBytes}
 use Rattle.exact.specs.Reads.{Reads}
 use Rattle.cbor_item.specs.Encoding.{head}
 use Rattle.exact.proofs.ReadsLaws.{recast, seq, keyed, mapped}
-use Rattle.descriptor.specs.Keys.{kPayload, kVersion, kSignature, kKeyId}
-use Rattle.descriptor.specs.Model.{Descriptor, encodePayload, encSignature, encode}
-use Rattle.descriptor.specs.Allowed.{PayloadOk, SignatureOk}
+use Rattle.entries.specs.Keys.{kPayload, kVersion, kSignature, kKeyId}
+use Rattle.entries.specs.Model.{encSignature}
+use Rattle.entries.specs.Allowed.{SignatureOk}
+use Rattle.descriptor.specs.Model.{Descriptor, encodePayload, encode}
+use Rattle.descriptor.specs.Allowed.{PayloadOk}
 use Rattle.descriptor.specs.Reader.{beforePayload, beforeKeyId, descriptorAt}
 use Rattle.descriptor.specs.View.{descriptorView}
 use Rattle.descriptor_laws.proofs.payload.PayloadLaws.{payload-exact}
-use Rattle.descriptor_laws.proofs.whole.SignatureLaws.{encFromKey, signature-exact}
+use Rattle.entries.proofs.SignatureLaws.{encFromKey, signature-exact}
 
 -- a descriptor of an allowed payload and an allowed signature, of whatever length
 pub record Both (d : Descriptor) : Type 0 where

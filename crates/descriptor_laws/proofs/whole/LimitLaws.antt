@@ -13,9 +13,11 @@ use Rattle.cbor_item.specs.Encoding.{head}
 use Rattle.exact.specs.Reads.{OptOk, AllFrom}
 use Rattle.octets.proofs.Tests.{by-cond, and-left, and-right, and-both}
 use Rattle.resource.specs.Text.{isPattern, longestText, patternOk}
-use Rattle.descriptor.specs.Model.{Pair, Grant, Descriptor}
+use Rattle.entries.specs.Model.{Pair}
+use Rattle.entries.specs.Allowed.{TextOk, PairOk, keyOf, PairsOk}
+use Rattle.descriptor.specs.Model.{Grant, Descriptor}
+use Rattle.descriptor.specs.Allowed.{isIn, ModeOk, seenWith, ModesOk, GrantOk, All, Formed}
 use Rattle.octets.specs.Order.{before}
-use Rattle.descriptor.specs.Allowed.{TextOk, PairOk, keyOf, PairsOk, isIn, ModeOk, seenWith, ModesOk, GrantOk, All, Formed}
 use Rattle.descriptor_laws.specs.Promises.{text, Each, EachTwo, TextWithin, PairsWithin, ModesWithin, GrantWithin, Within}
 use Rattle.descriptor_laws.specs.Promises.{AllowedExactly}
 use Rattle.descriptor_laws.proofs.encoding.OrderLaws.{empty-before, two-ascend}

@@ -1,93 +1,76 @@
 -- `grant_at` meets its contract. Assumes nothing.
 use mathlib.Core.Path.{sym, ap, _∙_}
 use native.Mathlib.Omega.{arith}
-use lib.Dec.{lit<}
-use Rattle.octets.proofs.BytesLaws.{T-of-not, not-T-of}
-use Rattle.exact.proofs.ReadsLaws.{took, stopped, passed, failed}
-use Rattle.descriptor.specs.Keys.{kModes, kConstraints, kResourcePattern}
-use Rattle.descriptor.specs.Answer.{countRead, optRead, grantEnd}
+use Rattle.cbor_item.specs.Head.{spanRead}
+use Rattle.exact.proofs.ReadsLaws.{took, stopped}
+use Rattle.entries.specs.Keys.{kModes, kConstraints, kResourcePattern}
+use Rattle.entries.specs.Answer.{countRead, optionalRead}
+use Rattle.entries.proofs.ValueBounds.{string-ends}
 use Rattle.descriptor.specs.Reader.{grantAt}
-use Rattle.descriptor.proofs.GrantBounds.{key-room, opt-room}
+use Rattle.descriptor.proofs.ModeSteps.{modes-room}
 use borrow.Author.Needs.{needs}
 use Rattle.descriptor.proofs.grants.grant_at.Statement.{statement}
 use Rattle.descriptor.proofs.grants.grant_at.Tie as tie
 
 returns : tie.Need-returns
-unfolding grantAt kModes
+unfolding grantAt
 returns c = stopped _ (sym (ap countRead (c .enum-told .given .1)) ∙ c .before .before .count-at .ensures)
 
 returns-2 : tie.Need-returns-2
-unfolding grantAt kModes
+unfolding grantAt
 returns-2 c =
     let k = c .before .before .before .before in
     took _ (sym (ap countRead (k .count .given .1)) ∙ k .before .before .count-at .ensures)
-    (stopped _ (failed _ _ (not-T-of _ (c .before .has-at .ensures) (c .if1 .taken))))
-
-add-modes-at : tie.Need-add-modes-at
-add-modes-at c = omega (arith, key-room _ _ _ _ (lit< tt) (c .before .has-at .ensures) (c .if1 .left))
+    (stopped _ (sym (ap countRead (c .enum-told2 .given .1)) ∙ c .before .before .modes-at .ensures))
 
 returns-3 : tie.Need-returns-3
-unfolding grantAt kModes
+unfolding grantAt kConstraints
 returns-3 c =
-    let e = c .before .before .before in
-    let k = e .before .before .before .before in
+    let m = c .before .before .before .before .before in
+    let k = m .before .before .before .before in
     took _ (sym (ap countRead (k .count .given .1)) ∙ k .before .before .count-at .ensures)
-    (stopped _ (passed _ (T-of-not _ (e .before .has-at .ensures) (e .if1 .left))
-    (sym (ap countRead (c .enum-told2 .given .1)) ∙ c .before .before .modes-at .ensures)))
-
-add-grant-end : tie.Need-add-grant-end
-add-grant-end c =
-    let e = c .before .before .before .before .before .before .before .before in
-    omega (arith, key-room _ _ _ _ (lit< tt) (e .before .has-at .ensures) (e .if1 .left))
-
-add-grant-end-2 : tie.Need-add-grant-end-2
-add-grant-end-2 c =
-    let e = c .before .before .before .before .before .before .before .before .before in
-    omega (arith, key-room _ _ _ _ (lit< tt) (e .before .has-at .ensures) (e .if1 .left))
-
-add-grant-end-3 : tie.Need-add-grant-end-3
-add-grant-end-3 c =
-    let k = c .before in
-    let h = k .before .before .before .before .before .before .before .before .before .before .before .before .before .before .before .before in
-    omega (arith, h .good .0, opt-room (h .args .s .now) _ _ _ (lit< tt) (sym (ap (optRead _) (k .pairs .given .1)) ∙ k .before .before .opt-pairs .ensures))
+    (took _ (sym (ap countRead (m .mask .given .1)) ∙ m .before .before .modes-at .ensures)
+    (stopped _ (sym (ap optionalRead (c .enum-told3 .given .1)) ∙ c .before .before .opt-pairs .ensures)))
 
 returns-4 : tie.Need-returns-4
-unfolding grantAt grantEnd kModes kConstraints kResourcePattern
+unfolding grantAt kConstraints kResourcePattern
 returns-4 c =
-    let o = c .before in
-    let m = o .before .before .before .before .before in
-    let e = m .before .before .before in
-    let k = e .before .before .before .before in
+    let v = c .before .before .before .before .before in
+    let m = v .before .before .before .before .before in
+    let k = m .before .before .before .before in
     took _ (sym (ap countRead (k .count .given .1)) ∙ k .before .before .count-at .ensures)
-    (took _ (passed _ (T-of-not _ (e .before .has-at .ensures) (e .if1 .left)) (sym (ap countRead (m .mask .given .1)) ∙ m .before .before .modes-at .ensures))
-    (took _ (sym (ap (optRead _) (o .enum-told3 .given .1)) ∙ o .before .before .opt-pairs .ensures) (c .grant-end .ensures)))
+    (took _ (sym (ap countRead (m .mask .given .1)) ∙ m .before .before .modes-at .ensures)
+    (took _ (sym (ap optionalRead (v .value .given .1)) ∙ v .before .before .opt-pairs .ensures)
+    (stopped _ (sym (ap spanRead (c .enum-told4 .given .1)) ∙ c .before .before .keyed .ensures))))
+
+add-if-counts : tie.Need-add-if-counts
+add-if-counts c =
+    let m = c .before .before .before .before .before .before .before .before .before .before .before in
+    let h = m .before .before .before .before .before .before .before .before in
+    omega (arith, h .good .0, modes-room (h .args .s .now) _ (sym (ap countRead (m .mask .given .1)) ∙ m .before .before .modes-at .ensures))
+
+add-if-counts-2 : tie.Need-add-if-counts-2
+add-if-counts-2 c =
+    let p = c .before in
+    let h = p .before .before .before .before .before .before .before .before .before .before .before .before .before .before .before .before .before .before in
+    omega (arith, h .good .0, string-ends _ (h .args .s .now) _ _ (sym (ap spanRead (p .start .given .1)) ∙ p .before .before .keyed .ensures))
 
 returns-5 : tie.Need-returns-5
-unfolding grantAt grantEnd kModes kConstraints kResourcePattern
+unfolding grantAt kModes kConstraints kResourcePattern
 returns-5 c =
-    let o = c .before .before in
-    let m = o .before .before .before .before .before in
-    let e = m .before .before .before in
-    let k = e .before .before .before .before in
+    let p = c .before .before in
+    let v = p .before .before .before .before .before in
+    let m = v .before .before .before .before .before in
+    let k = m .before .before .before .before in
     took _ (sym (ap countRead (k .count .given .1)) ∙ k .before .before .count-at .ensures)
-    (took _ (passed _ (T-of-not _ (e .before .has-at .ensures) (e .if1 .left)) (sym (ap countRead (m .mask .given .1)) ∙ m .before .before .modes-at .ensures))
-    (took _ (sym (ap (optRead _) (o .pairs .given .1)) ∙ o .before .before .opt-pairs .ensures) (c .grant-end2 .ensures)))
-
-returns-6 : tie.Need-returns-6
-unfolding grantAt kModes kConstraints
-returns-6 c =
-    let m = c .before .before .before .before .before in
-    let e = m .before .before .before in
-    let k = e .before .before .before .before in
-    took _ (sym (ap countRead (k .count .given .1)) ∙ k .before .before .count-at .ensures)
-    (took _ (passed _ (T-of-not _ (e .before .has-at .ensures) (e .if1 .left)) (sym (ap countRead (m .mask .given .1)) ∙ m .before .before .modes-at .ensures))
-    (stopped _ (sym (ap (optRead _) (c .enum-told4 .given .1)) ∙ c .before .before .opt-pairs .ensures)))
+    (took _ (sym (ap countRead (m .mask .given .1)) ∙ m .before .before .modes-at .ensures)
+    (took _ (sym (ap optionalRead (v .value .given .1)) ∙ v .before .before .opt-pairs .ensures)
+    (took _ (sym (ap spanRead (p .start .given .1)) ∙ p .before .before .keyed .ensures) (c .if-counts .ensures))))
 
 pub grant-at-spec : {M : Type 1} → statement M
 grant-at-spec =
     tie.close
-    (tie.spec (λ c κs. search needs) (λ c. search needs) (λ c. search needs) returns (λ c. search needs)
-    (λ c κs. search needs) returns-2 add-modes-at (λ c κs. search needs) (λ c. search needs) (λ c. search needs)
-    returns-3 (λ c. search needs) (λ c κs. search needs) (λ c. search needs) add-grant-end (λ c κs. search needs)
-    (λ c. search needs) add-grant-end-2 add-grant-end-3 (λ c κs. search needs) (λ c. search needs) returns-4 returns-5
-    returns-6)
+    (tie.spec (λ c κs. search needs) (λ c. search needs) (λ c. search needs) returns (λ c κs. search needs)
+    (λ c. search needs) (λ c. search needs) returns-2 (λ c. search needs) (λ c κs. search needs) (λ c. search needs)
+    (λ c. search needs) returns-3 (λ c. search needs) (λ c κs. search needs) (λ c. search needs) (λ c. search needs)
+    returns-4 add-if-counts add-if-counts-2 (λ c κs. search needs) returns-5)

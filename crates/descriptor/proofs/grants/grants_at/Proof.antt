@@ -5,38 +5,38 @@ use native.Mathlib.Omega.{arith}
 use lib.ListN.{length}
 use Rattle.exact.specs.Reads.{got}
 use Rattle.exact.proofs.ReadsLaws.{took, stopped}
-use Rattle.descriptor.specs.Answer.{countRead, grantRead, sumOf, sumRead}
-use Rattle.descriptor.specs.Value.{countAt}
+use Rattle.entries.specs.Keys.{kGrants}
+use Rattle.entries.specs.Value.{countAt, keyedAt}
+use Rattle.entries.specs.Answer.{countRead}
+use Rattle.entries.proofs.ValueBounds.{count-room}
+use Rattle.descriptor.specs.Answer.{grantRead, sumOf, sumRead}
 use Rattle.descriptor.specs.Reader.{grantsAt}
-use Rattle.descriptor.proofs.GrantBounds.{count-room, grant-room, more-room, grantsFrom, grants-begin, grants-next, grants-stop}
+use Rattle.descriptor.proofs.GrantBounds.{GrantIn, grant-room, more-room, grantsFrom, grants-begin, grants-next, grants-stop}
 use Rattle.descriptor.proofs.GrantBounds.{grants-done}
 use borrow.Author.Needs.{needs}
 use Rattle.descriptor.proofs.grants.grants_at.Statement.{statement}
 use Rattle.descriptor.proofs.grants.grants_at.Tie as tie
 
 abbrev Inv-loop : tie.InvT-loop
-Inv-loop s at count start next first sum₀ left₀ here₀ sum left here = (first + 45 ≤ length s) × (sum .pairs + left * 8 ≤ 2048)
-    × (grantsFrom s count start first left (sumOf sum) here ≡ grantsAt s at)
+Inv-loop s at value next start after first sum₀ left₀ here₀ sum left here = (first + 45 ≤ length s) × (sum .pairs + left * 8 ≤ 2048)
+    × (grantsFrom s value start first left (sumOf sum) here ≡ grantsAt s at)
 
 abbrev μ-loop : tie.MeasureT-loop
-μ-loop s at count start next first sum₀ left₀ here₀ sum left here = left
+μ-loop s at value next start after first sum₀ left₀ here₀ sum left here = left
 
 -- how many grants there are to be
-counted : (k : tie.After-count Inv-loop μ-loop) → got (k .count .given .0 .0) (k .count .given .0 .1 .0)
-    ≡ countAt (k .before .before .before .before .args .s .now) (k .before .before .before .before .args .at) 4 1 256
-counted k = sym (ap countRead (k .count .given .1)) ∙ k .before .before .count-at .ensures
+counted : (k : tie.After-value Inv-loop μ-loop) → got (k .value .given .0 .0) (k .value .given .0 .1 .0)
+    ≡ keyedAt (k .before .before .before .before .before .args .s .now) (k .before .before .before .before .before .args .at) kGrants (λ n. countAt (k .before .before .before .before .before .args .s .now) n 4 1 256)
+unfolding kGrants
+counted k = sym (ap countRead (k .value .given .1)) ∙ k .before .before .keyed-count .ensures
 
 -- they are 1 to 256
-limits : (k : tie.After-count Inv-loop μ-loop) → (1 ≤ k .count .given .0 .0) × (k .count .given .0 .0 ≤ 256)
-limits k = count-room _ _ 4 1 256 (counted k)
-
--- the first grant is within the bytes
-seen : (k : tie.After-fields Inv-loop μ-loop) → (k .fields .given .0 .0 .pattern + 46 ≤ length (k .before .before .before .before .before .before .before .before .args .s .now)) × (k .fields .given .0 .0 .pairs ≤ 8)
-seen k = grant-room _ _ (sym (ap grantRead (k .fields .given .1)) ∙ k .before .before .grant-at .ensures)
+limits : (k : tie.After-value Inv-loop μ-loop) → (1 ≤ k .value .given .0 .0) × (k .value .given .0 .0 ≤ 256)
+limits k = count-room _ _ kGrants 4 1 256 (counted k)
 
 returns : tie.Need-returns Inv-loop μ-loop
-unfolding grantsAt
-returns c = stopped _ (sym (ap countRead (c .enum-told .given .1)) ∙ c .before .before .count-at .ensures)
+unfolding grantsAt kGrants
+returns c = stopped _ (sym (ap countRead (c .enum-told .given .1)) ∙ c .before .before .keyed-count .ensures)
 
 returns-2 : tie.Need-returns-2 Inv-loop μ-loop
 unfolding grantsAt
@@ -50,7 +50,9 @@ loop-holds : tie.Need-loop-holds Inv-loop μ-loop
 loop-holds c =
     let g = c .before in
     let k = g .before .before .before .before in
-    (omega (arith, seen g .0), omega (arith, seen g .1, limits k .1), grants-begin _ _ (counted k) (sym (ap grantRead (g .fields .given .1)) ∙ g .before .before .grant-at .ensures))
+    let e = sym (ap grantRead (g .fields .given .1)) ∙ g .before .before .grant-at .ensures in
+    let r = grant-room _ _ e in
+    (omega (arith, r .long, r .fits), omega (arith, r .few, limits k .1), grants-begin _ _ (counted k) e)
 
 more-at-requires : tie.Need-more-at-requires Inv-loop μ-loop
 more-at-requires c κs = (c .before .loop .inv .0, omega (arith, c .before .loop .inv .1))
@@ -66,7 +68,7 @@ loop-again c =
     let m = c .before in
     let l = m .before .before .before .before in
     let e = sym (ap sumRead (m .more .given .1)) ∙ m .before .before .more-at .ensures in
-    (l .loop .inv .0, omega (arith, l .loop .inv .1, more-room _ _ _ _ e), grants-next _ _ _ _ _ _ _ (m .before .before .before .loop-test .taken) e ∙ l .loop .inv .2)
+    (l .loop .inv .0, omega (arith, l .loop .inv .1, more-room _ _ _ _ e .few), grants-next _ _ _ _ _ _ _ (m .before .before .before .loop-test .taken) e ∙ l .loop .inv .2)
 
 returns-4 : tie.Need-returns-4 Inv-loop μ-loop
 returns-4 c = grants-done _ _ _ _ _ _ _ (omega arith) ∙ c .before .loop .inv .2
@@ -74,6 +76,7 @@ returns-4 c = grants-done _ _ _ _ _ _ _ (omega arith) ∙ c .before .loop .inv .
 pub grants-at-spec : {M : Type 1} → statement M
 grants-at-spec =
     tie.close
-    (tie.spec Inv-loop μ-loop (λ c κs. search needs) (λ c. search needs) (λ c. search needs) returns
-    (λ c κs. search needs) (λ c. search needs) (λ c. search needs) returns-2 sub-left loop-holds more-at-requires
-    (λ c. search needs) (λ c. search needs) returns-3 (λ c. search needs) (λ c. search needs) loop-again returns-4)
+    (tie.spec Inv-loop μ-loop (λ c. search needs) (λ c κs. search needs) (λ c. search needs) (λ c. search needs)
+    returns (λ c κs. search needs) (λ c. search needs) (λ c. search needs) returns-2 sub-left loop-holds
+    more-at-requires (λ c. search needs) (λ c. search needs) returns-3 (λ c. search needs) (λ c. search needs)
+    loop-again returns-4)

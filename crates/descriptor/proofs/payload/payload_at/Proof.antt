@@ -1,69 +1,85 @@
 -- `payload_at` meets its contract. Assumes nothing.
-use mathlib.Core.Path.{refl, sym, ap, _∙_}
-use Rattle.octets.proofs.BytesLaws.{T-of}
-use Rattle.exact.proofs.ReadsLaws.{took, stopped, passed, failed}
-use Rattle.descriptor.specs.Answer.{openingRead, middleRead, closingRead}
+use mathlib.Core.Path.{sym, ap, _∙_}
+use Rattle.exact.proofs.ReadsLaws.{took, stopped}
+use Rattle.entries.specs.Answer.{countRead}
+use Rattle.descriptor.specs.Answer.{grantsRead, issueRead, grantorRead, idsRead}
 use Rattle.descriptor.specs.Reader.{payloadAt}
-use Rattle.octets.proofs.TruthLaws.{T-false}
-use Rattle.descriptor.proofs.PayloadBounds.{opening-room, closing-room}
+use Rattle.descriptor.proofs.GrantBounds.{grants-room}
+use Rattle.descriptor.proofs.PayloadBounds.{ids-room}
 use borrow.Author.Needs.{needs}
 use Rattle.descriptor.proofs.payload.payload_at.Statement.{statement}
 use Rattle.descriptor.proofs.payload.payload_at.Tie as tie
 
 returns : tie.Need-returns
 unfolding payloadAt
-returns c = stopped _ (sym (ap openingRead (c .enum-told .given .1)) ∙ c .before .before .opening-at .ensures)
+returns c = stopped _ (sym (ap countRead (c .enum-told .given .1)) ∙ c .before .before .count-at .ensures)
 
 returns-2 : tie.Need-returns-2
 unfolding payloadAt
 returns-2 c =
-    let o = c .before .before .before .before in
-    took _ (sym (ap openingRead (o .opening .given .1)) ∙ o .before .before .opening-at .ensures)
-    (stopped _ (sym (ap middleRead (c .enum-told2 .given .1)) ∙ c .before .before .middle-at .ensures))
+    let v = c .before .before .before .before in
+    took _ (sym (ap countRead (v .value .given .1)) ∙ v .before .before .count-at .ensures)
+    (stopped _ (sym (ap grantsRead (c .enum-told2 .given .1)) ∙ c .before .before .grants-at .ensures))
 
 returns-3 : tie.Need-returns-3
 unfolding payloadAt
 returns-3 c =
-    let m = c .before .before .before .before in
-    let o = m .before .before .before .before in
-    took _ (sym (ap openingRead (o .opening .given .1)) ∙ o .before .before .opening-at .ensures)
-    (took _ (sym (ap middleRead (m .middle .given .1)) ∙ m .before .before .middle-at .ensures)
-    (stopped _ (sym (ap closingRead (c .enum-told3 .given .1)) ∙ c .before .before .closing-at .ensures)))
-
-fits-requires : tie.Need-fits-requires
-fits-requires c κs =
-    let k = c .before in
-    let m = k .before .before .before .before in
-    let o = m .before .before .before .before in (
-      opening-room _ _ (sym (ap openingRead (o .opening .given .1)) ∙ o .before .before .opening-at .ensures),
-      closing-room _ _ (sym (ap closingRead (k .closing .given .1)) ∙ k .before .before .closing-at .ensures),
-    )
+    let g = c .before .before .before .before in
+    let v = g .before .before .before .before in
+    took _ (sym (ap countRead (v .value .given .1)) ∙ v .before .before .count-at .ensures)
+    (took _ (sym (ap grantsRead (g .grants .given .1)) ∙ g .before .before .grants-at .ensures)
+    (stopped _ (sym (ap issueRead (c .enum-told3 .given .1)) ∙ c .before .before .issue-at .ensures)))
 
 returns-4 : tie.Need-returns-4
 unfolding payloadAt
 returns-4 c =
-    let k = c .before .before .before in
-    let m = k .before .before .before .before in
-    let o = m .before .before .before .before in
-    took _ (sym (ap openingRead (o .opening .given .1)) ∙ o .before .before .opening-at .ensures)
-    (took _ (sym (ap middleRead (m .middle .given .1)) ∙ m .before .before .middle-at .ensures)
-    (took _ (sym (ap closingRead (k .closing .given .1)) ∙ k .before .before .closing-at .ensures)
-    (passed _ (T-of (c .before .fits2 .ensures) (c .if1 .taken)) refl)))
+    let i = c .before .before .before .before in
+    let g = i .before .before .before .before in
+    let v = g .before .before .before .before in
+    took _ (sym (ap countRead (v .value .given .1)) ∙ v .before .before .count-at .ensures)
+    (took _ (sym (ap grantsRead (g .grants .given .1)) ∙ g .before .before .grants-at .ensures)
+    (took _ (sym (ap issueRead (i .issue .given .1)) ∙ i .before .before .issue-at .ensures)
+    (stopped _ (sym (ap grantorRead (c .enum-told4 .given .1)) ∙ c .before .before .grantor-at .ensures))))
 
 returns-5 : tie.Need-returns-5
 unfolding payloadAt
 returns-5 c =
-    let k = c .before .before .before in
-    let m = k .before .before .before .before in
-    let o = m .before .before .before .before in
-    took _ (sym (ap openingRead (o .opening .given .1)) ∙ o .before .before .opening-at .ensures)
-    (took _ (sym (ap middleRead (m .middle .given .1)) ∙ m .before .before .middle-at .ensures)
-    (took _ (sym (ap closingRead (k .closing .given .1)) ∙ k .before .before .closing-at .ensures)
-    (failed _ _ (T-false _ .1 (sym (c .before .fits2 .ensures) ∙ c .if1 .left)))))
+    let r = c .before .before .before .before in
+    let i = r .before .before .before .before in
+    let g = i .before .before .before .before in
+    let v = g .before .before .before .before in
+    took _ (sym (ap countRead (v .value .given .1)) ∙ v .before .before .count-at .ensures)
+    (took _ (sym (ap grantsRead (g .grants .given .1)) ∙ g .before .before .grants-at .ensures)
+    (took _ (sym (ap issueRead (i .issue .given .1)) ∙ i .before .before .issue-at .ensures)
+    (took _ (sym (ap grantorRead (r .grantor .given .1)) ∙ r .before .before .grantor-at .ensures)
+    (stopped _ (sym (ap idsRead (c .enum-told5 .given .1)) ∙ c .before .before .ids-at .ensures)))))
+
+if-fits-requires : tie.Need-if-fits-requires
+if-fits-requires c κs =
+    let d = c .before in
+    let g = d .before .before .before .before .before .before .before .before .before .before .before .before in (
+      grants-room _ _ (sym (ap grantsRead (g .grants .given .1)) ∙ g .before .before .grants-at .ensures) .first,
+      ids-room _ _ (sym (ap idsRead (d .ids .given .1)) ∙ d .before .before .ids-at .ensures) .terminal,
+    )
+
+returns-6 : tie.Need-returns-6
+unfolding payloadAt
+returns-6 c =
+    let d = c .before .before in
+    let r = d .before .before .before .before in
+    let i = r .before .before .before .before in
+    let g = i .before .before .before .before in
+    let v = g .before .before .before .before in
+    took _ (sym (ap countRead (v .value .given .1)) ∙ v .before .before .count-at .ensures)
+    (took _ (sym (ap grantsRead (g .grants .given .1)) ∙ g .before .before .grants-at .ensures)
+    (took _ (sym (ap issueRead (i .issue .given .1)) ∙ i .before .before .issue-at .ensures)
+    (took _ (sym (ap grantorRead (r .grantor .given .1)) ∙ r .before .before .grantor-at .ensures)
+    (took _ (sym (ap idsRead (d .ids .given .1)) ∙ d .before .before .ids-at .ensures) (c .if-fits .ensures)))))
 
 pub payload-at-spec : {M : Type 1} → statement M
 payload-at-spec =
     tie.close
     (tie.spec (λ c κs. search needs) (λ c. search needs) (λ c. search needs) returns (λ c κs. search needs)
     (λ c. search needs) (λ c. search needs) returns-2 (λ c κs. search needs) (λ c. search needs) (λ c. search needs)
-    returns-3 fits-requires returns-4 returns-5)
+    returns-3 (λ c κs. search needs) (λ c. search needs) (λ c. search needs) returns-4 (λ c κs. search needs)
+    (λ c. search needs) (λ c. search needs) returns-5 if-fits-requires returns-6)

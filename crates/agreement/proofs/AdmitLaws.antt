@@ -118,7 +118,8 @@ none-accepted parent child a = go (pairs-or-none (parent .payload .grants)) (pai
   where
     refused : ((NoPairs (parent .payload .grants) × NoPairs (child .payload .grants)) → ⊥) → ⊥
     refused f =
-        let e = constrained-exactly (encode parent) (encode child) parent child (a .parentBytes) (a .childBytes) (a .parentAllowed) (a .childAllowed) refl refl .1 f in
+        let e = constrained-exactly (encode parent) (encode child) parent child (a .parentBytes) (a .childBytes) (a .parentAllowed)
+        (a .childAllowed) refl refl .1 f in
         omega (arith, ap (λ n. n .answer) (sym (a .accepted) ∙ e))
 
     go : NoPairs (parent .payload .grants) ⊎ (NoPairs (parent .payload .grants) → ⊥)
@@ -149,4 +150,6 @@ pub path-formed : (q : Request) → formed q ≡ true → IsPath (pathOf (q .res
 path-formed q e =
     path-of (q .resource)
     (and-right (leb (length (q .resource)) 256) (isResource (q .resource))
-    (and-left _ _ (and-right (isTerminal (q .terminal)) _ (and-right (isFay (q .fay)) _ (and-right (eqb (length (q .id)) 16) _ (and-right (leb (q .mode) 3) _ (and-right (leb (q .verdict) 2) _ e)))))))
+    (and-left _ _ (and-right (isTerminal (q .terminal)) _
+    (and-right (isFay (q .fay)) _
+    (and-right (eqb (length (q .id)) 16) _ (and-right (leb (q .mode) 3) _ (and-right (leb (q .verdict) 2) _ e)))))))

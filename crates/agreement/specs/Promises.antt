@@ -34,7 +34,8 @@ OthersPass q d = AllPass (numbered (15 ∷ 16 ∷ 7 ∷ 8 ∷ 11 ∷ 12 ∷ 14 �
 
 -- for a descriptor without constraint pairs, steps 9, 10 and 13 pass exactly when it admits the request's moment, path and mode together
 abbrev pub StepsAdmit : Type 0
-StepsAdmit = (q : Request) (d : Descriptor) → NoPairs (d .payload .grants) → Serves q d ↔ Admits d (q .clock) (pathOf (q .resource)) (q .mode)
+StepsAdmit = (q : Request) (d : Descriptor) → NoPairs (d .payload .grants)
+    → Serves q d ↔ Admits d (q .clock) (pathOf (q .resource)) (q .mode)
 
 -- where the other steps pass, a request for such a descriptor is answered 0 exactly when the descriptor admits its moment, path and
 -- mode together

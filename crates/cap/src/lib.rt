@@ -15,11 +15,11 @@ ghost use Rattle.octets.specs.Bytes.{AreBytes};
 ghost use Rattle.cbor_item.specs.Item as items;
 ghost use Rattle.resource.specs.Text as texts;
 ghost use Rattle.descriptor.specs.Reader.{readOf};
-ghost use Rattle.descriptor.specs.Answer.{readingOf};
+ghost use Rattle.descriptor.specs.Code.{readingOf};
 ghost use Rattle.descriptor.specs.Numbers as descriptors;
-ghost use Rattle.grant_reader.specs.Walk.{nthOf};
+ghost use Rattle.grant_reader.specs.Code.{nthOf};
 ghost use Rattle.image.specs.Check as images;
-ghost use Rattle.image.specs.Fresh as fresh;
+ghost use Rattle.image.specs.NewImage as creations;
 ghost use Rattle.image.specs.Edition1 as edition1;
 ghost use Rattle.submission.specs.Submission as submissions;
 ghost use Rattle.request.specs.Request.{requestOf};
@@ -66,10 +66,10 @@ pub extern "C" fn cap_match(pattern: &[u8], resource: &[u8]) -> MatchingNumbers
 // Makes a new image.
 #[no_mangle]
 pub extern "C" fn cap_image_new(image: &mut [u8]) -> u64
-    ensures answer { λ r. ⌜ (r ≡ fresh.numberOf (fresh.madeOf (now (image .entry)))) × (now (image .exit) ≡ edition1.afterNew (now (image .entry))) ⌝ }
+    ensures answer { λ r. ⌜ (r ≡ creations.numberOf (creations.creationOf (now (image .entry)))) × (now (image .exit) ≡ edition1.afterNew (now (image .entry))) ⌝ }
     ensures lent { λ _. ⌜ AreBytes (now (image .entry)) ⌝ }
 {
-    numbers::of_made(image::new_image(image))
+    numbers::of_creation(image::new_image(image))
 }
 
 // Looks for the body with the id.

@@ -6,8 +6,8 @@ use descriptor::Fields;
 use descriptor::GrantNumbers;
 use descriptor::GrantRead;
 use descriptor::Reading;
+use image::Creation;
 use image::Finding;
-use image::Made;
 use image::StoredNumbers;
 use narrowing::Narrowing;
 use narrowing::NarrowingNumbers;
@@ -20,10 +20,10 @@ use submission::Submission;
 ghost use mathlib.Core.Path.{_≡_};
 ghost use Rattle.cbor_item.specs.Item as items;
 ghost use Rattle.resource.specs.Text as texts;
-ghost use Rattle.descriptor.specs.Answer.{grantRead};
+ghost use Rattle.descriptor.specs.Code.{grantRead};
 ghost use Rattle.descriptor.specs.Numbers as descriptors;
 ghost use Rattle.image.specs.Check as images;
-ghost use Rattle.image.specs.Fresh as fresh;
+ghost use Rattle.image.specs.NewImage as creations;
 ghost use Rattle.submission.specs.Submission as submissions;
 ghost use Rattle.request.specs.Decision as requests;
 ghost use Rattle.narrowing.specs.Narrow as narrowings;
@@ -99,9 +99,9 @@ fn of_fields(f: Fields) -> DescriptorNumbers
         answer: 0,
         payload_at: payload.at as u64,
         payload_len: payload.len as u64,
-        issued_at: f.issued,
-        not_before: f.before,
-        not_after: f.after,
+        issued_at: f.issued_at,
+        not_before: f.not_before,
+        not_after: f.not_after,
         id_at: f.id as u64,
         issuer_at: issuer.at as u64,
         issuer_len: issuer.len as u64,
@@ -191,12 +191,12 @@ pub(crate) fn of_matching(answer: Matching) -> MatchingNumbers
 }
 
 // A new image's.
-pub(crate) fn of_made(answer: Made) -> u64
-    ensures { λ r. ⌜ r ≡ fresh.numberOf answer ⌝ }
+pub(crate) fn of_creation(answer: Creation) -> u64
+    ensures { λ r. ⌜ r ≡ creations.numberOf answer ⌝ }
 {
     match answer {
-        Made::Done => 0,
-        Made::TooShort => 17,
+        Creation::Done => 0,
+        Creation::TooShort => 17,
     }
 }
 
@@ -206,9 +206,9 @@ pub(crate) fn of_finding(finding: Finding) -> StoredNumbers
 {
     match finding {
         Finding::Found { at, len } => stored(0, at, len),
-        Finding::BadId => stored(15, 0, 0),
+        Finding::Malformed => stored(15, 0, 0),
         Finding::BadImage => stored(16, 0, 0),
-        Finding::NotHeld => stored(7, 0, 0),
+        Finding::NotFound => stored(7, 0, 0),
     }
 }
 

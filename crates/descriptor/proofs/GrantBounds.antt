@@ -8,6 +8,7 @@ use lib.Bits.{or-lt}
 use lib.Dec.{leb}
 use lib.ListN.{length, take, drop, length-take, length-drop}
 use lib.Seq.{take-take}
+use Rattle.resource.specs.Identifier.{levelsPlace, terminalSize}
 use Rattle.octets.specs.Bytes.{part, same}
 use Rattle.octets.proofs.SameLaws.{start-answer}
 use Rattle.exact.specs.Reads.{Got, got, refused, bind, many}
@@ -22,20 +23,20 @@ use Rattle.entries.specs.Kinds.{isKind}
 use Rattle.entries.specs.Value.{countAt, keyedAt}
 use Rattle.entries.proofs.ValueBounds.{CountTo, count-bounds, keyed-count-bounds, StringTo, keyed-kind-bounds, opt-pairs-on}
 use Rattle.descriptor.specs.Reader.{GrantSeen, grantAt, Sum, moreAt, GrantsSeen, grantsAt}
-use Rattle.descriptor.proofs.ModeSteps.{MaskTo, modes-bounds}
+use Rattle.descriptor.proofs.ModeCode.{MaskTo, modes-bounds}
 
 -- ---- one grant
 
 -- what is known of a grant's fields
 pub record GrantIn (s : List ℕ) (at : ℕ) (g : GrantSeen) (n : ℕ) : Type 0 where
   pub after : at ≤ n
-  pub long : 46 ≤ g .pattern .len
+  pub long : levelsPlace ≤ g .pattern .len
   pub fits : g .pattern .start + g .pattern .len ≤ length s
   pub few : g .pairs ≤ 8
   pub small : g .mask < 16
 
 -- a pattern has at least 46 bytes
-pattern-long : (c : List ℕ) → isKind Pattern c ≡ true → 46 ≤ length c
+pattern-long : (c : List ℕ) → isKind Pattern c ≡ true → levelsPlace ≤ length c
 unfolding isKind
 pattern-long c e = pattern-short c e .0
 
@@ -49,9 +50,17 @@ grant-bounds s at =
     (λ mask m j.
     holds-bind (λ v k. (m ≤ k) × (v .size ≤ 8)) (GrantIn s at) _ _ (opt-pairs-on s m kConstraints 8)
     (λ v k l.
-    holds-bind (StringTo s (k + length kResourcePattern) 46) (GrantIn s at) _ _ (keyed-kind-bounds Pattern 46 pattern-long s k kResourcePattern)
+    holds-bind (StringTo s (k + length kResourcePattern) levelsPlace) (GrantIn s at) _ _
+    (keyed-kind-bounds Pattern levelsPlace pattern-long s k kResourcePattern)
     (λ pattern p q. holds-guard (GrantIn s at) _ _
-    (λ t. record { after = omega (arith, i, j .1, l .0, q .0 .after, q .0 .ends); long = q .1; fits = omega (arith, q .0 .ends, q .0 .fits); few = l .1; small = j .0 })))))
+    (λ t. record {
+      after = omega (arith, i, j .1, l .0, q .0 .after, q .0 .ends);
+      long = q .1;
+      fits =
+          omega (arith, q .0 .ends, q .0 .fits);
+      few = l .1;
+      small = j .0;
+    })))))
 
 -- so it is for a grant that was read
 pub grant-room : {g : GrantSeen} {n : ℕ} (s : List ℕ) (at : ℕ) → got g n ≡ grantAt s at → GrantIn s at g n
@@ -59,7 +68,7 @@ grant-room s at e = held (GrantIn s at) (grant-bounds s at) e
 
 -- its pattern has at least 46 bytes, and ends within s
 pub pattern-room : {g : GrantSeen} {n : ℕ} (s : List ℕ) (at : ℕ) → got g n ≡ grantAt s at
-    → (46 ≤ g .pattern .len) × (g .pattern .start + g .pattern .len ≤ length s)
+    → (levelsPlace ≤ g .pattern .len) × (g .pattern .start + g .pattern .len ≤ length s)
 pattern-room s at e = let b = grant-room s at e in (b .long, b .fits)
 
 -- ---- all grants
@@ -86,7 +95,7 @@ more-room s first sum at e = held (MoreIn sum at) (more-bounds s first sum at) e
 -- what is known of grants: the first pattern lies within s, and the mask is small
 pub record GrantsIn (s : List ℕ) (at : ℕ) (g : GrantsSeen) (n : ℕ) : Type 0 where
   pub after : at ≤ n
-  pub first : g .first + 45 ≤ length s
+  pub first : g .first + terminalSize ≤ length s
   pub small : g .sum .mask < 16
 
 pub grants-bounds : (s : List ℕ) (at : ℕ) → Holds (GrantsIn s at) (grantsAt s at)
@@ -99,7 +108,8 @@ grants-bounds s at =
     let I : Sum → ℕ → Type 0 = λ sum k. (m ≤ k) × (sum .mask < 16) in
     let more = moreAt s (g .pattern .start) in
     holds-bind I (GrantsIn s at) _ _
-    (holds-many I more (λ sum k l. holds-map (MoreIn sum k) I (more sum k) (more-bounds s (g .pattern .start) sum k) (λ y p q. (omega (arith, q .after, l .0), q .small (l .1))))
+    (holds-many I more (λ sum k l. holds-map (MoreIn sum k) I (more sum k) (more-bounds s (g .pattern .start) sum k)
+    (λ y p q. (omega (arith, q .after, l .0), q .small (l .1))))
     (c - 1) _ m (omega arith, j .small))
     (λ sum k l. record { after = omega (arith, i .2, j .after, l .0); first = omega (arith, j .long, j .fits); small = l .1 })))
 
@@ -110,21 +120,23 @@ grants-room s at e = held (GrantsIn s at) (grants-bounds s at) e
 -- ---- terminal ids
 
 -- the bytes from a place on are enough
-tail-long : (s : List ℕ) (a : ℕ) → a + 45 ≤ length s → 45 ≤ length (take (length s - a) (drop a s))
+tail-long : (s : List ℕ) (a : ℕ) → a + terminalSize ≤ length s → terminalSize ≤ length (take (length s - a) (drop a s))
 tail-long s a h = let e : length (take (length s - a) (drop a s))
     ≡ length s - a = simp (length-take, length-drop) (omega arith) in omega (arith, e)
 
 -- the first of the bytes from a place on are a part
-tail-part : (s : List ℕ) (a : ℕ) → a + 45 ≤ length s → take 45 (take (length s - a) (drop a s)) ≡ part s a 45
+tail-part : (s : List ℕ) (a : ℕ) → a + terminalSize ≤ length s → take terminalSize (take (length s - a) (drop a s)) ≡ part s a terminalSize
 unfolding part
-tail-part s a h = take-take 45 (length s - a) (drop a s) (omega arith)
+tail-part s a h = take-take terminalSize (length s - a) (drop a s) (omega arith)
 
 -- comparing the first 45 bytes of two tails is comparing two parts
-pub equal-tails : {o : Bool} (s : List ℕ) (a b : ℕ) → a + 45 ≤ length s → b + 45 ≤ length s
-    → o ≡ (leb 45 (length (take (length s - a) (drop a s))) && (leb 45 (length (take (length s - b) (drop b s))) && same (take 45 (take (length s - a) (drop a s))) (take 45 (take (length s - b) (drop b s)))))
-    → o ≡ same (part s a 45) (part s b 45)
+pub equal-tails : {o : Bool} (s : List ℕ) (a b : ℕ) → a + terminalSize ≤ length s → b + terminalSize ≤ length s
+    → o ≡ (leb terminalSize (length (take (length s - a) (drop a s))) &&
+    (leb terminalSize (length (take (length s - b) (drop b s))) && same (take terminalSize (take (length s - a) (drop a s)))
+    (take terminalSize (take (length s - b) (drop b s)))))
+    → o ≡ same (part s a terminalSize) (part s b terminalSize)
 equal-tails s a b h k e =
-    start-answer (take (length s - a) (drop a s)) (take (length s - b) (drop b s)) 45 (tail-long s a h) (tail-long s b k) e
+    start-answer (take (length s - a) (drop a s)) (take (length s - b) (drop b s)) terminalSize (tail-long s a h) (tail-long s b k) e
     ∙ ap₂ same (tail-part s a h) (tail-part s b k)
 
 -- ---- the ways out of reading grants

@@ -1,4 +1,4 @@
-pub mod ModeSteps
+pub mod ModeCode
 pub mod GrantBounds
 pub mod PayloadBounds
-pub mod ReadSteps
+pub mod ReadCode

@@ -1,6 +1,6 @@
 -- What the readers of a payload's pieces and of a whole descriptor answer lies in the bytes, and a payload's period is not empty. Assumes
 -- nothing.
-use mathlib.Core.Path.{_≡_, refl, ap₂}
+use mathlib.Core.Path.{_≡_, refl}
 use mathlib.Core.Bool.{Bool, true, _&&_}
 use mathlib.Core.List.{List}
 use Prim.Native.Nat.{ℕ, _+_, _≤_, _<_}
@@ -9,6 +9,7 @@ use lib.ListN.{length}
 use lib.Dec.{T, ltb, leb, eqb, ltb→lt}
 use mir.Facts.{and-yes}
 use borrow.Author.Tests.{leb-true}
+use Rattle.resource.specs.Identifier.{faySize, terminalSize}
 use Rattle.octets.specs.Bytes.{part, same}
 use Rattle.octets.proofs.Tests.{and-left}
 use Rattle.exact.specs.Reads.{got}
@@ -23,7 +24,7 @@ use Rattle.entries.proofs.ValueBounds.{CountTo, count-bounds, keyed-count-bound
 use Rattle.descriptor.specs.declared.payload.PayloadFields.{PayloadFields}
 use Rattle.descriptor.specs.Reader.{issueAt, grantorAt, Ids, idsAt, PayloadSeen, payloadFits, payloadAt, Seen, beforePayload}
 use Rattle.descriptor.specs.Reader.{descriptorAt}
-use Rattle.descriptor.specs.Answer.{payloadOf}
+use Rattle.descriptor.specs.Code.{payloadOf}
 use Rattle.descriptor.proofs.GrantBounds.{GrantsIn, grants-bounds}
 
 -- ---- the pieces
@@ -43,7 +44,8 @@ issue-on s at =
     (λ v n i.
     holds-bind (λ t m. n ≤ m) (λ i n. at ≤ n) _ _ (time-on s n kIssuedAt)
     (λ t m j.
-    holds-bind (StringTo s (m + length kIssuerId) 0) (λ i n. at ≤ n) _ _ (keyed-kind-bounds (Text 1 128) 0 (λ c e. omega arith) s m kIssuerId)
+    holds-bind (StringTo s (m + length kIssuerId) 0) (λ i n. at ≤ n) _ _
+    (keyed-kind-bounds (Text 1 128) 0 (λ c e. omega arith) s m kIssuerId)
     (λ c k l.
     holds-bind (λ t p. k ≤ p) (λ i n. at ≤ n) _ _ (time-on s k kNotAfter)
     (λ u p q. omega (arith, i .0, j, l .0 .after, l .0 .ends, q)))))
@@ -58,12 +60,12 @@ grantor-on s at =
 -- what is known of the ids: they lie within s
 pub record IdsIn (s : List ℕ) (at : ℕ) (ids : Ids) (n : ℕ) : Type 0 where
   pub after : at ≤ n
-  pub terminal : ids .terminal + 45 ≤ length s
+  pub terminal : ids .terminal + terminalSize ≤ length s
   pub id : ids .id + 16 ≤ length s
-  pub fay : ids .fay + 40 ≤ length s
+  pub fay : ids .fay + faySize ≤ length s
 
 -- the lengths of the three
-terminal-long : (c : List ℕ) → isKind Terminal c ≡ true → 45 ≤ length c
+terminal-long : (c : List ℕ) → isKind Terminal c ≡ true → terminalSize ≤ length c
 unfolding isKind
 terminal-long c e = omega (arith, terminal-length c e)
 
@@ -71,7 +73,7 @@ id-long : (c : List ℕ) → isKind (Bytes 16 16) c ≡ true → 16 ≤ length c
 unfolding isKind
 id-long c e = leb-true 16 (length c) (and-left (leb 16 (length c)) (leb (length c) 16) e)
 
-fay-long : (c : List ℕ) → isKind Fay c ≡ true → 40 ≤ length c
+fay-long : (c : List ℕ) → isKind Fay c ≡ true → faySize ≤ length c
 unfolding isKind
 fay-long c e = omega (arith, fay-length c e)
 
@@ -79,11 +81,12 @@ fay-long c e = omega (arith, fay-length c e)
 ids-bounds : (s : List ℕ) (at : ℕ) → Holds (IdsIn s at) (idsAt s at)
 unfolding idsAt
 ids-bounds s at =
-    holds-bind (StringTo s (at + length kTerminalId) 45) (IdsIn s at) _ _ (keyed-kind-bounds Terminal 45 terminal-long s at kTerminalId)
+    holds-bind (StringTo s (at + length kTerminalId) terminalSize) (IdsIn s at) _ _
+    (keyed-kind-bounds Terminal terminalSize terminal-long s at kTerminalId)
     (λ c n i.
     holds-bind (StringTo s (n + length kDescriptorId) 16) (IdsIn s at) _ _ (keyed-kind-bounds (Bytes 16 16) 16 id-long s n kDescriptorId)
     (λ d m j.
-    holds-bind (StringTo s (m + length kSubjectFayId) 40) (IdsIn s at) _ _ (keyed-kind-bounds Fay 40 fay-long s m kSubjectFayId)
+    holds-bind (StringTo s (m + length kSubjectFayId) faySize) (IdsIn s at) _ _ (keyed-kind-bounds Fay faySize fay-long s m kSubjectFayId)
     (λ f k l. record {
       after = omega (arith, i .0 .after, i .0 .ends, j .0 .after, j .0 .ends, l .0 .after, l .0 .ends);
       terminal = omega (arith, i .0 .ends, i .0 .fits, i .1);
@@ -102,7 +105,7 @@ fits-lasts : (s : List ℕ) (p : PayloadSeen) → T (payloadFits s p) → p .not
 unfolding payloadFits
 fits-lasts s p t =
     let a = eqb (p .keys) (8 + (flag (p .metadata .there) + flag (p .grantor .there))) in
-    let b = same (part s (p .grants .first) 45) (part s (p .terminal) 45) in
+    let b = same (part s (p .grants .first) terminalSize) (part s (p .terminal) terminalSize) in
     let c = leb (p .issuedAt) (p .notBefore) in
     let d = ltb (p .notBefore) (p .notAfter) in
     ltb→lt (p .notBefore) (p .notAfter) (and-yes c d (and-yes b (c && d) (and-yes a (b && (c && d)) t .1) .1) .1)
@@ -111,9 +114,9 @@ fits-lasts s p t =
 pub record PayloadIn (s : List ℕ) (p : PayloadSeen) : Type 0 where
   pub lasts : p .notBefore < p .notAfter
   pub small : p .grants .sum .mask < 16
-  pub terminal : p .terminal + 45 ≤ length s
+  pub terminal : p .terminal + terminalSize ≤ length s
   pub id : p .id + 16 ≤ length s
-  pub fay : p .fay + 40 ≤ length s
+  pub fay : p .fay + faySize ≤ length s
 
 -- so it is for each that is answered, and it ends not before its place
 payload-bounds : (s : List ℕ) (at : ℕ) → Holds (λ p n. (at ≤ n) × PayloadIn s p) (payloadAt s at)
@@ -150,8 +153,9 @@ descriptor-bounds s at =
 
 -- the code's test of a payload is the reader's
 pub fits-test : (s : List ℕ) (p : PayloadFields) (k l : ℕ) (o : Bool) → k ≡ flag (p .issue .metadata .there)
-    → l ≡ flag (p .grantor .grantor .there) → o ≡ same (part s (p .grants .first) 45) (part s (p .ids .terminal) 45)
-    → (eqb (p .keys) (8 + (k + l)) && (o && (leb (p .issue .issued) (p .grantor .before) && ltb (p .grantor .before) (p .issue .after))))
+    → l ≡ flag (p .grantor .grantor .there) → o ≡ same (part s (p .grants .first) terminalSize) (part s (p .ids .terminal) terminalSize)
+    → (eqb (p .keys) (8 + (k + l)) &&
+    (o && (leb (p .issue .«issued_at») (p .grantor .«not_before») && ltb (p .grantor .«not_before») (p .issue .«not_after»))))
     ≡ payloadFits s (payloadOf p)
 unfolding payloadFits
 fits-test s p k l o e f g = rw (e, f, g) refl

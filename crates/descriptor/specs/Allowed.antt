@@ -7,7 +7,7 @@ use Prim.Native.Nat.{ℕ, _-_, _≤_, _<_}
 use lib.ListN.{length, take}
 use lib.Dec.{eqb}
 use Rattle.exact.specs.Reads.{OptOk, AllFrom}
-use Rattle.resource.specs.Identifier.{isFay, isTerminal}
+use Rattle.resource.specs.Identifier.{isFay, isTerminal, terminalSize}
 use Rattle.resource.specs.Text.{patternOk}
 use Rattle.entries.specs.Allowed.{TextOk, TimeOk, PairsOk, SignatureOk}
 use Rattle.descriptor.specs.Model.{Grant, Payload, Descriptor, encode}
@@ -45,10 +45,6 @@ All Ok (x ∷ xs) = Ok x × All Ok xs
 -- the bytes of a descriptor's id
 abbrev pub idSize : ℕ
 idSize = 16
-
--- the bytes of a terminal id, with which every pattern begins
-abbrev pub terminalSize : ℕ
-terminalSize = 45
 
 -- a payload but for its longest period
 pub record PayloadOk (p : Payload) : Type 0 where

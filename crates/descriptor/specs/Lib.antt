@@ -3,5 +3,5 @@ pub mod Allowed
 pub mod Modes
 pub mod Reader
 pub mod View
-pub mod Answer
+pub mod Code
 pub mod Numbers

@@ -5,6 +5,13 @@ use Prim.Native.Nat.{ℕ, _+_}
 use Rattle.descriptor.specs.Model.{Grant}
 use Rattle.descriptor.specs.Allowed.{isIn}
 
+-- how many modes there are, and the highest of their numbers
+abbrev pub modeCount : ℕ
+modeCount = 4
+
+abbrev pub highestMode : ℕ
+highestMode = 3
+
 -- some grant has the mode
 abbrev pub anyHas : ℕ → List Grant → Bool
 anyHas m [] = false

@@ -20,9 +20,9 @@ answerNumbers n f =
       answer = n;
       «payload_at» = f .payload .at;
       «payload_len» = f .payload .len;
-      «issued_at» = f .issued;
-      «not_before» = f .before;
-      «not_after» = f .after;
+      «issued_at» = f .«issued_at»;
+      «not_before» = f .«not_before»;
+      «not_after» = f .«not_after»;
       «id_at» = f .id;
       «issuer_at» = f .issuer .at;
       «issuer_len» = f .issuer .len;
@@ -51,9 +51,9 @@ abbrev pub zeroFields : Fields
 zeroFields =
     record {
       payload = noPart;
-      issued = 0;
-      before = 0;
-      after = 0;
+      «issued_at» = 0;
+      «not_before» = 0;
+      «not_after» = 0;
       id = 0;
       issuer = noPart;
       grantor = noPart;

@@ -6,9 +6,10 @@ use Prim.Native.Nat.{ℕ, _+_, _-_, _^_, _/_, _%_}
 use lib.ListN.{length}
 use lib.Dec.{leb, ltb, eqb}
 use lib.Bits.{bitOr}
-use Rattle.octets.specs.Bytes.{part, same, hasAt}
+use Rattle.octets.specs.Bytes.{part, same}
 use Rattle.octets.specs.Span.{Span, spanOf}
 use Rattle.exact.specs.Reads.{Got, got, refused, bind, guard, many}
+use Rattle.resource.specs.Identifier.{terminalSize}
 use Rattle.entries.specs.declared.value.Kind.the-variants.{Text, Bytes, Terminal, Fay, Pattern}
 use Rattle.entries.specs.declared.value.Optional.{Optional}
 use Rattle.entries.specs.Keys.{kPayload, kVersion, kSignature, kGrants, kMetadata, kIssuedAt, kIssuerId, kNotAfter, kGrantorId, kNotBefore}
@@ -16,7 +17,7 @@ use Rattle.entries.specs.Keys.{kTerminalId, kDescriptorId, kSubjectFayId, kKeyI
 use Rattle.entries.specs.Value.{countAt, timeAt, kindAt, oneOf, keyedAt, flag, optKindAt}
 use Rattle.entries.specs.Reader.{optPairsAt, SignatureSeen, signatureAt}
 use Rattle.descriptor.specs.Model.{modeNames}
-use Rattle.descriptor.specs.Allowed.{idSize, terminalSize, longest, longestPeriod}
+use Rattle.descriptor.specs.Allowed.{idSize, longest, longestPeriod}
 
 -- ---- modes
 

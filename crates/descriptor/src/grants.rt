@@ -19,9 +19,9 @@ ghost use lib.ListN.{length};
 ghost use lib.Dec.{eqb};
 ghost use Rattle.exact.specs.Reads.{got, guard};
 ghost use Rattle.entries.specs.Value.{flag};
-ghost use Rattle.descriptor.specs.Allowed.{terminalSize};
+ghost use Rattle.resource.specs.Identifier.{terminalSize};
 ghost use Rattle.descriptor.specs.Reader.{grantAt, moreAt, grantsAt};
-ghost use Rattle.descriptor.specs.Answer.{grantOf, grantRead, sumOf, sumRead, grantsRead};
+ghost use Rattle.descriptor.specs.Code.{grantOf, grantRead, sumOf, sumRead, grantsRead};
 
 // The union of masks and the number of constraint pairs.
 pub(crate) struct Sum {

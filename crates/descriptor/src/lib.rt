@@ -4,13 +4,13 @@ mod grants;
 mod ids;
 mod modes;
 mod payload;
-mod sizes;
+pub mod sizes;
 mod whole;
 
 ghost use mathlib.Core.Path.{_≡_};
 ghost use Rattle.octets.specs.Bytes.{PartOf};
 ghost use Rattle.descriptor.specs.Reader.{readOf, grantAt};
-ghost use Rattle.descriptor.specs.Answer.{readingOf, grantRead};
+ghost use Rattle.descriptor.specs.Code.{readingOf, grantRead};
 ghost use Rattle.descriptor.specs.Numbers.{payloadSpan};
 
 // A part of the bytes: its place and its length; both 0 for what is absent.
@@ -24,9 +24,9 @@ pub struct Part {
 // its pairs; `constraints` counts the constraint pairs of all grants, `mask` is the union of their modes' masks.
 pub struct Fields {
     pub payload: Part,
-    pub issued: u64,
-    pub before: u64,
-    pub after: u64,
+    pub issued_at: u64,
+    pub not_before: u64,
+    pub not_after: u64,
     pub id: usize,
     pub issuer: Part,
     pub grantor: Part,

@@ -1,4 +1,5 @@
 // Modes, by the names of their numbers.
+use crate::sizes::MODE_COUNT;
 use entries::keys;
 use entries::value::CountRead;
 use entries::value::keyed_count;
@@ -6,8 +7,8 @@ use octets::has_at;
 ghost use mathlib.Core.Path.{_≡_};
 ghost use Prim.Native.Nat.{_<_, _^_};
 ghost use Rattle.descriptor.specs.Reader.{modeAt, modesAt};
-ghost use Rattle.descriptor.specs.Answer.{withMode};
-ghost use Rattle.entries.specs.Answer.{countRead};
+ghost use Rattle.descriptor.specs.Code.{withMode};
+ghost use Rattle.entries.specs.Code.{countRead};
 
 // The mask with one bit more, which it does not have yet.
 fn with_mode(mask: u64, bit: u64, next: usize) -> CountRead
@@ -47,7 +48,8 @@ fn mode_at(s: &[u8], mask: u64, at: usize) -> CountRead
 pub(crate) fn modes_at(s: &[u8], at: usize) -> CountRead
     ensures { λ r. ⌜ countRead r ≡ modesAt (now (s .entry)) at ⌝ }
 {
-    let CountRead::IsCount { value, next } = keyed_count(s, at, &keys::MODES, 4, 1, 4) else {
+    let CountRead::IsCount { value, next } = keyed_count(s, at, &keys::MODES, 4, 1, MODE_COUNT)
+    else {
         return CountRead::NoCount;
     };
     let mut left = value;

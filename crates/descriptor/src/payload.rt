@@ -22,22 +22,22 @@ ghost use mathlib.Core.Path.{_≡_};
 ghost use Prim.Native.Nat.{_+_, _≤_};
 ghost use lib.ListN.{length};
 ghost use Rattle.exact.specs.Reads.{got, guard};
-ghost use Rattle.descriptor.specs.Allowed.{terminalSize};
+ghost use Rattle.resource.specs.Identifier.{terminalSize};
 ghost use Rattle.descriptor.specs.Reader.{issueAt, grantorAt, idsAt, payloadFits, payloadAt};
-ghost use Rattle.descriptor.specs.Answer.{issueRead, grantorRead, idsRead, payloadOf, payloadRead};
+ghost use Rattle.descriptor.specs.Code.{issueRead, grantorRead, idsRead, payloadOf, payloadRead};
 
 // metadata, issued_at, issuer_id and not_after.
 pub(crate) struct IssueFields {
     pub(crate) metadata: Optional,
-    pub(crate) issued: u64,
+    pub(crate) issued_at: u64,
     pub(crate) issuer: Part,
-    pub(crate) after: u64,
+    pub(crate) not_after: u64,
 }
 
 // grantor_id and not_before.
 pub(crate) struct GrantorFields {
     pub(crate) grantor: Optional,
-    pub(crate) before: u64,
+    pub(crate) not_before: u64,
 }
 
 // The places of terminal_id, descriptor_id and subject_fay_id.
@@ -111,9 +111,9 @@ fn issue_at(s: &[u8], at: usize) -> IssueRead
     };
     let issue = IssueFields {
         metadata: value,
-        issued,
+        issued_at: issued,
         issuer: Part { at: start, len },
-        after,
+        not_after: after,
     };
     IssueRead::IsIssue { issue, next }
 }
@@ -139,7 +139,7 @@ fn grantor_at(s: &[u8], at: usize) -> GrantorRead
     };
     let grantor = GrantorFields {
         grantor: value,
-        before,
+        not_before: before,
     };
     GrantorRead::IsGrantor { grantor, next }
 }
@@ -190,7 +190,7 @@ fn if_fits(s: &[u8], payload: PayloadFields, next: usize) -> PayloadRead
     let ids = payload.ids;
     let keys = 8 + (keys_of(metadata.there) + keys_of(named.there));
     let own = equal_terminals(s, grants.first, ids.terminal);
-    let lasts = (issue.issued <= grantor.before) & (grantor.before < issue.after);
+    let lasts = (issue.issued_at <= grantor.not_before) & (grantor.not_before < issue.not_after);
     if (payload.keys == keys) & (own & lasts) {
         return PayloadRead::IsPayload { payload, next };
     }

@@ -1,7 +1,9 @@
-// The lengths of identifiers, each named once.
+// Sizes and limits that the crates above use too, each named once.
 
-// Of a descriptor's id.
-pub(crate) const ID_SIZE: usize = 16;
+// The bytes of a descriptor's id.
+pub const ID_SIZE: usize = 16;
 
-// Of a terminal id, with which every pattern begins.
-pub(crate) const TERMINAL_SIZE: usize = 45;
+// How many modes there are, and the highest of their numbers.
+pub const MODE_COUNT: u64 = 4;
+
+pub const HIGHEST_MODE: u64 = 3;

@@ -12,7 +12,7 @@ use entries::signature::signature_at;
 use octets::has_at;
 ghost use mathlib.Core.Path.{_≡_};
 ghost use Rattle.descriptor.specs.Reader.{readOf};
-ghost use Rattle.descriptor.specs.Answer.{seenOf, fieldsOf, readingOf};
+ghost use Rattle.descriptor.specs.Code.{seenOf, fieldsOf, readingOf};
 
 // The fields of a payload of n bytes at 9 and a signature.
 fn fields_of(p: PayloadFields, n: usize, g: SignatureFields) -> Fields
@@ -28,9 +28,9 @@ fn fields_of(p: PayloadFields, n: usize, g: SignatureFields) -> Fields
     let ids = p.ids;
     Fields {
         payload: Part { at: 9, len: n },
-        issued: issue.issued,
-        before: grantor.before,
-        after: issue.after,
+        issued_at: issue.issued_at,
+        not_before: grantor.not_before,
+        not_after: issue.not_after,
         id: ids.id,
         issuer,
         grantor: Part {
@@ -85,7 +85,7 @@ pub(crate) fn descriptor(s: &[u8]) -> Reading
     }
     let issue = payload.issue;
     let grantor = payload.grantor;
-    if 7776000 < issue.after - grantor.before {
+    if 7776000 < issue.not_after - grantor.not_before {
         return Reading::Validity;
     }
     Reading::Read(fields_of(payload, next - 9, signature))

@@ -2,10 +2,10 @@
 -- `NameOfIt` is proved in proofs/Laws.antt as `name-of-it`.
 use mathlib.Core.Path.{_≡_}
 use mathlib.Core.Logic.{_↔_}
-use mathlib.Core.Bool.{true}
 use mathlib.Core.List.{List, [], _∷_}
 use Prim.Native.Nat.{ℕ, suc, _+_, _-_, _<_}
 use lib.ListN.{length, take, drop, getD}
+use Rattle.resource.specs.Identifier.{levelsPlace, terminalSize}
 use Rattle.octets.specs.Bytes.{AreBytes, part}
 use Rattle.exact.specs.Reads.{got}
 use Rattle.entries.specs.Model.{pairCount}
@@ -14,7 +14,7 @@ use Rattle.descriptor.specs.Allowed.{isIn, GrantOk, longestPeriod, period, Form
 use Rattle.descriptor.specs.Modes.{unionOf}
 use Rattle.descriptor.specs.Reader.{hasMode, GrantSeen, Seen, read, structure, validity, readOf, grantAt}
 use Rattle.descriptor.specs.View.{maskOf, grantView, descriptorView, grantPlace}
-use Rattle.descriptor.specs.Answer.{readingOf}
+use Rattle.descriptor.specs.Code.{readingOf}
 use Rattle.descriptor.specs.Numbers.{numbersOf, grantNumbers}
 use Rattle.descriptor_laws.specs.Promises.{handed, DescriptorHanded, noGrant}
 
@@ -74,11 +74,11 @@ GrantsEnd = (d : Descriptor) → AreBytes (encode d) → Formed d
 -- levels of that
 pub record SeenAs (s t : List ℕ) (g : Grant) (v : GrantSeen) : Type 0 where
   pub allowed : GrantOk g
-  pub own : take 45 (g .pattern) ≡ t
+  pub own : take terminalSize (g .pattern) ≡ t
   pub mask : v .mask ≡ maskOf (g .modes)
   pub pairs : v .pairs ≡ pairCount (g .constraints)
   pub pattern : part s (v .pattern .start) (v .pattern .len) ≡ g .pattern
-  pub below : part s (v .pattern .start + 46) (v .pattern .len - 46) ≡ drop 46 (g .pattern)
+  pub below : part s (v .pattern .start + levelsPlace) (v .pattern .len - levelsPlace) ≡ drop levelsPlace (g .pattern)
 
 -- the n grants that are read one after the other from a place of s on are gs, all of the terminal t
 pub data InTurn (s t : List ℕ) : ℕ → ℕ → List Grant → Type 0 where

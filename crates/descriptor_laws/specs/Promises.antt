@@ -29,7 +29,7 @@ use Rattle.octets.specs.Order.{before}
 use Rattle.descriptor.specs.Modes.{unionOf}
 use Rattle.descriptor.specs.Reader.{readOf, grantAt}
 use Rattle.descriptor.specs.View.{maskOf, grantPlace}
-use Rattle.descriptor.specs.Answer.{readingOf}
+use Rattle.descriptor.specs.Code.{readingOf}
 use Rattle.descriptor.specs.Numbers.{numbersOf, payloadSpan, grantNumbers}
 
 -- ---- the deterministic encoding

@@ -1,6 +1,6 @@
 pub mod ValueBounds
-pub mod ValueSteps
-pub mod PairSteps
+pub mod ValueCode
+pub mod PairCode
 pub mod ValueLaws
 pub mod PairLaws
 pub mod OptionalLaws

@@ -66,7 +66,8 @@ module _ {Y Q : Type 0} (s : List ℕ) (bs : AreBytes s) (at : ℕ) (key : List 
   pub opt-string-exact : {P₂ : Option (List ℕ) → Y → Type 0} {enc₂ : Option (List ℕ) → Y → List ℕ} {view₂ : Option (List ℕ) → Y → Q}
       (kind : Kind) → KindShort kind → (k : Optional → ℕ → Got Q)
       → ((x : Option (List ℕ)) → OptOk (KindOk kind) x → Has s at (encOpt key (encodeString (majorOf kind)) x) →
-      Reads s (at + length (encOpt key (encodeString (majorOf kind)) x)) (P₂ x) (enc₂ x) (view₂ x) (k (optKindView at key kind x) (at + length (encOpt key (encodeString (majorOf kind)) x))))
+      Reads s (at + length (encOpt key (encodeString (majorOf kind)) x)) (P₂ x) (enc₂ x) (view₂ x)
+      (k (optKindView at key kind x) (at + length (encOpt key (encodeString (majorOf kind)) x))))
       → ((y : Y) → P₂ none y → Has s at (enc₂ none y) → Has s at key → ⊥)
       → Reads s at (λ (v : Option (List ℕ) × Y). OptOk (KindOk kind) (v .0) × P₂ (v .0) (v .1))
       (λ (v : Option (List ℕ) × Y). encOpt key (encodeString (majorOf kind)) (v .0) ++ enc₂ (v .0) (v .1))
@@ -74,14 +75,16 @@ module _ {Y Q : Type 0} (s : List ℕ) (bs : AreBytes s) (at : ℕ) (key : List 
   unfolding optKindAt
   opt-string-exact kind l k f apart =
       optional-exact k key
-      (mapped (string-exact s bs _ kind l) (λ c. present (contentSpan (at + length key) (majorOf kind) c .start) (length c)) _ (λ c p h. refl))
+      (mapped (string-exact s bs _ kind l) (λ c. present (contentSpan (at + length key) (majorOf kind) c .start) (length c)) _
+      (λ c p h. refl))
       f apart
 
   -- and for a map of pairs
   pub opt-pairs-exact : {P₂ : Option (List Pair) → Y → Type 0} {enc₂ : Option (List Pair) → Y → List ℕ} {view₂ : Option (List Pair) → Y → Q}
       (most : ℕ) → most < 2 ^ 64 → (k : Optional → ℕ → Got Q)
       → ((x : Option (List Pair)) → OptOk (PairsOk most) x → Has s at (encOpt key encPairs x) →
-      Reads s (at + length (encOpt key encPairs x)) (P₂ x) (enc₂ x) (view₂ x) (k (optPairsView at key x) (at + length (encOpt key encPairs x))))
+      Reads s (at + length (encOpt key encPairs x)) (P₂ x) (enc₂ x) (view₂ x)
+      (k (optPairsView at key x) (at + length (encOpt key encPairs x))))
       → ((y : Y) → P₂ none y → Has s at (enc₂ none y) → Has s at key → ⊥)
       → Reads s at (λ (v : Option (List Pair) × Y). OptOk (PairsOk most) (v .0) × P₂ (v .0) (v .1))
       (λ (v : Option (List Pair) × Y). encOpt key encPairs (v .0) ++ enc₂ (v .0) (v .1))

@@ -1,5 +1,5 @@
 -- What the readers of single values and of pairs answer lies in the bytes and is small. Assumes nothing.
-use mathlib.Core.Path.{_≡_, refl}
+use mathlib.Core.Path.{_≡_}
 use mathlib.Core.Bool.{Bool, true, false, not, _&&_}
 use mathlib.Core.List.{List, [], _∷_}
 use Prim.Native.Nat.{ℕ, _+_, _≤_, _<_}
@@ -7,7 +7,7 @@ use native.Mathlib.Omega.{arith}
 use lib.ListN.{length}
 use lib.Dec.{T, leb, eqb, leb→le}
 use mir.Facts.{and-yes}
-use Rattle.octets.specs.Bytes.{part, hasAt}
+use Rattle.octets.specs.Bytes.{hasAt}
 use Rattle.octets.specs.Span.{Span, spanOf}
 use Rattle.octets.proofs.BytesLaws.{has-fits, hasAt-yes, part-has, T-of-not}
 use Rattle.octets.proofs.TruthLaws.{T-true}
@@ -20,7 +20,7 @@ use Rattle.entries.specs.declared.value.Kind.{Kind}
 use Rattle.entries.specs.declared.value.Kind.the-variants.{Text}
 use Rattle.entries.specs.declared.value.Optional.{Optional}
 use Rattle.entries.specs.Kinds.{majorOf, isKind}
-use Rattle.entries.specs.Value.{countAt, stringAt, kindAt, keyedAt, absent, present, orAbsent, optKindAt}
+use Rattle.entries.specs.Value.{countAt, stringAt, kindAt, keyedAt, absent, orAbsent, optKindAt}
 use Rattle.entries.specs.Reader.{pairAt, pairsAt, optPairsAt}
 
 -- ---- keys
@@ -125,7 +125,8 @@ pairs-bounds s most at =
     (λ c n i.
     holds-bind (λ last m. at ≤ m) (λ c n. (c ≤ most) × (at ≤ n)) _ _
     (holds-many (λ last m. at ≤ m) (pairAt s)
-    (λ last m j. holds-map (λ c n. (c .start + c .len ≤ length s) × (at ≤ n)) (λ c n. at ≤ n) (pairAt s last m) (pair-bounds s last at m j) (λ c n p. p .1))
+    (λ last m j. holds-map (λ c n. (c .start + c .len ≤ length s) × (at ≤ n)) (λ c n. at ≤ n) (pairAt s last m) (pair-bounds s last at m j)
+    (λ c n p. p .1))
     c (spanOf 0 0) n (i .2))
     (λ last m j. (i .1, j)))
 
@@ -142,7 +143,8 @@ pub opt-kind-on : (s : List ℕ) (at : ℕ) (k : List ℕ) (kind : Kind) → Hol
 unfolding optKindAt
 opt-kind-on s at k kind =
     holds-or (λ v n. at ≤ n) _ _ at (omega arith)
-    (holds-bind (SpanTo s (at + length k)) (λ v n. at ≤ n) _ _ (string-bounds kind s (at + length k)) (λ c n i. omega (arith, i .after, i .ends)))
+    (holds-bind (SpanTo s (at + length k)) (λ v n. at ≤ n) _ _ (string-bounds kind s (at + length k))
+    (λ c n i. omega (arith, i .after, i .ends)))
 
 -- nor does an optional map of pairs, and its pairs are at most as many as allowed
 pub opt-pairs-on : (s : List ℕ) (at : ℕ) (k : List ℕ) (most : ℕ) → Holds (λ v n. (at ≤ n) × (v .size ≤ most)) (optPairsAt s at k most)

@@ -109,7 +109,8 @@ module _ (s : List ℕ) (at i : ℕ) (k : List ℕ) (ks : List (List ℕ)) (far 
 
   -- testing the first entry and then the others is exact
   one-step : (b : Bool) → (T b → Has s at k) → (Has s at k → T b)
-      → Reads s at (λ (m : ℕ). m < length (k ∷ ks)) (λ (m : ℕ). getD (k ∷ ks) m []) (λ (m : ℕ). i + m) (cond b (got i (at + length k)) (oneOf s at (suc i) ks))
+      → Reads s at (λ (m : ℕ). m < length (k ∷ ks)) (λ (m : ℕ). getD (k ∷ ks) m []) (λ (m : ℕ). i + m)
+      (cond b (got i (at + length k)) (oneOf s at (suc i) ks))
   one-step true yes′ no′ =
       found {r = i} {n = at + length k} (record {
         val = 0;
@@ -143,7 +144,11 @@ module _ (s : List ℕ) (bs : AreBytes s) (at : ℕ) where
       recast
       (refine (heads-exact s bs at) (λ h. (h .major ≡ major) × ((lo ≤ h .number) × (h .number ≤ hi))) (λ h. h .number)
       (λ h n. eqb (h .major) major && within lo hi (h .number)) (λ h n. h .number)
-      (λ h p e. (and-test (eqb (h .major) major) (within lo hi (h .number)) (eqb-test (h .major) major) (within-test lo hi (h .number)), refl)))
+      (λ h p e. (
+        and-test (eqb (h .major) major) (within lo hi (h .number)) (eqb-test (h .major) major)
+            (within-test lo hi (h .number)),
+        refl,
+      )))
       (λ n. (lo ≤ n) × (n ≤ hi)) (head major) (λ n. n) (λ h. h .number)
       (λ h p e. (p .1 .1, ap (λ (m : ℕ). head m (h .number)) (sym (p .1 .0)), refl))
       (λ n p e. (headOf major n, (record { major = k; number = omega arith }, (refl, p)), refl, refl))

@@ -5,4 +5,4 @@ pub mod Allowed
 pub mod Value
 pub mod Reader
 pub mod View
-pub mod Answer
+pub mod Code

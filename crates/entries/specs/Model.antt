@@ -1,6 +1,6 @@
 -- The values that the maps of source 002 have in common, section 2.3: strings, maps of pairs and signatures, and their deterministic
 -- encoding. Nothing of places or of reading.
-use mathlib.Core.List.{List, [], _∷_, _++_}
+use mathlib.Core.List.{List, [], _++_}
 use mathlib.Core.Option.{Option, none, some}
 use Prim.Native.Nat.{ℕ}
 use lib.ListN.{length, getD}

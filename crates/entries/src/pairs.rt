@@ -14,7 +14,7 @@ ghost use Prim.Native.Nat.{_+_, _≤_};
 ghost use lib.ListN.{length};
 ghost use Rattle.octets.specs.Span.{spanOf};
 ghost use Rattle.entries.specs.Reader.{pairAt, pairsAt, optPairsAt};
-ghost use Rattle.entries.specs.Answer.{pairRead, countRead, optionalRead};
+ghost use Rattle.entries.specs.Code.{pairRead, countRead, optionalRead};
 
 // A pair: the length of its key's encoding, and the place after it.
 pub(crate) enum PairRead {

@@ -11,7 +11,7 @@ ghost use Rattle.entries.specs.Keys.{kAlgorithm};
 ghost use Rattle.entries.specs.Value.{keyedAt};
 ghost use Rattle.entries.specs.Reader.{valueFits, algorithmAt, signatureAt};
 ghost use Rattle.exact.specs.Reads.{got, guard};
-ghost use Rattle.entries.specs.Answer.{countRead, signatureOf, signatureRead};
+ghost use Rattle.entries.specs.Code.{countRead, signatureOf, signatureRead};
 
 // key_id, the algorithm's number and the signature's bytes.
 pub struct SignatureFields {

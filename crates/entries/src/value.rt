@@ -10,7 +10,7 @@ ghost use Rattle.cbor_item.specs.Utf8.{isUtf8};
 ghost use Rattle.cbor_item.specs.Head.{spanRead};
 ghost use Rattle.entries.specs.Kinds.{within, majorOf, isKind};
 ghost use Rattle.entries.specs.Value.{countAt, kindAt, keyedAt, flag, optKindAt};
-ghost use Rattle.entries.specs.Answer.{countRead, optionalRead};
+ghost use Rattle.entries.specs.Code.{countRead, optionalRead};
 
 // The last moment: a time is any unsigned integer.
 pub const LAST_TIME: u64 = 18446744073709551615;

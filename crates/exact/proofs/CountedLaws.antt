@@ -1,12 +1,12 @@
 -- A counted list of elements, read one after the other with a state (specs/Reads.antt). Assumes nothing.
-use mathlib.Core.Path.{_≡_, refl, sym, ap, _∙_, subst}
+use mathlib.Core.Path.{_≡_, refl, sym, ap, _∙_}
 use mathlib.Core.List.{List, [], _∷_, _++_}
 use Prim.Native.Nat.{ℕ, zero, suc, _+_, _-_, _≤_, _<_}
 use native.Mathlib.Nat.{add-zero}
 use native.Mathlib.Omega.{arith}
 use lib.ListN.{length, take, getD, length-append}
 use Rattle.octets.specs.Bytes.{Has}
-use Rattle.exact.specs.Reads.{Got, got, refused, Reads, found, lacks, bind, many, encAll, AllFrom, viewAll}
+use Rattle.exact.specs.Reads.{Got, got, refused, Reads, found, many, encAll, AllFrom, viewAll}
 use Rattle.octets.proofs.BytesLaws.{has-nil, has-left, has-right}
 use Rattle.exact.proofs.ReadsLaws.{bind-got, bind-refused, recast, seq}
 
@@ -67,7 +67,9 @@ module _ {X A G : Type 0} (s : List ℕ) (enc : X → List ℕ) (ok : G → X �
       (λ x p h. counted n (view a x at) (stepG g x) (at + length (enc x)) (keep a g at x i p h)))
       (λ xs. (length xs ≡ suc n) × AllFrom ok stepG g xs) (encAll enc) (viewAll enc view a at) (λ v. v .0 ∷ v .1)
       (λ v p h. ((ap suc (p .1 .0), (p .0, p .1 .1)), refl, refl))
-      (λ w. elim w as (λ z. (length z ≡ suc n) × AllFrom ok stepG g z → Has s at (encAll enc z) → (v : X × List X) × (ok g (v .0) × ((length (v .1) ≡ n) × AllFrom ok stepG (stepG g (v .0)) (v .1))) × (enc (v .0) ++ encAll enc (v .1) ≡ encAll enc z) × (v .0 ∷ v .1 ≡ z)) [
+      (λ w. elim w as (λ z. (length z ≡ suc n) × AllFrom ok stepG g z → Has s at (encAll enc z) → (v : X × List X)
+      × (ok g (v .0) × ((length (v .1) ≡ n) × AllFrom ok stepG (stepG g (v .0)) (v .1)))
+      × (enc (v .0) ++ encAll enc (v .1) ≡ encAll enc z) × (v .0 ∷ v .1 ≡ z)) [
         | [] ↦ λ p h. absurd (omega (arith, p .0))
         | x ∷ xs ↦ λ p h. ((x, xs), (p .1 .0, (omega arith, p .1 .1)), refl, refl)
       ])
@@ -78,5 +80,6 @@ pub all-at : {X : Type 0} (s : List ℕ) (enc : X → List ℕ) (at : ℕ) (xs :
 all-at s enc at [] i d h k = absurd (omega arith)
 all-at s enc at (x ∷ xs) zero d h k = rw add-zero (has-left s at (enc x) (encAll enc xs) k)
 all-at s enc at (x ∷ xs) (suc i) d h k =
-    let e : at + length (enc x) + length (encAll enc (take i xs)) ≡ at + length (enc x ++ encAll enc (take i xs)) = omega (arith, length-append (enc x) (encAll enc (take i xs))) in
+    let e : at + length (enc x) + length (encAll enc (take i xs)) ≡ at + length (enc x ++ encAll enc (take i xs)) =
+    omega (arith, length-append (enc x) (encAll enc (take i xs))) in
     rw e at (all-at s enc (at + length (enc x)) xs i d (omega arith) (has-right s at (enc x) (encAll enc xs) k))

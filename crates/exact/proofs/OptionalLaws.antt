@@ -1,7 +1,7 @@
 -- An optional key with its value, and what follows it (specs/Reads.antt). Assumes nothing.
-use mathlib.Core.Path.{_≡_, refl, sym, ap, _∙_, subst}
+use mathlib.Core.Path.{_≡_, refl, sym, ap, subst}
 use mathlib.Core.Bool.{Bool, true, false, not}
-use mathlib.Core.List.{List, [], _∷_, _++_, append-assoc}
+use mathlib.Core.List.{List, _++_, append-assoc}
 use mathlib.Core.Option.{Option, none, some}
 use Prim.Native.Nat.{ℕ, _+_}
 use native.Mathlib.Nat.{add-zero}
@@ -58,18 +58,22 @@ optional {X} {Y} {R} {Q} {s} {at} {P} {enc} {view} {o} {P₂} {enc₂} {view₂}
 
     from-absent : ((h : Has s at b) → ⊥) → (v : Option X × Y) → P′ v → Has s at (enc′ v)
         → (y : Y) × P₂ none y × (enc₂ none y ≡ enc′ v) × (_≡_ {A = Option X × Y} (none, y) v)
-    from-absent no-key v = elim (v .0) as (λ x. P′ (x, v .1) → Has s at (enc′ (x, v .1)) → (y : Y) × P₂ none y × (enc₂ none y ≡ enc′ (x, v .1)) × (_≡_ {A = Option X × Y} (none, y) (x, v .1))) [
-      | none ↦ λ p h. (v .1, p .1, refl, refl)
-      | some x ↦ λ p h. absurd (no-key (has-left s at b (enc x) (has-left s at (b ++ enc x) (enc₂ (some x) (v .1)) h)))
-    ]
+    from-absent no-key v =
+        elim (v .0) as (λ x. P′ (x, v .1) → Has s at (enc′ (x, v .1)) → (y : Y) × P₂ none y × (enc₂ none y ≡ enc′ (x, v .1))
+        × (_≡_ {A = Option X × Y} (none, y) (x, v .1))) [
+          | none ↦ λ p h. (v .1, p .1, refl, refl)
+          | some x ↦ λ p h. absurd (no-key (has-left s at b (enc x) (has-left s at (b ++ enc x) (enc₂ (some x) (v .1)) h)))
+        ]
 
     from-present : Has s at b → (v : Option X × Y) → P′ v → Has s at (enc′ v)
         → (z : X × Y) × (P (z .0) × P₂ (some (z .0)) (z .1)) × (b ++ (enc (z .0) ++ enc₂ (some (z .0)) (z .1)) ≡ enc′ v)
         × (_≡_ {A = Option X × Y} (some (z .0), z .1) v)
-    from-present key v = elim (v .0) as (λ x. P′ (x, v .1) → Has s at (enc′ (x, v .1)) → (z : X × Y) × (P (z .0) × P₂ (some (z .0)) (z .1)) × (b ++ (enc (z .0) ++ enc₂ (some (z .0)) (z .1)) ≡ enc′ (x, v .1)) × (_≡_ {A = Option X × Y} (some (z .0), z .1) (x, v .1))) [
-      | none ↦ λ p h. absurd (apart (v .1) (p .1) h key)
-      | some x ↦ λ p h. ((x, v .1), p, sym (append-assoc b (enc x) (enc₂ (some x) (v .1))), refl)
-    ]
+    from-present key v =
+        elim (v .0) as (λ x. P′ (x, v .1) → Has s at (enc′ (x, v .1)) → (z : X × Y) × (P (z .0) × P₂ (some (z .0)) (z .1))
+        × (b ++ (enc (z .0) ++ enc₂ (some (z .0)) (z .1)) ≡ enc′ (x, v .1)) × (_≡_ {A = Option X × Y} (some (z .0), z .1) (x, v .1))) [
+          | none ↦ λ p h. absurd (apart (v .1) (p .1) h key)
+          | some x ↦ λ p h. ((x, v .1), p, sym (append-assoc b (enc x) (enc₂ (some x) (v .1))), refl)
+        ]
 
     go : (c : Bool) → (T c → Has s at b) → (Has s at b → T c) → Reads s at P′ enc′ view′ (bind (optAt c o at) k)
     go true yes′ no′ =

@@ -10,13 +10,13 @@ use Rattle.exact.specs.Reads.{Got}
 use Rattle.descriptor.specs.Model.{Descriptor, encode}
 use Rattle.descriptor.specs.Allowed.{Formed, Allowed}
 use Rattle.descriptor.specs.Reader.{GrantSeen, Answer, grantAt}
-use Rattle.descriptor.specs.Answer.{readingOf}
+use Rattle.descriptor.specs.Code.{readingOf}
 use Rattle.descriptor.specs.View.{descriptorView, grantPlace}
 use Rattle.descriptor.specs.Numbers.{numbersOf, grantNumbers}
 use Rattle.descriptor_laws.specs.Promises.{GrantHandedBack}
 use Rattle.descriptor_laws.proofs.Laws.{reads-exactly, grants-walk, grants-end}
 use Rattle.descriptor_laws.proofs.Promises.{grant-handed}
-use Rattle.grant_reader.specs.Walk.{startOf, placeAfter, placeFrom}
+use Rattle.grant_reader.specs.Code.{startOf, placeAfter, placeFrom}
 use Rattle.grant_reader.specs.Promises.{ReaderPlaces, EachInTurn, NonePast, NoneUnread}
 use Rattle.grant_reader.proofs.WalkLaws.{start-read, start-unread, after-got, from-both, refused-stays, none-stays, nth-at}
 use Rattle.grant_reader.proofs.EndLaws.{end-none}

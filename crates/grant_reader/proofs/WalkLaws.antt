@@ -1,4 +1,4 @@
--- Laws of the walk over grants (specs/Walk.antt): where it begins, one step of it, and where it stays. Assumes nothing.
+-- Laws of the walk over grants (specs/Code.antt): where it begins, one step of it, and where it stays. Assumes nothing.
 use mathlib.Core.Path.{_≡_, refl, sym, ap, _∙_}
 use mathlib.Core.List.{List}
 use Prim.Native.Nat.{ℕ, zero, suc, _+_, _-_, _≤_, _<_}
@@ -8,10 +8,10 @@ use Rattle.exact.specs.Reads.{Got, got, refused}
 use Rattle.descriptor.specs.declared.Reading.{Reading}
 use Rattle.descriptor.specs.declared.Reading.the-variants.{Read, Structure, Validity}
 use Rattle.descriptor.specs.declared.GrantNumbers.{GrantNumbers}
-use Rattle.descriptor.specs.Answer.{readingOf}
+use Rattle.descriptor.specs.Code.{readingOf}
 use Rattle.descriptor.specs.Numbers.{grantNumbers}
 use Rattle.descriptor.specs.Reader.{GrantSeen, Seen, Answer, read, structure, validity, readOf, grantAt}
-use Rattle.grant_reader.specs.Walk.{startIn, startOf, nextIn, placeAfter, placeFrom, nthOf}
+use Rattle.grant_reader.specs.Code.{startIn, startOf, nextIn, placeAfter, placeFrom, nthOf}
 use Rattle.grant_reader.specs.Promises.{noGrant, NoneStays}
 
 -- ---- where the walk begins

@@ -9,10 +9,10 @@ use Rattle.descriptor.specs.Model.{Grant, Descriptor, encode}
 use Rattle.descriptor.specs.Allowed.{Allowed}
 use Rattle.descriptor.specs.Reader.{readOf, grantAt}
 use Rattle.descriptor.specs.View.{grantPlace}
-use Rattle.descriptor.specs.Answer.{readingOf}
+use Rattle.descriptor.specs.Code.{readingOf}
 use Rattle.descriptor.specs.Numbers.{numbersOf, grantNumbers}
 use Rattle.descriptor_laws.specs.Promises.{GrantHandedBack}
-use Rattle.grant_reader.specs.Walk.{startOf, placeFrom, nthOf}
+use Rattle.grant_reader.specs.Code.{startOf, placeFrom, nthOf}
 
 -- the numbers of no grant
 abbrev pub noGrant : GrantNumbers

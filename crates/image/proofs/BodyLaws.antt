@@ -13,7 +13,7 @@ use Rattle.descriptor.specs.declared.Fields.{Fields}
 use Rattle.descriptor.specs.declared.Reading.the-variants.{Read}
 use Rattle.descriptor.specs.Allowed.{longest, longestPeriod}
 use Rattle.descriptor.specs.Reader.{Seen, descriptorAt, Answer, read, structure, validity, whole, readOf}
-use Rattle.descriptor.specs.Answer.{fieldsOf, readingOf}
+use Rattle.descriptor.specs.Code.{fieldsOf, readingOf}
 use Rattle.descriptor.proofs.PayloadBounds.{PayloadIn, descriptor-bounds}
 use Rattle.image.specs.Image.{reading}
 use Rattle.image.specs.Laws.{BodyIn, ReadIn}
@@ -35,7 +35,8 @@ whole-in b (got v n) l h =
 
 answer-in : (b : List ℕ) → AnswerIn b (readOf b)
 unfolding readOf
-answer-in b = by-cond (AnswerIn b) (leb (length b) longest) (λ e. whole-in b (descriptorAt b 0) (leb-true (length b) longest e) (descriptor-bounds b 0)) (λ e. tt)
+answer-in b = by-cond (AnswerIn b) (leb (length b) longest)
+    (λ e. whole-in b (descriptorAt b 0) (leb-true (length b) longest e) (descriptor-bounds b 0)) (λ e. tt)
 
 -- the fields of equal readings are equal
 read-same : (f g : Fields) → Read f ≡ Read g → f ≡ g

@@ -16,12 +16,13 @@ use Rattle.octets.proofs.BytesLaws.{has-part, part-has, has-fits}
 use Rattle.descriptor.specs.declared.Fields.{Fields}
 use Rattle.descriptor.specs.declared.Reading.the-variants.{Read}
 use Rattle.image.specs.declared.layout.Layout.{Layout}
-use Rattle.image.specs.Layout.{idSize, maskWidth, maskPlace, zeroPlace, rowSize, zeroSize, rowPlace, LayoutOk}
+use Rattle.descriptor.specs.Allowed.{idSize}
+use Rattle.image.specs.Layout.{maskWidth, maskPlace, zeroPlace, rowSize, zeroSize, rowPlace, LayoutOk}
 use Rattle.image.specs.Image.{Row, rowOf, reading, idOf, row, hasId}
 use Rattle.image.specs.Check.{rowId, rowOffset, rowLength, idAmong, rowFits, rowAt}
 use Rattle.image.specs.Laws.{BodyIn}
 use Rattle.image.proofs.BodyLaws.{read-in}
-use Rattle.image.proofs.StepLaws.{RowOk, row-is, among-suc, hit-suc}
+use Rattle.image.proofs.RowsCode.{RowOk, row-is, among-suc, hit-suc}
 use Rattle.image.proofs.RowLaws.{id-read, modes-read, RowSays, row-says, says-row}
 use Rattle.octets.proofs.SameLaws.{same-equal, equal-same}
 use Rattle.octets.proofs.PartLaws.{part-part}

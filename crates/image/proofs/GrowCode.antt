@@ -14,7 +14,8 @@ use Rattle.octets.proofs.Tests.{and-left, and-right}
 use Rattle.octets.proofs.PartLaws.{lent-part}
 use Rattle.image.specs.declared.Added.the-variants.{Done, Full}
 use Rattle.image.specs.declared.layout.Layout.{Layout}
-use Rattle.image.specs.Layout.{headerWidth, countPlace, idSize}
+use Rattle.descriptor.specs.Allowed.{idSize}
+use Rattle.image.specs.Layout.{headerWidth, countPlace}
 use Rattle.image.specs.Layout.{bodyWidth, maskWidth, offsetPlace, lengthPlace, maskPlace, zeroPlace, rowSize, mostRows, zeroSize}
 use Rattle.image.specs.Layout.{rowPlace}
 use Rattle.image.specs.Grow.{raised, withRow, grown, fits, addedOf, afterAdd}

@@ -19,7 +19,8 @@ use Rattle.octets.proofs.OverLaws.{over-has, has-front, Kept, kept-over, kept-h
 use Rattle.descriptor.specs.declared.Fields.{Fields}
 use Rattle.descriptor.specs.declared.Reading.the-variants.{Read}
 use Rattle.image.specs.declared.layout.Layout.{Layout}
-use Rattle.image.specs.Layout.{headerSize, headerWidth, countPlace, idSize, rowSize, mostRows, rowPlace, LayoutOk}
+use Rattle.descriptor.specs.Allowed.{idSize}
+use Rattle.image.specs.Layout.{headerSize, headerWidth, countPlace, rowSize, mostRows, rowPlace, LayoutOk}
 use Rattle.image.specs.Image.{Row, reading, idOf, header, row, rowsOf, joined, imageOf, Holds}
 use Rattle.image.specs.Grow.{raised, withRow, grown, fits, addedOf, afterAdd, hasRoom, withBody}
 use Rattle.image.specs.Laws.{BodyAddedFor, OneMoreFor}

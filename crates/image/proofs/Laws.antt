@@ -1,12 +1,12 @@
 -- The statements of specs/Laws.antt, each from its law. Assumes nothing.
 use Rattle.image.specs.Layout.{edition1}
-use Rattle.image.specs.Laws.{ReadIn, ReadNamed, BodyRead, EncodingRead, BodyWithExactly, RowsNamed, SurveyTells, SurveySays}
-use Rattle.image.specs.Laws.{SurveyUnsound, EditionsSurveyed, SurveyInside, BodyAdded, OneMore}
+use Rattle.image.specs.Laws.{ReadIn, ReadNamed, BodyRead, EncodingRead, BodyWithExactly, RowsNamed, CheckTells, CheckSays}
+use Rattle.image.specs.Laws.{CheckUnsound, EditionsChecked, CheckInside, BodyAdded, OneMore}
 use Rattle.image.proofs.RowPlaceLaws.{edition1-ok}
 use Rattle.image.proofs.BodyLaws as body
 use Rattle.image.proofs.ReadLaws as read
 use Rattle.image.proofs.PlaceLaws as place
-use Rattle.image.proofs.SurveyLaws as survey
+use Rattle.image.proofs.FindLaws as found
 use Rattle.image.proofs.RowLaws as row
 use Rattle.image.proofs.GrowLaws as grow
 
@@ -30,24 +30,24 @@ pub body-with-exactly : BodyWithExactly
 body-with-exactly = place.body-with-exactly edition1
 
 pub rows-named : RowsNamed
-rows-named = survey.rows-named edition1 edition1-ok
+rows-named = found.rows-named edition1 edition1-ok
 
--- ---- what a survey says
+-- ---- what a check says
 
-pub survey-tells : SurveyTells
-survey-tells = survey.survey-tells edition1 edition1-ok
+pub check-tells : CheckTells
+check-tells = found.check-tells edition1 edition1-ok
 
-pub survey-says : SurveySays
-survey-says = survey.survey-says edition1 edition1-ok
+pub check-says : CheckSays
+check-says = found.check-says edition1 edition1-ok
 
-pub survey-unsound : SurveyUnsound
-survey-unsound = survey.survey-unsound edition1 edition1-ok
+pub check-unsound : CheckUnsound
+check-unsound = found.check-unsound edition1 edition1-ok
 
-pub editions-surveyed : EditionsSurveyed
-editions-surveyed = survey.editions-surveyed edition1 edition1-ok
+pub editions-checked : EditionsChecked
+editions-checked = found.editions-checked edition1 edition1-ok
 
-pub survey-inside : SurveyInside
-survey-inside = survey.survey-inside edition1 edition1-ok
+pub check-inside : CheckInside
+check-inside = found.check-inside edition1 edition1-ok
 
 -- ---- one body more
 

@@ -1,14 +1,14 @@
 pub mod RowPlaceLaws
 pub mod BodyLaws
-pub mod StepLaws
+pub mod RowsCode
 pub mod RowLaws
 pub mod ListLaws
 pub mod HeldLaws
 pub mod CheckLaws
 pub mod RunLaws
 pub mod SoundLaws
-pub mod SurveyLaws
-pub mod FreshLaws
+pub mod FindLaws
+pub mod NewImageLaws
 pub mod ReadLaws
 pub mod LayoutLaws
 pub mod LookupLaws
@@ -19,4 +19,4 @@ pub mod GrowCode
 pub mod GrowLaws
 pub mod Laws
 pub mod Promises
-pub mod CodeLaws
+pub mod CheckCode

@@ -6,9 +6,9 @@ use Rattle.image.proofs.RowPlaceLaws.{edition1-ok}
 use Rattle.image.proofs.RowLaws as row
 use Rattle.image.proofs.ReadLaws as read
 use Rattle.image.proofs.LayoutLaws as layout
-use Rattle.image.proofs.SurveyLaws as survey
+use Rattle.image.proofs.FindLaws as found
 use Rattle.image.proofs.LookupLaws as lookup
-use Rattle.image.proofs.FreshLaws as fresh
+use Rattle.image.proofs.NewImageLaws as newBytes
 
 -- ---- the layout
 
@@ -27,7 +27,7 @@ pub holds-exactly : HoldsExactly
 holds-exactly = layout.holds-exactly
 
 pub bodies-once : BodiesOnce
-bodies-once = survey.bodies-once edition1 edition1-ok
+bodies-once = found.bodies-once edition1 edition1-ok
 
 pub body-of-id : BodyOfId
 body-of-id = layout.body-of-id
@@ -49,4 +49,4 @@ body-handed = lookup.body-handed
 -- ---- a new image
 
 pub new-image : NewImage
-new-image = fresh.new-image
+new-image = newBytes.new-image

@@ -14,7 +14,8 @@ use Rattle.octets.proofs.OverLaws.{over-has, over-append, Kept, kept-over, kept
 use Rattle.descriptor.specs.declared.Fields.{Fields}
 use Rattle.descriptor.specs.declared.Reading.the-variants.{Read}
 use Rattle.image.specs.declared.layout.Layout.{Layout}
-use Rattle.image.specs.Layout.{modeEdition, headerSize, headerWidth, editionPlace, modesPlace, countPlace, headerZero, idSize}
+use Rattle.descriptor.specs.Allowed.{idSize}
+use Rattle.image.specs.Layout.{modeEdition, headerSize, headerWidth, editionPlace, modesPlace, countPlace, headerZero}
 use Rattle.image.specs.Layout.{bodyWidth, maskWidth, offsetPlace, lengthPlace, maskPlace, zeroPlace, rowSize, zeroSize}
 use Rattle.image.specs.Layout.{rowPlace, LayoutOk}
 use Rattle.image.specs.Image.{Row, reading, idOf, modesOf, header, row, rowsOf, joined}
@@ -53,7 +54,8 @@ put-four d r p q t a b c e f g h room =
 module _ (l : Layout) (ok : LayoutOk l) where
   -- The offset of a row raised by a row's size: the row of the body that lies so much higher, and no other byte is changed.
   pub row-raised : (d : List ℕ) (r at : ℕ) (b : Row) → at < 4294967296 → Has d r (row l at b)
-      → Has (putAt d (r + offsetPlace) (bigEndian bodyWidth (numberIn d (r + offsetPlace) bodyWidth + rowSize l))) r (row l (at + rowSize l) b)
+      → Has (putAt d (r + offsetPlace) (bigEndian bodyWidth (numberIn d (r + offsetPlace) bodyWidth + rowSize l))) r
+      (row l (at + rowSize l) b)
       × Kept d (putAt d (r + offsetPlace) (bigEndian bodyWidth (numberIn d (r + offsetPlace) bodyWidth + rowSize l))) r (r + rowSize l)
   row-raised d r at b small h =
       let p : RowParts l ok d r at b = row-parts l ok d r at b h in

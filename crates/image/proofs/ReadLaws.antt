@@ -8,14 +8,13 @@ use Rattle.octets.specs.Bytes.{part}
 use Rattle.descriptor.specs.declared.Reading.{Reading}
 use Rattle.descriptor.specs.declared.Reading.the-variants.{Read, Structure, Validity}
 use Rattle.descriptor.specs.Model.{Descriptor, encode}
-use Rattle.descriptor.specs.Allowed.{Formed}
+use Rattle.descriptor.specs.Allowed.{Formed, idSize}
 use Rattle.descriptor.specs.Modes.{unionOf}
 use Rattle.descriptor.specs.Reader.{Seen, Answer, read, structure, validity, readOf}
 use Rattle.descriptor.specs.Numbers.{numberOf}
 use Rattle.descriptor.specs.View.{descriptorView}
-use Rattle.descriptor.specs.Answer.{fieldsOf, readingOf}
+use Rattle.descriptor.specs.Code.{fieldsOf, readingOf}
 use Rattle.descriptor_laws.proofs.Laws.{reads-exactly, seen-handed}
-use Rattle.image.specs.Layout.{idSize}
 use Rattle.image.specs.Image.{reading, isRead, idOf, modesOf}
 use Rattle.image.specs.Promises.{RowOfBody, answerOf}
 use Rattle.image.specs.Laws.{BodyRead, EncodingRead}

@@ -5,7 +5,8 @@ use native.Mathlib.Omega.{arith}
 use native.Mathlib.Nat.{mul-suc, mul-le-mul-left, mul-le-mul-right}
 use native.Mathlib.Numerals.{add-one}
 use Rattle.image.specs.declared.layout.Layout.{Layout}
-use Rattle.image.specs.Layout.{headerSize, idSize, edition1, rowSize, mostRows, rowPlace, LayoutOk}
+use Rattle.descriptor.specs.Allowed.{idSize}
+use Rattle.image.specs.Layout.{headerSize, edition1, rowSize, mostRows, rowPlace, LayoutOk}
 
 -- Edition 1 is allowed.
 pub edition1-ok : LayoutOk edition1

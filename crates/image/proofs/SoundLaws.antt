@@ -21,7 +21,7 @@ use Rattle.image.specs.Layout.{modeEdition, headerSize, headerWidth, edi
 use Rattle.image.specs.Layout.{rowPlace, LayoutOk}
 use Rattle.image.specs.Image.{Row, header, rowsOf, joined, imageOf, RowsOk, Holds}
 use Rattle.image.specs.Check.{rowCount, headerFits, rowsFrom, checked, rowsHeldFrom, rowsHeld}
-use Rattle.image.proofs.StepLaws.{guard-got}
+use Rattle.image.proofs.RowsCode.{guard-got}
 use Rattle.image.proofs.RowLaws.{header-length, rows-end, image-length, header-parts, parts-header}
 use Rattle.image.proofs.RowPlaceLaws.{place-first, place-after, place-small}
 use Rattle.image.proofs.HeldLaws.{heldFrom, heldIn}

@@ -14,15 +14,16 @@ use Rattle.descriptor.specs.declared.Reading.{Reading}
 use Rattle.descriptor.specs.declared.Reading.the-variants.{Read, Structure, Validity}
 use Rattle.image.specs.declared.Held.{Held}
 use Rattle.image.specs.declared.Held.the-variants.{Missing, Body}
-use Rattle.image.specs.declared.Survey.{Survey}
-use Rattle.image.specs.declared.Survey.the-variants.{Sound, Unsound}
+use Rattle.image.specs.declared.ImageCheck.{ImageCheck}
+use Rattle.image.specs.declared.ImageCheck.the-variants.{Sound, Unsound}
 use Rattle.image.specs.declared.Finding.{Finding}
 use Rattle.image.specs.declared.StoredNumbers.{StoredNumbers}
-use Rattle.image.specs.declared.Finding.the-variants.{Found, BadId, BadImage, NotHeld}
+use Rattle.image.specs.declared.Finding.the-variants.{Found, Malformed, BadImage, NotFound}
 use Rattle.image.specs.declared.rows.RowRead.{RowRead}
 use Rattle.image.specs.declared.rows.RowRead.the-variants.{IsRow, NoRow}
 use Rattle.image.specs.declared.layout.Layout.{Layout}
-use Rattle.image.specs.Layout.{modeEdition, headerSize, headerWidth, editionPlace, modesPlace, countPlace, headerZero, idSize}
+use Rattle.descriptor.specs.Allowed.{idSize}
+use Rattle.image.specs.Layout.{modeEdition, headerSize, headerWidth, editionPlace, modesPlace, countPlace, headerZero}
 use Rattle.image.specs.Layout.{bodyWidth, maskWidth, offsetPlace, lengthPlace, maskPlace, zeroPlace, mostRows, zeroSize, rowPlace}
 use Rattle.image.specs.Image.{Row, rowOf, reading}
 
@@ -83,16 +84,16 @@ rowAt l s i at =
 -- ---- all rows
 
 -- the body at a place is the one looked for, or what was held before stays
-abbrev pub noted : Bool → Held → ℕ → ℕ → Fields → Held
-noted true h at n f = Body at n f
-noted false h at n f = h
+abbrev pub heldAfter : Bool → Held → ℕ → ℕ → Fields → Held
+heldAfter true h at n f = Body at n f
+heldAfter false h at n f = h
 
 -- k rows from row i on, whose bodies begin at `at`: the body with the id, and the place after the last
 unfoldable pub rowsFrom : Layout → List ℕ → List ℕ → ℕ → ℕ → ℕ → Held → Got Held
 rowsFrom l s id zero i at h = got h at
 rowsFrom l s id (suc k) i at h =
     let r = rowPlace l i in
-    bind (rowAt l s i at) (λ f next. rowsFrom l s id k (i + 1) next (noted (same (rowId s r) id) h at (rowLength s r) f))
+    bind (rowAt l s i at) (λ f next. rowsFrom l s id k (i + 1) next (heldAfter (same (rowId s r) id) h at (rowLength s r) f))
 
 -- the check of the image that s begins with: the body with the id, and where the image ends
 unfoldable pub checked : Layout → List ℕ → List ℕ → Got Held
@@ -110,21 +111,21 @@ rowRead (IsRow f next) = got f next
 rowRead NoRow = refused
 
 -- the answer of a check, of an image of n rows
-abbrev pub surveyed : ℕ → Got Held → Survey
-surveyed n (got h end) = Sound n end h
-surveyed n refused = Unsound
+abbrev pub checkAnswer : ℕ → Got Held → ImageCheck
+checkAnswer n (got h end) = Sound n end h
+checkAnswer n refused = Unsound
 
--- the survey of an image for an id
-unfoldable pub surveyOf : Layout → List ℕ → List ℕ → Survey
-surveyOf l s id = surveyed (rowCount s) (checked l s id)
+-- the check of an image for an id
+unfoldable pub checkOf : Layout → List ℕ → List ℕ → ImageCheck
+checkOf l s id = checkAnswer (rowCount s) (checked l s id)
 
 -- the image is sound
-abbrev pub isSound : Survey → Bool
+abbrev pub isSound : ImageCheck → Bool
 isSound (Sound n end h) = true
 isSound Unsound = false
 
 -- a body with the id is held
-abbrev pub isHeld : Survey → Bool
+abbrev pub isHeld : ImageCheck → Bool
 isHeld (Sound n end (Body at len f)) = true
 isHeld (Sound n end Missing) = false
 isHeld Unsound = false
@@ -132,29 +133,29 @@ isHeld Unsound = false
 -- where the body is held
 abbrev pub heldAt : Held → Finding
 heldAt (Body at n f) = Found at n
-heldAt Missing = NotHeld
+heldAt Missing = NotFound
 
-abbrev pub foundIn : Survey → Finding
+abbrev pub foundIn : ImageCheck → Finding
 foundIn (Sound n end h) = heldAt h
 foundIn Unsound = BadImage
 
 -- the lookup of an id: an id that is not 16 bytes, then the image, then the row
 unfoldable pub findOf : Layout → List ℕ → List ℕ → Finding
-findOf l s id = elim (eqb (length id) idSize) [ true ↦ foundIn (surveyOf l s id) | false ↦ BadId ]
+findOf l s id = elim (eqb (length id) idSize) [ true ↦ foundIn (checkOf l s id) | false ↦ Malformed ]
 
 -- document 01's answer for a lookup, and the place and length of the body
 abbrev pub numbersOf : Finding → StoredNumbers
 numbersOf (Found at n) = record { answer = 0; «body_at» = at; «body_len» = n }
-numbersOf BadId = record { answer = 15; «body_at» = 0; «body_len» = 0 }
+numbersOf Malformed = record { answer = 15; «body_at» = 0; «body_len» = 0 }
 numbersOf BadImage = record { answer = 16; «body_at» = 0; «body_len» = 0 }
-numbersOf NotHeld = record { answer = 7; «body_at» = 0; «body_len» = 0 }
+numbersOf NotFound = record { answer = 7; «body_at» = 0; «body_len» = 0 }
 
 -- where the body that was found stands in s; nothing at the start where none was
 abbrev pub bodySpan : List ℕ → Finding → Span
 bodySpan s (Found at n) = inside s at n
-bodySpan s BadId = spanOf 0 0
+bodySpan s Malformed = spanOf 0 0
 bodySpan s BadImage = spanOf 0 0
-bodySpan s NotHeld = spanOf 0 0
+bodySpan s NotFound = spanOf 0 0
 
 -- ---- the rows that an image has
 

@@ -3,14 +3,14 @@
 use mathlib.Core.Bool.{Bool}
 use mathlib.Core.List.{List}
 use Prim.Native.Nat.{ℕ}
-use Rattle.image.specs.declared.Survey.{Survey}
+use Rattle.image.specs.declared.ImageCheck.{ImageCheck}
 use Rattle.image.specs.declared.Finding.{Finding}
 use Rattle.image.specs.declared.Added.{Added}
 use Rattle.image.specs.Layout.{edition1}
 use Rattle.image.specs.Image.{Row}
 use Rattle.image.specs.Image as image
 use Rattle.image.specs.Check as check
-use Rattle.image.specs.Fresh as fresh
+use Rattle.image.specs.NewImage as newBytes
 use Rattle.image.specs.Grow as grow
 
 -- ---- the image of a list of rows
@@ -35,8 +35,8 @@ Holds = image.Holds edition1
 
 -- ---- what is answered and written
 
-abbrev pub surveyOf : List ℕ → List ℕ → Survey
-surveyOf = check.surveyOf edition1
+abbrev pub checkOf : List ℕ → List ℕ → ImageCheck
+checkOf = check.checkOf edition1
 
 abbrev pub findOf : List ℕ → List ℕ → Finding
 findOf = check.findOf edition1
@@ -45,7 +45,7 @@ abbrev pub rowsHeld : List ℕ → List Row
 rowsHeld = check.rowsHeld edition1
 
 abbrev pub afterNew : List ℕ → List ℕ
-afterNew = fresh.afterNew edition1
+afterNew = newBytes.afterNew edition1
 
 abbrev pub addedOf : List ℕ → ℕ → ℕ → List ℕ → ℕ → Added
 addedOf = grow.addedOf edition1

@@ -11,7 +11,8 @@ use Rattle.octets.specs.Write.{putAt, movedUp}
 use Rattle.image.specs.declared.Added.{Added}
 use Rattle.image.specs.declared.Added.the-variants.{Done, Full}
 use Rattle.image.specs.declared.layout.Layout.{Layout}
-use Rattle.image.specs.Layout.{headerWidth, countPlace, idSize, bodyWidth, maskWidth, offsetPlace, lengthPlace, maskPlace, zeroPlace}
+use Rattle.descriptor.specs.Allowed.{idSize}
+use Rattle.image.specs.Layout.{headerWidth, countPlace, bodyWidth, maskWidth, offsetPlace, lengthPlace, maskPlace, zeroPlace}
 use Rattle.image.specs.Layout.{rowSize, mostRows, zeroSize, rowPlace}
 use Rattle.image.specs.Image.{Row, imageOf}
 

@@ -12,9 +12,10 @@ use Rattle.exact.specs.Reads.{AllFrom}
 use Rattle.descriptor.specs.declared.Reading.{Reading}
 use Rattle.descriptor.specs.declared.Reading.the-variants.{Read, Structure, Validity}
 use Rattle.descriptor.specs.Reader.{readOf}
-use Rattle.descriptor.specs.Answer.{readingOf}
+use Rattle.descriptor.specs.Code.{readingOf}
 use Rattle.image.specs.declared.layout.Layout.{Layout}
-use Rattle.image.specs.Layout.{modeEdition, headerWidth, idSize, bodyWidth, maskWidth, mostRows, zeroSize, rowPlace}
+use Rattle.descriptor.specs.Allowed.{idSize}
+use Rattle.image.specs.Layout.{modeEdition, headerWidth, bodyWidth, maskWidth, mostRows, zeroSize, rowPlace}
 
 -- ---- what reading says of a body
 

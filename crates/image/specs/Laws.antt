@@ -7,22 +7,23 @@ use mathlib.Core.List.{List, [], _∷_, _++_}
 use mathlib.Core.Option.{none, some}
 use Prim.Native.Nat.{ℕ, _+_, _≤_, _<_}
 use lib.ListN.{length, getD}
+use Rattle.resource.specs.Identifier.{faySize, terminalSize}
 use Rattle.octets.specs.Bytes.{AreBytes, part}
 use Rattle.octets.specs.Number.{numberAt}
 use Rattle.descriptor.specs.declared.Fields.{Fields}
 use Rattle.descriptor.specs.declared.Reading.the-variants.{Read}
 use Rattle.descriptor.specs.Model.{Descriptor, encode}
-use Rattle.descriptor.specs.Allowed.{Allowed}
+use Rattle.descriptor.specs.Allowed.{Allowed, idSize}
 use Rattle.descriptor.specs.Modes.{unionOf}
 use Rattle.image.specs.declared.Held.{Held}
 use Rattle.image.specs.declared.Held.the-variants.{Missing, Body}
-use Rattle.image.specs.declared.Survey.{Survey}
-use Rattle.image.specs.declared.Survey.the-variants.{Sound, Unsound}
+use Rattle.image.specs.declared.ImageCheck.{ImageCheck}
+use Rattle.image.specs.declared.ImageCheck.the-variants.{Sound, Unsound}
 use Rattle.image.specs.declared.Added.the-variants.{Done, Full}
 use Rattle.image.specs.declared.layout.Layout.{Layout}
-use Rattle.image.specs.Layout.{modeEdition, headerWidth, editionPlace, modesPlace, idSize, edition1}
+use Rattle.image.specs.Layout.{modeEdition, headerWidth, editionPlace, modesPlace, edition1}
 use Rattle.image.specs.Image.{Row, rowOf, reading, isRead, idOf, modesOf, imageOf, RowsOk, Holds, bodyWith}
-use Rattle.image.specs.Check.{surveyOf, rowsHeld}
+use Rattle.image.specs.Check.{checkOf, rowsHeld}
 use Rattle.image.specs.Grow.{addedOf, afterAdd, hasRoom, withBody}
 
 -- ---- a body that reads
@@ -32,8 +33,8 @@ pub record BodyIn (b : List ℕ) (f : Fields) : Type 0 where
   pub short : length b ≤ 32768
   pub filled : 0 < length b
   pub id : f .id + idSize ≤ length b
-  pub fay : f .fay + 40 ≤ length b
-  pub terminal : f .terminal + 45 ≤ length b
+  pub fay : f .fay + faySize ≤ length b
+  pub terminal : f .terminal + terminalSize ≤ length b
   pub mask : f .mask < 16
 
 -- it is known of every body of which something was read
@@ -52,7 +53,7 @@ BodyRead = (b : List ℕ) → AreBytes b → isRead (reading b) ≡ true
 -- the encoding of an allowed descriptor is read, with its beginning and its id
 abbrev pub EncodingRead : Type 0
 EncodingRead = (d : Descriptor) → AreBytes (encode d) → Allowed d
-    → (f : Fields) × (reading (encode d) ≡ Read f) × (f .before ≡ d .payload .notBefore) × (idOf (encode d) ≡ d .payload .id)
+    → (f : Fields) × (reading (encode d) ≡ Read f) × (f .«not_before» ≡ d .payload .notBefore) × (idOf (encode d) ≡ d .payload .id)
 
 -- ---- the body with an id
 
@@ -65,7 +66,7 @@ BodyWithExactlyFor l = (id : List ℕ) (rs : List Row) (b : List ℕ) → RowsOk
 abbrev pub RowsNamedFor : Layout → Type 0
 RowsNamedFor l = (s : List ℕ) (rs : List Row) → Holds l s rs → rowsHeld l s ≡ rs
 
--- ---- what a survey says
+-- ---- what a check says
 
 -- the body of `len` bytes at `at` in s, of which f was read, is the one with the id
 pub record HeldBody (s id : List ℕ) (rs : List Row) (at len : ℕ) (f : Fields) : Type 0 where
@@ -78,31 +79,31 @@ abbrev pub HeldIs : List ℕ → List ℕ → List Row → Held → Type 0
 HeldIs s id rs Missing = bodyWith id rs ≡ none
 HeldIs s id rs (Body at len f) = HeldBody s id rs at len f
 
--- the survey of an image says how many rows it has, where it ends, and which body has the id
-abbrev pub SurveyTellsFor : Layout → Type 0
-SurveyTellsFor l = (s id : List ℕ) (rs : List Row) → Holds l s rs
-    → (h : Held) × (surveyOf l s id ≡ Sound (length rs) (length (imageOf l rs)) h) × HeldIs s id rs h
+-- the check of an image says how many rows it has, where it ends, and which body has the id
+abbrev pub CheckTellsFor : Layout → Type 0
+CheckTellsFor l = (s id : List ℕ) (rs : List Row) → Holds l s rs
+    → (h : Held) × (checkOf l s id ≡ Sound (length rs) (length (imageOf l rs)) h) × HeldIs s id rs h
 
--- what is so of an image that a survey calls sound
-pub record Surveyed (l : Layout) (s id : List ℕ) (n end : ℕ) (h : Held) : Type 0 where
+-- what is so of an image that a check calls sound
+pub record SoundCheck (l : Layout) (s id : List ℕ) (n end : ℕ) (h : Held) : Type 0 where
   pub holds : Holds l s (rowsHeld l s)
   pub rows : n ≡ length (rowsHeld l s)
   pub ends : end ≡ length (imageOf l (rowsHeld l s))
   pub held : HeldIs s id (rowsHeld l s) h
 
--- bytes that a survey calls sound hold the rows that stand in them, and what it says of them is so
-abbrev pub SurveySaysFor : Layout → Type 0
-SurveySaysFor l = (s id : List ℕ) → AreBytes s → (n end : ℕ) (h : Held) → surveyOf l s id ≡ Sound n end h → Surveyed l s id n end h
+-- bytes that a check calls sound hold the rows that stand in them, and what it says of them is so
+abbrev pub CheckSaysFor : Layout → Type 0
+CheckSaysFor l = (s id : List ℕ) → AreBytes s → (n end : ℕ) (h : Held) → checkOf l s id ≡ Sound n end h → SoundCheck l s id n end h
 
--- bytes that a survey calls unsound hold no list of rows
-abbrev pub SurveyUnsoundFor : Layout → Type 0
-SurveyUnsoundFor l = (s id : List ℕ) → AreBytes s → (surveyOf l s id ≡ Unsound) ↔ ((rs : List Row) → Holds l s rs → ⊥)
+-- bytes that a check calls unsound hold no list of rows
+abbrev pub CheckUnsoundFor : Layout → Type 0
+CheckUnsoundFor l = (s id : List ℕ) → AreBytes s → (checkOf l s id ≡ Unsound) ↔ ((rs : List Row) → Holds l s rs → ⊥)
 
--- a survey calls an image of other editions unsound
-abbrev pub EditionsSurveyedFor : Layout → Type 0
-EditionsSurveyedFor l = (s id : List ℕ)
+-- a check calls an image of other editions unsound
+abbrev pub EditionsCheckedFor : Layout → Type 0
+EditionsCheckedFor l = (s id : List ℕ)
     → (numberAt s editionPlace headerWidth ≡ l .edition → ⊥) ⊎ (numberAt s modesPlace headerWidth ≡ modeEdition → ⊥)
-    → surveyOf l s id ≡ Unsound
+    → checkOf l s id ≡ Unsound
 
 -- the body that is held lies in the image, and its fields are those that were read of it
 abbrev pub HeldFits : List ℕ → Held → Type 0
@@ -110,13 +111,13 @@ HeldFits s Missing = Unit {0}
 HeldFits s (Body at len f) = (at + len ≤ length s) × (reading (part s at len) ≡ Read f)
 
 -- the image ends in the buffer, and so does what is held
-abbrev pub SurveyFits : List ℕ → Survey → Type 0
-SurveyFits s (Sound n end h) = (end ≤ length s) × HeldFits s h
-SurveyFits s Unsound = Unit {0}
+abbrev pub CheckFits : List ℕ → ImageCheck → Type 0
+CheckFits s (Sound n end h) = (end ≤ length s) × HeldFits s h
+CheckFits s Unsound = Unit {0}
 
--- the places that a survey answers lie in the image
-abbrev pub SurveyInsideFor : Layout → Type 0
-SurveyInsideFor l = (s id : List ℕ) → AreBytes s → SurveyFits s (surveyOf l s id)
+-- the places that a check answers lie in the image
+abbrev pub CheckInsideFor : Layout → Type 0
+CheckInsideFor l = (s id : List ℕ) → AreBytes s → CheckFits s (checkOf l s id)
 
 -- ---- one body more
 
@@ -144,20 +145,20 @@ BodyWithExactly = BodyWithExactlyFor edition1
 abbrev pub RowsNamed : Type 0
 RowsNamed = RowsNamedFor edition1
 
-abbrev pub SurveyTells : Type 0
-SurveyTells = SurveyTellsFor edition1
+abbrev pub CheckTells : Type 0
+CheckTells = CheckTellsFor edition1
 
-abbrev pub SurveySays : Type 0
-SurveySays = SurveySaysFor edition1
+abbrev pub CheckSays : Type 0
+CheckSays = CheckSaysFor edition1
 
-abbrev pub SurveyUnsound : Type 0
-SurveyUnsound = SurveyUnsoundFor edition1
+abbrev pub CheckUnsound : Type 0
+CheckUnsound = CheckUnsoundFor edition1
 
-abbrev pub EditionsSurveyed : Type 0
-EditionsSurveyed = EditionsSurveyedFor edition1
+abbrev pub EditionsChecked : Type 0
+EditionsChecked = EditionsCheckedFor edition1
 
-abbrev pub SurveyInside : Type 0
-SurveyInside = SurveyInsideFor edition1
+abbrev pub CheckInside : Type 0
+CheckInside = CheckInsideFor edition1
 
 abbrev pub BodyAdded : Type 0
 BodyAdded = BodyAddedFor edition1

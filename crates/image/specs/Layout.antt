@@ -33,10 +33,6 @@ countPlace = 4
 abbrev pub headerZero : ℕ
 headerZero = 6
 
--- the bytes of a descriptor id, which stands first in a row
-abbrev pub idSize : ℕ
-idSize = 16
-
 -- the bytes of a body's offset, and of its length
 abbrev pub bodyWidth : ℕ
 bodyWidth = 4

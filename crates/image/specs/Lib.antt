@@ -1,7 +1,7 @@
 pub mod Layout
 pub mod Image
 pub mod Check
-pub mod Fresh
+pub mod NewImage
 pub mod Grow
 pub mod Edition1
 pub mod Promises

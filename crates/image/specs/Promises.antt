@@ -13,12 +13,12 @@ use Rattle.descriptor.specs.Model.{Descriptor, encode}
 use Rattle.descriptor.specs.Allowed.{Allowed}
 use Rattle.descriptor.specs.Modes.{unionOf}
 use Rattle.descriptor.specs.Reader.{readOf}
-use Rattle.descriptor.specs.Answer.{readingOf}
+use Rattle.descriptor.specs.Code.{readingOf}
 use Rattle.descriptor.specs.Numbers as descriptor
 use Rattle.image.specs.declared.StoredNumbers.{StoredNumbers}
 use Rattle.image.specs.Image.{Row, idOf, modesOf, joined, bodyWith}
 use Rattle.image.specs.Check.{bodySpan, numbersOf}
-use Rattle.image.specs.Fresh.{madeOf, numberOf}
+use Rattle.image.specs.NewImage.{creationOf, numberOf}
 use Rattle.image.specs.Edition1.{header, row, rowsOf, imageOf, Holds, findOf, afterNew}
 
 -- ---- the layout
@@ -130,7 +130,7 @@ BodyHanded = (s id : List ℕ) → AreBytes s
 abbrev pub NewImage : Type 0
 NewImage =
     ((d : List ℕ) → 8 ≤ length d
-    → (numberOf (madeOf d) ≡ 0)
+    → (numberOf (creationOf d) ≡ 0)
     × (afterNew d ≡ 0x00 ∷ 0x01 ∷ 0x00 ∷ 0x01 ∷ 0x00 ∷ 0x00 ∷ 0x00 ∷ 0x00 ∷ drop 8 d)
     × (afterNew d ≡ imageOf [] ++ drop 8 d))
-    × ((d : List ℕ) → length d < 8 → (numberOf (madeOf d) ≡ 17) × (afterNew d ≡ d))
+    × ((d : List ℕ) → length d < 8 → (numberOf (creationOf d) ≡ 17) × (afterNew d ≡ d))

@@ -1,13 +1,12 @@
 // A new image, and one more row and body in an image, in place.
 use crate::Added;
-use crate::Made;
+use crate::Creation;
 use crate::layout::BODY_WIDTH;
 use crate::layout::COUNT_PLACE;
 use crate::layout::EDITION_PLACE;
 use crate::layout::HEADER_SIZE;
 use crate::layout::HEADER_WIDTH;
 use crate::layout::HEADER_ZERO;
-use crate::layout::ID_SIZE;
 use crate::layout::LENGTH_PLACE;
 use crate::layout::Layout;
 use crate::layout::MASK_PLACE;
@@ -17,6 +16,7 @@ use crate::layout::MODES_PLACE;
 use crate::layout::OFFSET_PLACE;
 use crate::layout::ZERO_PLACE;
 use crate::layout::row_place;
+use descriptor::sizes::ID_SIZE;
 use octets::move_up;
 use octets::number_at;
 use octets::put;
@@ -24,22 +24,23 @@ use octets::put_number;
 ghost use mathlib.Core.Path.{_≡_};
 ghost use Prim.Native.Nat.{_+_, _≤_, _<_};
 ghost use lib.ListN.{length};
-ghost use Rattle.image.specs.Layout.{idSize, rowSize, mostRows, rowPlace, LayoutOk};
-ghost use Rattle.image.specs.Fresh.{madeOf, afterNew};
+ghost use Rattle.descriptor.specs.Allowed.{idSize};
+ghost use Rattle.image.specs.Layout.{rowSize, mostRows, rowPlace, LayoutOk};
+ghost use Rattle.image.specs.NewImage.{creationOf, afterNew};
 ghost use Rattle.image.specs.Grow.{raised, withRow, grown, fits, addedOf, afterAdd};
 
 // Makes a new image of no bodies; a buffer that is too short for its header is left as it was.
-pub(crate) fn new_image(layout: Layout, d: &mut [u8]) -> Made
-    ensures { λ r. ⌜ (r ≡ madeOf (now (d .entry))) × (now (d .exit) ≡ afterNew layout (now (d .entry))) ⌝ }
+pub(crate) fn new_image(layout: Layout, d: &mut [u8]) -> Creation
+    ensures { λ r. ⌜ (r ≡ creationOf (now (d .entry))) × (now (d .exit) ≡ afterNew layout (now (d .entry))) ⌝ }
 {
     if d.len() < HEADER_SIZE {
-        return Made::TooShort;
+        return Creation::TooShort;
     }
     put_number(d, EDITION_PLACE, HEADER_WIDTH, layout.edition);
     put_number(d, MODES_PLACE, HEADER_WIDTH, MODE_EDITION);
     put_number(d, COUNT_PLACE, HEADER_WIDTH, 0);
     put_number(d, HEADER_ZERO, HEADER_WIDTH, 0);
-    Made::Done
+    Creation::Done
 }
 
 // Raises the offsets of the n rows by a row.

@@ -31,9 +31,6 @@ pub(crate) const COUNT_PLACE: usize = 4;
 
 pub(crate) const HEADER_ZERO: usize = 6;
 
-// The bytes of a descriptor id, which stands first in a row.
-pub const ID_SIZE: usize = 16;
-
 // The bytes of a body's offset and of its length, and of a mask.
 pub(crate) const BODY_WIDTH: usize = 4;
 

@@ -8,8 +8,8 @@ use layout::EDITION1;
 ghost use mathlib.Core.Path.{_≡_};
 ghost use Rattle.octets.specs.Bytes.{PartOf};
 ghost use Rattle.image.specs.Check.{bodySpan};
-ghost use Rattle.image.specs.Fresh.{madeOf};
-ghost use Rattle.image.specs.Edition1.{surveyOf, findOf, afterNew, addedOf, afterAdd};
+ghost use Rattle.image.specs.NewImage.{creationOf};
+ghost use Rattle.image.specs.Edition1.{checkOf, findOf, afterNew, addedOf, afterAdd};
 
 // The body with an id: where it lies in the image, how long it is, and what was read of it; or there is none.
 pub enum Held {
@@ -22,7 +22,7 @@ pub enum Held {
 }
 
 // What a check of an image answers: how many rows it has, where it ends, and the body that was looked for; or that it is not sound.
-pub enum Survey {
+pub enum ImageCheck {
     Sound { rows: u64, end: usize, held: Held },
     Unsound,
 }
@@ -30,9 +30,9 @@ pub enum Survey {
 // What a lookup answers: the body's place and length; 15, the id is not 16 bytes; 16, the image is not sound; 7, the id is not held.
 pub enum Finding {
     Found { at: usize, len: usize },
-    BadId,
+    Malformed,
     BadImage,
-    NotHeld,
+    NotFound,
 }
 
 // A lookup in document 01's numbers, as include/cap.h has them: the answer, 0, 15, 16 or 7; and with 0 the place and the length of the
@@ -45,7 +45,7 @@ pub struct StoredNumbers {
 }
 
 // What making a new image answers: 0 or 17.
-pub enum Made {
+pub enum Creation {
     Done,
     TooShort,
 }
@@ -57,8 +57,8 @@ pub enum Added {
 }
 
 // Checks the image, and looks for the body with the id in the same pass.
-pub fn check(image: &[u8], id: &[u8]) -> Survey
-    ensures { λ r. ⌜ r ≡ surveyOf (now (image .entry)) (now (id .entry)) ⌝ }
+pub fn check(image: &[u8], id: &[u8]) -> ImageCheck
+    ensures { λ r. ⌜ r ≡ checkOf (now (image .entry)) (now (id .entry)) ⌝ }
 {
     rows::check(EDITION1, image, id)
 }
@@ -76,15 +76,15 @@ pub fn body_part(image: &[u8], finding: Finding) -> &[u8]
 {
     match finding {
         Finding::Found { at, len } => octets::part_at(image, at, len),
-        Finding::BadId => &image[..0],
+        Finding::Malformed => &image[..0],
         Finding::BadImage => &image[..0],
-        Finding::NotHeld => &image[..0],
+        Finding::NotFound => &image[..0],
     }
 }
 
 // Makes a new image of no bodies; a buffer under 8 bytes is left as it was.
-pub fn new_image(image: &mut [u8]) -> Made
-    ensures { λ r. ⌜ (r ≡ madeOf (now (image .entry))) × (now (image .exit) ≡ afterNew (now (image .entry))) ⌝ }
+pub fn new_image(image: &mut [u8]) -> Creation
+    ensures { λ r. ⌜ (r ≡ creationOf (now (image .entry))) × (now (image .exit) ≡ afterNew (now (image .entry))) ⌝ }
 {
     grow::new_image(EDITION1, image)
 }

@@ -1,14 +1,13 @@
 // The check of an image, row by row.
 use crate::Finding;
 use crate::Held;
-use crate::Survey;
+use crate::ImageCheck;
 use crate::layout::BODY_WIDTH;
 use crate::layout::COUNT_PLACE;
 use crate::layout::EDITION_PLACE;
 use crate::layout::HEADER_SIZE;
 use crate::layout::HEADER_WIDTH;
 use crate::layout::HEADER_ZERO;
-use crate::layout::ID_SIZE;
 use crate::layout::LENGTH_PLACE;
 use crate::layout::Layout;
 use crate::layout::MASK_PLACE;
@@ -20,6 +19,7 @@ use crate::layout::ZERO_PLACE;
 use crate::layout::row_place;
 use descriptor::Fields;
 use descriptor::Reading;
+use descriptor::sizes::ID_SIZE;
 use octets::number_at;
 use octets::same_bytes;
 ghost use mathlib.Core.Path.{_≡_};
@@ -27,8 +27,9 @@ ghost use Prim.Native.Nat.{_+_, _≤_, _<_};
 ghost use lib.ListN.{length};
 ghost use lib.Dec.{eqb};
 ghost use Rattle.octets.specs.Number.{numberAt};
-ghost use Rattle.image.specs.Layout.{headerSize, idSize, rowSize, mostRows, rowPlace, LayoutOk};
-ghost use Rattle.image.specs.Check.{headerFits, idAmong, rowFits, rowAt, rowRead, noted, rowCount, rowsFrom, surveyed, surveyOf, heldAt, findOf};
+ghost use Rattle.descriptor.specs.Allowed.{idSize};
+ghost use Rattle.image.specs.Layout.{headerSize, rowSize, mostRows, rowPlace, LayoutOk};
+ghost use Rattle.image.specs.Check.{headerFits, idAmong, rowFits, rowAt, rowRead, heldAfter, rowCount, rowsFrom, checkAnswer, checkOf, heldAt, findOf};
 
 // What was read of a row's body, and the place after it.
 pub(crate) enum RowRead {
@@ -121,8 +122,8 @@ fn row_at(layout: Layout, s: &[u8], i: usize, at: usize) -> RowRead
 }
 
 // The body at a place is the one looked for, or what was held before stays.
-fn note(hit: bool, held: Held, at: usize, len: usize, fields: Fields) -> Held
-    ensures { λ r. ⌜ r ≡ noted hit held at len fields ⌝ }
+fn keep(hit: bool, held: Held, at: usize, len: usize, fields: Fields) -> Held
+    ensures { λ r. ⌜ r ≡ heldAfter hit held at len fields ⌝ }
 {
     if hit {
         return Held::Body { at, len, fields };
@@ -131,9 +132,9 @@ fn note(hit: bool, held: Held, at: usize, len: usize, fields: Fields) -> Held
 }
 
 // All n rows, and the body with the id.
-fn all_rows(layout: Layout, s: &[u8], id: &[u8], n: usize) -> Survey
+fn all_rows(layout: Layout, s: &[u8], id: &[u8], n: usize) -> ImageCheck
     requires { ⌜ LayoutOk layout × (n ≤ mostRows layout) × (rowPlace layout n ≤ length (now s)) ⌝ }
-    ensures { λ r. ⌜ r ≡ surveyed n (rowsFrom layout (now (s .entry)) (now (id .entry)) n 0 (rowPlace layout n) Held.Missing) ⌝ }
+    ensures { λ r. ⌜ r ≡ checkAnswer n (rowsFrom layout (now (s .entry)) (now (id .entry)) n 0 (rowPlace layout n) Held.Missing) ⌝ }
 {
     let mut i = 0;
     let mut at = row_place(layout, n);
@@ -143,14 +144,14 @@ fn all_rows(layout: Layout, s: &[u8], id: &[u8], n: usize) -> Survey
             RowRead::IsRow { fields, next } => {
                 let r = row_place(layout, i);
                 let hit = same_bytes(&s[r..r + ID_SIZE], id);
-                held = note(hit, held, at, next - at, fields);
+                held = keep(hit, held, at, next - at, fields);
                 at = next;
             }
-            RowRead::NoRow => return Survey::Unsound,
+            RowRead::NoRow => return ImageCheck::Unsound,
         }
         i += 1;
     }
-    Survey::Sound {
+    ImageCheck::Sound {
         rows: n as u64,
         end: at,
         held,
@@ -158,19 +159,19 @@ fn all_rows(layout: Layout, s: &[u8], id: &[u8], n: usize) -> Survey
 }
 
 // The check of the whole image.
-pub(crate) fn check(layout: Layout, s: &[u8], id: &[u8]) -> Survey
+pub(crate) fn check(layout: Layout, s: &[u8], id: &[u8]) -> ImageCheck
     requires { ⌜ LayoutOk layout ⌝ }
-    ensures { λ r. ⌜ r ≡ surveyOf layout (now (s .entry)) (now (id .entry)) ⌝ }
+    ensures { λ r. ⌜ r ≡ checkOf layout (now (s .entry)) (now (id .entry)) ⌝ }
 {
     if s.len() < HEADER_SIZE {
-        return Survey::Unsound;
+        return ImageCheck::Unsound;
     }
     if !header_fits(layout, s) {
-        return Survey::Unsound;
+        return ImageCheck::Unsound;
     }
     let n = number_at(s, COUNT_PLACE, HEADER_WIDTH) as usize;
     if s.len() < row_place(layout, n) {
-        return Survey::Unsound;
+        return ImageCheck::Unsound;
     }
     all_rows(layout, s, id, n)
 }
@@ -181,15 +182,15 @@ pub(crate) fn find(layout: Layout, s: &[u8], id: &[u8]) -> Finding
     ensures { λ r. ⌜ r ≡ findOf layout (now (s .entry)) (now (id .entry)) ⌝ }
 {
     if id.len() != ID_SIZE {
-        return Finding::BadId;
+        return Finding::Malformed;
     }
     match check(layout, s, id) {
-        Survey::Sound {
+        ImageCheck::Sound {
             rows: _,
             end: _,
             held,
         } => found(held),
-        Survey::Unsound => Finding::BadImage,
+        ImageCheck::Unsound => Finding::BadImage,
     }
 }
 
@@ -199,6 +200,6 @@ fn found(held: Held) -> Finding
 {
     match held {
         Held::Body { at, len, fields: _ } => Finding::Found { at, len },
-        Held::Missing => Finding::NotHeld,
+        Held::Missing => Finding::NotFound,
     }
 }

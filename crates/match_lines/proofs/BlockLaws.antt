@@ -46,8 +46,10 @@ answers-byte begun b bs e = rw (e, answersFrom)
 -- what holds of an empty block, and of each other block if it holds of that block without its first byte, holds of all
 module _ (P : Bool → List ℕ → List ℕ → Fed → Type 0)
     (at-end : (long : Bool) (begun : List ℕ) → P long begun [] (keptOf long begun))
-    (at-newline : (long : Bool) (begun : List ℕ) (b : ℕ) (bs : List ℕ) (f : Fed) → eqb b 10 ≡ true → P false [] bs f → P long begun (b ∷ bs) (after (verdictLine (verdictIf long begun)) f))
-    (at-byte : (long : Bool) (begun : List ℕ) (b : ℕ) (bs : List ℕ) (f : Fed) → eqb b 10 ≡ false → P long (begun ++ (b ∷ [])) bs f → P long begun (b ∷ bs) f)
+    (at-newline : (long : Bool) (begun : List ℕ) (b : ℕ) (bs : List ℕ) (f : Fed) → eqb b 10 ≡ true → P false [] bs f
+    → P long begun (b ∷ bs) (after (verdictLine (verdictIf long begun)) f))
+    (at-byte : (long : Bool) (begun : List ℕ) (b : ℕ) (bs : List ℕ) (f : Fed) → eqb b 10 ≡ false → P long (begun ++ (b ∷ [])) bs f
+    → P long begun (b ∷ bs) f)
   where
     by-fed : (long : Bool) (begun s : List ℕ) → P long begun s (fedFrom long begun s)
     unfolding fedFrom
@@ -196,7 +198,8 @@ unfolding answersFrom
 written-answers [] long kept line h = stands-ended h
 written-answers (b ∷ bs) long kept line h =
     let q = fed-carries long kept b line h in
-    rw (fed-join long [] kept b (stands-part h), written-answers bs (fedFrom long kept b .long) (fedFrom long kept b .kept) (q .0) (q .1)) (sym (q .2 (concat bs)))
+    rw (fed-join long [] kept b (stands-part h), written-answers bs (fedFrom long kept b .long) (fedFrom long kept b .kept) (q .0) (q .1))
+    (sym (q .2 (concat bs)))
 
 -- however the input is cut into blocks, what is written is the answers to its lines
 pub blocks-answers : (blocks : List (List ℕ)) → writtenFrom false [] blocks ≡ answersFrom [] (concat blocks)

@@ -95,7 +95,8 @@ end-done long s from at =
 
 -- a line that ends in the block
 fed-line : (long : Bool) (begun s : List ℕ) → lineLength s < length s
-    → fedFrom long begun s ≡ after (verdictLine (verdictIf long (begun ++ take (lineLength s) s))) (fedFrom false [] (drop (suc (lineLength s)) s))
+    → fedFrom long begun s
+    ≡ after (verdictLine (verdictIf long (begun ++ take (lineLength s) s))) (fedFrom false [] (drop (suc (lineLength s)) s))
 unfolding bytesBefore fedFrom
 fed-line long begun [] h = absurd (omega arith)
 fed-line long begun (b ∷ bs) h = go (eqb b 10) refl (fed-line long (begun ++ (b ∷ [])) bs)
@@ -103,9 +104,11 @@ fed-line long begun (b ∷ bs) h = go (eqb b 10) refl (fed-line long (begun ++ (
     go : (t : Bool) → eqb b 10 ≡ t
         → (lineLength bs < length bs
         → fedFrom long (begun ++ (b ∷ [])) bs
-        ≡ after (verdictLine (verdictIf long ((begun ++ (b ∷ [])) ++ take (lineLength bs) bs))) (fedFrom false [] (drop (suc (lineLength bs)) bs)))
+        ≡ after (verdictLine (verdictIf long ((begun ++ (b ∷ [])) ++ take (lineLength bs) bs)))
+        (fedFrom false [] (drop (suc (lineLength bs)) bs)))
         → fedFrom long begun (b ∷ bs)
-        ≡ after (verdictLine (verdictIf long (begun ++ take (lineLength (b ∷ bs)) (b ∷ bs)))) (fedFrom false [] (drop (suc (lineLength (b ∷ bs))) (b ∷ bs)))
+        ≡ after (verdictLine (verdictIf long (begun ++ take (lineLength (b ∷ bs)) (b ∷ bs))))
+        (fedFrom false [] (drop (suc (lineLength (b ∷ bs))) (b ∷ bs)))
     go true e f = rw (e, fedFrom, bytesBefore, append-nil begun)
     go false e f =
         let k : lineLength (b ∷ bs) ≡ suc (lineLength bs) = before-other 10 b bs e in
@@ -117,7 +120,8 @@ unfolding bytesBefore fedFrom
 fed-begun long begun [] h = rw (append-nil begun)
 fed-begun long begun (b ∷ bs) h = go (eqb b 10) refl (fed-begun long (begun ++ (b ∷ [])) bs)
   where
-    go : (t : Bool) → eqb b 10 ≡ t → (lineLength bs ≡ length bs → fedFrom long (begun ++ (b ∷ [])) bs ≡ keptOf long ((begun ++ (b ∷ [])) ++ bs))
+    go : (t : Bool) → eqb b 10 ≡ t
+        → (lineLength bs ≡ length bs → fedFrom long (begun ++ (b ∷ [])) bs ≡ keptOf long ((begun ++ (b ∷ [])) ++ bs))
         → fedFrom long begun (b ∷ bs) ≡ keptOf long (begun ++ (b ∷ bs))
     go true e f = let k : lineLength (b ∷ bs) ≡ 0 = before-this 10 b bs e in absurd (omega arith)
     go false e f =
@@ -151,7 +155,8 @@ module _ (long : Bool) (s out₀ out : List ℕ) (from at : ℕ) (too-long : Boo
       let g : Fed = fedFrom false [] (drop (stop + 1) s) in
       let turn : fedFrom too-long [] (drop from s) ≡ after (verdictLine v) g =
       fed-line too-long [] (drop from s) (omega (arith, before-le 10 (drop from s), length-drop from s)) ∙ rw (f, size, rest) in
-      let sum : at + length (verdictLine v ++ g .out) ≡ (at + length (verdictLine v)) + length (g .out) = omega (arith, length-append (verdictLine v) (g .out)) in
+      let sum : at + length (verdictLine v ++ g .out) ≡ (at + length (verdictLine v)) + length (g .out) =
+      omega (arith, length-append (verdictLine v) (g .out)) in
       rw (placed, written) (record {
         answer = l .answer ∙ ap (done at) turn ∙ ap (λ (i : ℕ). Done i (length (g .kept)) (g .long)) sum;
         output = l .output ∙ ap (λ (x : Fed). over out at (x .out)) turn
@@ -164,7 +169,8 @@ module _ (long : Bool) (s out₀ out : List ℕ) (from at : ℕ) (too-long : Boo
       let turn : fedFrom too-long [] (drop from s) ≡ keptOf too-long (drop from s) =
       fed-begun too-long [] (drop from s) (omega (arith, length-drop from s)) in (
         end-done too-long s from at ∙ sym (l .answer ∙ ap (done at) turn),
-        sym (l .output ∙ ap (λ (x : Fed). over out at (x .out)) turn ∙ ap (over out at) (kept-out too-long (drop from s)) ∙ over-nil out at),
+        sym (l .output ∙ ap (λ (x : Fed). over out at (x .out)) turn ∙ ap (over out at) (kept-out too-long (drop from s))
+            ∙ over-nil out at),
       )
 
 -- ---- what a block comes to
@@ -235,7 +241,11 @@ module _ (long : Bool) (d : List ℕ) (n size : ℕ) (out : List ℕ) (h : size 
   step-done w k t m e moved =
       rw (← same) (
         sym e ∙ answered,
-        (written, moved ∙ ap (over d 0) (step-kept w k t e .1) ∙ rw (done-told long (take size d) (length out) w k t (sym e ∙ answered) .0)),
+        (
+          written,
+          moved ∙ ap (over d 0) (step-kept w k t e .1)
+              ∙ rw (done-told long (take size d) (length out) w k t (sym e ∙ answered) .0),
+        ),
       )
 
   -- a block that was refused: all is as it was

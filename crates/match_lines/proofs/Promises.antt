@@ -42,7 +42,8 @@ unfolding answersFrom
 empty-input = refl
 
 pub whole-case : WholeCase
-unfolding isHex hasForm uuidForm terminalForm isTerminal same isNameChar allNameChars levels levelsOk isResource isPattern resourceOk patternOk levelsOf pathOf patternOf matching bytesBefore verdictAt verdict answersFrom
+unfolding isHex hasForm uuidForm terminalForm isTerminal same isNameChar allNameChars levels levelsOk isResource isPattern resourceOk
+    patternOk levelsOf pathOf patternOf matching bytesBefore verdictAt verdict answersFrom
 whole-case = refl
 
 -- ---- an input in blocks

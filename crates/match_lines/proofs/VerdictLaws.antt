@@ -78,7 +78,8 @@ asks-verdict line p x a =
     let r : List ℕ = pathText x in
     let n : beforeSpace (l ++ (32 ∷ r)) ≡ length l = before-all 32 l r (pattern-spaceless p (a .pattern)) in
     let size : length (l ++ (32 ∷ r)) ≡ length l + suc (length r) = length-append l (32 ∷ r) in
-    let fits : leb (length (l ++ (32 ∷ r))) 600 ≡ true = le-leb (length (l ++ (32 ∷ r))) 600 (omega (arith, size, a .pattern-fits, a .path-fits)) in
+    let fits : leb (length (l ++ (32 ∷ r))) 600 ≡ true =
+    le-leb (length (l ++ (32 ∷ r))) 600 (omega (arith, size, a .pattern-fits, a .path-fits)) in
     let some : leb (length (l ++ (32 ∷ r))) (length l) ≡ false = lt-leb (length (l ++ (32 ∷ r))) (length l) (omega (arith, size)) in
     let m : matching l r ≡ cond (admits p x) Yes No =
     cond-matching (matching l r) (admits p x) (matching-exact p x (a .pattern) (a .path) (a .pattern-fits) (a .path-fits)) in
@@ -96,7 +97,11 @@ pattern-ok s e = (leb-true (length s) 256 (and-left (leb (length s) 256) (isPatt
 -- a text that may enter as a resource id is one, of 256 bytes at most
 resource-ok : (s : List ℕ) → resourceOk s ≡ true → (length s ≤ 256) × (isResource s ≡ true)
 unfolding resourceOk
-resource-ok s e = (leb-true (length s) 256 (and-left (leb (length s) 256) (isResource s) e), and-right (leb (length s) 256) (isResource s) e)
+resource-ok s e = (
+  leb-true (length s) 256 (and-left (leb (length s) 256) (isResource s) e),
+  and-right (leb (length s) 256)
+      (isResource s) e,
+)
 
 -- what a line asks
 abbrev Question : List ℕ → Type 0
@@ -131,8 +136,11 @@ parted-or-bad line l r e = go (patternOk l) (resourceOk r) refl refl
   where
     go : (a b : Bool) → patternOk l ≡ a → resourceOk r ≡ b → (verdictOf (matching l r) ≡ IsBad) ⊎ Question line
     go true true ea eb = inr (texts-ask line l r e ea eb)
-    go true false ea eb = inl (ap verdictOf (bad-matching (matching l r) (malformed15 l r (λ h. no-flag (sym eb ∙ may-enter r (isResource r) (h .2) (h .3))))))
-    go false b ea eb = inl (ap verdictOf (bad-matching (matching l r) (malformed15 l r (λ h. no-flag (sym ea ∙ may-enter l (isPattern l) (h .0) (h .1))))))
+    go true false ea eb =
+        inl (ap verdictOf
+        (bad-matching (matching l r) (malformed15 l r (λ h. no-flag (sym eb ∙ may-enter r (isResource r) (h .2) (h .3))))))
+    go false b ea eb = inl
+        (ap verdictOf (bad-matching (matching l r) (malformed15 l r (λ h. no-flag (sym ea ∙ may-enter l (isPattern l) (h .0) (h .1))))))
 
 -- each line is bad or asks
 bad-or-asks : (line : List ℕ) → (verdict line ≡ IsBad) ⊎ Question line

@@ -24,11 +24,13 @@ pub record Asks (line : List ℕ) (p : Pattern) (x : Path) : Type 0 where
 
 -- yes is written for a line exactly when it has a pattern and a path that the pattern matches
 abbrev pub YesExactly : Type 0
-YesExactly = (line : List ℕ) → (verdictLine (verdict line) ≡ codes "yes\n") ↔ ((p : Pattern) × (x : Path) × Asks line p x × (admits p x ≡ true))
+YesExactly = (line : List ℕ)
+    → (verdictLine (verdict line) ≡ codes "yes\n") ↔ ((p : Pattern) × (x : Path) × Asks line p x × (admits p x ≡ true))
 
 -- no is written for a line exactly when it has a pattern and a path that the pattern does not match
 abbrev pub NoExactly : Type 0
-NoExactly = (line : List ℕ) → (verdictLine (verdict line) ≡ codes "no\n") ↔ ((p : Pattern) × (x : Path) × Asks line p x × (admits p x ≡ false))
+NoExactly = (line : List ℕ)
+    → (verdictLine (verdict line) ≡ codes "no\n") ↔ ((p : Pattern) × (x : Path) × Asks line p x × (admits p x ≡ false))
 
 -- bad is written for any other line
 abbrev pub BadElse : Type 0

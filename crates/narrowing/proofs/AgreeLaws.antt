@@ -1,4 +1,4 @@
--- The search through the bytes of two descriptors (specs/Scan.antt) agrees with the search through their rules (specs/Escape.antt).
+-- The search through the bytes of two descriptors (specs/Code.antt) agrees with the search through their rules (specs/Escape.antt).
 -- Assumes nothing.
 use mathlib.Core.Path.{_≡_, refl, sym, ap, ap₂, _∙_}
 use mathlib.Core.Bool.{Bool, true, false, not, cond}
@@ -26,7 +26,7 @@ use Rattle.narrowing.specs.declared.search.Found.the-variants.{At, Nothi
 use Rattle.narrowing.specs.Escape.{Rule, covered, canTake, escapesWith, deepest, choose, least, isSome, orZero, fewestNames}
 use Rattle.narrowing.specs.Escape.{lowestMode, ruleAt, firstRule}
 use Rattle.narrowing.specs.Range.{most}
-use Rattle.narrowing.specs.Scan.{below, markedAt, lacksAt, foundAt, lowestFrom, lowestIn, zeros, escapeIn, orNext, firstIn}
+use Rattle.narrowing.specs.Code.{below, markedAt, lacksAt, foundAt, lowestFrom, lowestIn, zeros, escapeIn, orNext, firstIn}
 use Rattle.narrowing.specs.Narrow.{rulesIn, answerAt}
 use Rattle.narrowing.specs.Laws.{rulesOf}
 use Rattle.narrowing.proofs.RuleLaws.{ruleFor}

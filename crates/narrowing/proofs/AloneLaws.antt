@@ -1,4 +1,4 @@
--- Laws of a parent's grant that covers a child's grant alone (specs/Scan.antt): then no path escapes by the child's grant. Assumes nothing.
+-- Laws of a parent's grant that covers a child's grant alone (specs/Code.antt): then no path escapes by the child's grant. Assumes nothing.
 use mathlib.Core.Path.{_≡_, refl, sym, ap, _∙_, subst}
 use mathlib.Core.Bool.{Bool, true, false, not, cond, _||_}
 use mathlib.Core.List.{List}
@@ -20,8 +20,8 @@ use Rattle.narrowing.specs.declared.range.Range.{Range}
 use Rattle.narrowing.specs.declared.search.Found.the-variants.{Nothing}
 use Rattle.narrowing.specs.Escape.{least}
 use Rattle.narrowing.specs.Range.{inRange, most, textRange}
-use Rattle.narrowing.specs.Scan.{rowStart, rowEnd, rowMask, rowLevels, markedRows, lacksAt, lowestFrom, lowestIn, zeros, EscapeOf}
-use Rattle.narrowing.specs.Scan.{fullRange, rowCovers}
+use Rattle.narrowing.specs.Code.{rowStart, rowEnd, rowMask, rowLevels, markedRows, lacksAt, lowestFrom, lowestIn, zeros, EscapeOf}
+use Rattle.narrowing.specs.Code.{fullRange, rowCovers}
 use Rattle.narrowing.proofs.LeastLaws.{least-fails}
 use Rattle.narrowing.proofs.RangeLaws.{marked-at, or-mode}
 use Rattle.narrowing.proofs.TableLaws.{rows-length, escape-nothing}

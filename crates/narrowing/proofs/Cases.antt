@@ -27,7 +27,14 @@ use Rattle.narrowing.specs.Narrow.{rulesAt, compared, narrow}
 use Rattle.narrowing.specs.Cases.{MarkedNarrowing, MarkedCases}
 
 pub marked-narrowing : MarkedNarrowing
-unfolding bigEndian head encMode encModes encGrant encGrants encodePayload encAlgorithm encSignature encode part same hasAt bind guard many charsFrom charAt charLength second3 second4 headAt wideHead longHead numberAt spanAt spanIn isFay isTerminal hasForm fayForm terminalForm uuidForm isHex isNameChar allNameChars levels levelsOk patternOk isPattern kPayload kVersion kSignature kGrants kMetadata kIssuedAt kIssuerId kNotAfter kGrantorId kNotBefore kTerminalId kDescriptorId kSubjectFayId kKeyId kAlgorithm kSignatureValue kModes kConstraints kResourcePattern algorithms modeNames ed25519 ecdsaP256Sha256 mRead mWrite mExecute mConfigure before countAt stringAt kindAt isKind oneOf orAbsent optKindAt pairAt pairsAt optPairsAt algorithmAt hasMode modeAt modesAt grantAt moreAt grantsAt issueAt grantorAt idsAt payloadFits payloadAt signatureAt beforePayload beforeKeyId descriptorAt readOf levelsOf patternOf fewestNames lowestMode firstRule rulesAt compared narrow
+unfolding bigEndian head encMode encModes encGrant encGrants encodePayload encAlgorithm encSignature encode part same hasAt bind guard many
+    charsFrom charAt charLength second3 second4 headAt wideHead longHead numberAt spanAt spanIn isFay isTerminal hasForm fayForm
+    terminalForm uuidForm isHex isNameChar allNameChars levels levelsOk patternOk isPattern kPayload kVersion kSignature kGrants kMetadata
+    kIssuedAt kIssuerId kNotAfter kGrantorId kNotBefore kTerminalId kDescriptorId kSubjectFayId kKeyId kAlgorithm kSignatureValue kModes
+    kConstraints kResourcePattern algorithms modeNames ed25519 ecdsaP256Sha256 mRead mWrite mExecute mConfigure before countAt stringAt
+    kindAt isKind oneOf orAbsent optKindAt pairAt pairsAt optPairsAt algorithmAt hasMode modeAt modesAt grantAt moreAt grantsAt issueAt
+    grantorAt idsAt payloadFits payloadAt signatureAt beforePayload beforeKeyId descriptorAt readOf levelsOf patternOf fewestNames
+    lowestMode firstRule rulesAt compared narrow
 marked-narrowing = (refl, refl, refl, refl, refl, refl, refl)
 
 pub marked-cases : MarkedCases

@@ -13,11 +13,11 @@ pub mod RangeLaws
 pub mod MarkedLaws
 pub mod AgreeLaws
 pub mod MarkLaws
-pub mod CoverSteps
-pub mod SearchSteps
+pub mod CoverCode
+pub mod SearchCode
 pub mod TableLaws
 pub mod AloneLaws
 pub mod MarkingLaws
-pub mod DeepSteps
-pub mod NarrowSteps
+pub mod DeepCode
+pub mod NarrowCode
 pub mod OrderLaws

@@ -1,4 +1,4 @@
--- Laws of the masks that are marked of the grants of a parent (specs/Scan.antt): they tell which rules cover a pattern. Assumes nothing.
+-- Laws of the masks that are marked of the grants of a parent (specs/Code.antt): they tell which rules cover a pattern. Assumes nothing.
 use mathlib.Core.Path.{_≡_, refl, sym, ap, ap₂, _∙_}
 use mathlib.Core.Bool.{Bool, true, false, cond, _&&_, _||_, and-true, and-false, or-false}
 use mathlib.Core.List.{List, [], _∷_}
@@ -25,7 +25,7 @@ use Rattle.descriptor_laws.specs.Laws.{SeenAs, InTurn, no-more, one-more}
 use Rattle.narrowing.specs.declared.range.Range.{Range}
 use Rattle.narrowing.specs.Escape.{patternCovers, covered, canTake, deepest}
 use Rattle.narrowing.specs.Range.{inRange, most, textRange, marked}
-use Rattle.narrowing.specs.Scan.{below, markedAt, zeros}
+use Rattle.narrowing.specs.Code.{below, markedAt, zeros}
 use Rattle.narrowing.specs.Laws.{rulesOf}
 use Rattle.narrowing.proofs.RangeLaws.{range-covers, marked-length, marked-at, or-mode}
 
@@ -40,7 +40,8 @@ pub pattern-seen : {s t : List ℕ} {g : Grant} {v : GrantSeen} → SeenAs s t g
     → patternOf (g .pattern) ≡ patternWith t (below s (v .pattern))
 unfolding patternOf
 pattern-seen {g = g} f =
-    ap patternIn (pattern-levels (g .pattern) (f .allowed .pattern)) ∙ ap₂ (λ (u p : List ℕ). patternWith u p) (f .own) (sym (f .below))
+    ap patternIn (pattern-levels (g .pattern) (f .allowed .pattern))
+    ∙ ap₂ (λ (u p : List ℕ). patternWith u p) (f .sameTerminal) (sym (f .below))
 
 -- a name has a character
 name-some : (n : List ℕ) → isName n ≡ true → 1 ≤ length n

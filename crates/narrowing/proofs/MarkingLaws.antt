@@ -1,4 +1,4 @@
--- Laws of the loop that notes the rows of the table for one child grant (specs/Scan.antt), where a row that adds no mode is left out.
+-- Laws of the loop that notes the rows of the table for one child grant (specs/Code.antt), where a row that adds no mode is left out.
 -- Assumes nothing.
 use mathlib.Core.Path.{_≡_, refl, sym, ap, ap₂, _∙_}
 use mathlib.Core.Bool.{Bool, true, false, not, cond, _&&_, _||_, or-false}
@@ -14,8 +14,8 @@ use Rattle.descriptor.specs.Reader.{hasMode}
 use Rattle.narrowing.specs.declared.range.Range.{Range}
 use Rattle.narrowing.specs.declared.search.Found.the-variants.{Nothing}
 use Rattle.narrowing.specs.Range.{inRange, most, textRange, marked}
-use Rattle.narrowing.specs.Scan.{rowStart, rowEnd, rowMask, rowLevels, markedRows, rowMarked, lacksAt, lowestFrom, lowestIn}
-use Rattle.narrowing.specs.Scan.{fullRange, fullModes}
+use Rattle.narrowing.specs.Code.{rowStart, rowEnd, rowMask, rowLevels, markedRows, rowMarked, lacksAt, lowestFrom, lowestIn}
+use Rattle.narrowing.specs.Code.{fullRange, fullModes}
 use Rattle.narrowing.proofs.LeastLaws.{least-same}
 use Rattle.narrowing.proofs.RangeLaws.{marked-length, marked-at, or-mode, and-mode}
 use Rattle.narrowing.proofs.MarkedLaws.{or-where, zero-lacks}

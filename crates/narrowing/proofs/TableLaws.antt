@@ -1,4 +1,4 @@
--- Laws of the table of the parent's grants (specs/Scan.antt): how it is filled, row by row, and how its rows are marked. Assumes nothing.
+-- Laws of the table of the parent's grants (specs/Code.antt): how it is filled, row by row, and how its rows are marked. Assumes nothing.
 use mathlib.Core.Path.{_≡_, refl, ap, _∙_, subst}
 use mathlib.Core.Bool.{Bool, true, false, cond}
 use mathlib.Core.List.{List}
@@ -18,10 +18,10 @@ use Rattle.descriptor.specs.Reader.{GrantSeen, grantAt}
 use Rattle.descriptor.proofs.GrantBounds.{pattern-room}
 use Rattle.narrowing.specs.declared.search.Found.the-variants.{Nothing}
 use Rattle.narrowing.specs.Range.{textRange, marked}
-use Rattle.narrowing.specs.Scan.{markedAt, rowStart, rowEnd, rowMask, rowLevels, markedRows, InPlace, Filled, lowestFrom, lowestIn}
-use Rattle.narrowing.specs.Scan.{zeros, escapeIn, EscapeOf}
+use Rattle.narrowing.specs.Code.{markedAt, rowStart, rowEnd, rowMask, rowLevels, markedRows, InPlace, Filled, lowestFrom, lowestIn}
+use Rattle.narrowing.specs.Code.{zeros, escapeIn, EscapeOf}
 use Rattle.narrowing.proofs.RangeLaws.{marked-length}
-use Rattle.narrowing.proofs.SearchSteps.{marked-next, marked-stop, marked-done}
+use Rattle.narrowing.proofs.SearchCode.{marked-next, marked-stop, marked-done}
 
 -- ---- marking the rows
 
@@ -130,7 +130,8 @@ written-marked s t p d i m start len l =
 module _ (s t : List ℕ) (i left here count at : ℕ) (b : Begun s t i left here count at) where
   -- one row more
   pub begun-next : {g : GrantSeen} {next : ℕ} → 0 < left → got g next ≡ grantAt s here
-      → Begun s (written t i (g .pattern .start + levelsPlace) (g .pattern .start + g .pattern .len) (g .mask)) (i + 1) (left - 1) next count at
+      → Begun s (written t i (g .pattern .start + levelsPlace) (g .pattern .start + g .pattern .len) (g .mask)) (i + 1)
+      (left - 1) next count at
   begun-next {g} {next} h e =
       let room : (levelsPlace ≤ g .pattern .len) × (g .pattern .start + g .pattern .len ≤ length s) = pattern-room s here e in
       let fits : 3 * i + 2 < length t = omega (arith, b .free) in

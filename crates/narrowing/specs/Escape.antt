@@ -67,7 +67,7 @@ fewestNames qs g m = least (escapesWith qs g m) 0 (2 + deepest qs)
 
 -- the lowest mode in which a path escapes by the rule
 unfoldable pub lowestMode : List Rule → Rule → Option ℕ
-lowestMode qs g = least (λ m. isSome (fewestNames qs g m)) 0 4
+lowestMode qs g = least (λ m. isSome (fewestNames qs g m)) 0 modeCount
 
 -- the rule at a place; past the end one that admits nothing
 abbrev pub ruleAt : List Rule → ℕ → Rule

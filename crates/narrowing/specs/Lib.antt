@@ -1,7 +1,7 @@
 pub mod Meaning
 pub mod Escape
 pub mod Range
-pub mod Scan
+pub mod Code
 pub mod Narrow
 pub mod Promises
 pub mod Laws

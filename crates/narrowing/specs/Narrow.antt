@@ -1,12 +1,12 @@
 -- Narrowing of a child under a parent, in document 01's order, from the bytes of both. These definitions compute.
 -- A reader of the promises does not need this page.
-use mathlib.Core.Bool.{Bool, true, false, cond, _&&_}
+use mathlib.Core.Bool.{Bool, cond, _&&_}
 use mathlib.Core.List.{List, [], _∷_}
 use mathlib.Core.Option.{Option, none, some}
-use Prim.Native.Nat.{ℕ, zero, suc, _+_}
+use Prim.Native.Nat.{ℕ, zero, suc}
 use lib.Dec.{eqb, leb}
 use Rattle.octets.specs.Bytes.{part}
-use Rattle.exact.specs.Reads.{Got, got, refused}
+use Rattle.exact.specs.Reads.{got, refused}
 use Rattle.resource.specs.Text.{patternOf}
 use Rattle.descriptor.specs.Reader.{GrantSeen, grantAt, Seen, Answer, read, structure, validity, readOf}
 use Rattle.narrowing.specs.declared.Narrowing.{Narrowing}

@@ -12,7 +12,7 @@ use Rattle.entries.specs.Model.{pairCount}
 use Rattle.descriptor.specs.Model.{Grant, Descriptor, encode}
 use Rattle.descriptor.specs.Allowed.{Allowed}
 use Rattle.descriptor.specs.Reader.{readOf}
-use Rattle.descriptor.specs.Answer.{readingOf}
+use Rattle.descriptor.specs.Code.{readingOf}
 use Rattle.descriptor.specs.Numbers.{numbersOf as readNumbers}
 use Rattle.narrowing.specs.declared.NarrowingNumbers.{NarrowingNumbers}
 use Rattle.narrowing.specs.Meaning.{Admits, Escapes, takenBy}

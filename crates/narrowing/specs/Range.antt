@@ -1,8 +1,8 @@
 -- For which numbers of names one pattern covers another, as a range that the code reads off the two texts, and the masks that are marked
 -- for each number. A reader of the promises does not need this page.
-use mathlib.Core.Bool.{Bool, true, false, cond, _&&_}
+use mathlib.Core.Bool.{Bool, cond, _&&_}
 use mathlib.Core.List.{List, [], _∷_}
-use Prim.Native.Nat.{ℕ, zero, suc, _+_}
+use Prim.Native.Nat.{ℕ, suc, _+_}
 use lib.Dec.{leb, ltb}
 use lib.Bits.{bitOr}
 use Rattle.octets.specs.Bytes.{same}

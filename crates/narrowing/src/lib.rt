@@ -11,7 +11,7 @@ ghost use Prim.Native.Nat.{_+_, _≤_};
 ghost use lib.ListN.{length};
 ghost use Rattle.resource.specs.Identifier.{terminalSize};
 ghost use Rattle.narrowing.specs.Narrow.{narrow as narrowed};
-ghost use Rattle.narrowing.specs.Scan.{comparedIn};
+ghost use Rattle.narrowing.specs.Code.{comparedIn};
 
 // What narrowing answers: 0; 21, the parent doesn't read; 1 or 2, the child; 19, a constraint pair in either; 18, the child's period is not
 // within the parent's; 20, some path escapes, with the grant's place, the mode and the levels.
@@ -45,10 +45,10 @@ fn compared(s: &[u8], v: Fields, t: &[u8], w: Fields) -> Narrowing
     if w.constraints != 0 {
         return Narrowing::Constrained;
     }
-    if w.before < v.before {
+    if w.not_before < v.not_before {
         return Narrowing::Period;
     }
-    if v.after < w.after {
+    if v.not_after < w.not_after {
         return Narrowing::Period;
     }
     let a = v.terminal;

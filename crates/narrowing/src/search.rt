@@ -3,6 +3,7 @@ use crate::Narrowing;
 use crate::range::cover;
 use crate::range::mark;
 use descriptor::GrantRead;
+use descriptor::sizes::MODE_COUNT;
 use resource::is_deep;
 use resource::sizes::LEVELS_PLACE;
 ghost use mathlib.Core.Path.{_≡_};
@@ -12,10 +13,11 @@ ghost use lib.ListN.{length};
 ghost use Rattle.resource.specs.Level.{levels};
 ghost use Rattle.resource.specs.Pattern.{endsDeep};
 ghost use Rattle.resource.specs.Text.{levelsOf};
+ghost use Rattle.descriptor.specs.Modes.{modeCount};
 ghost use Rattle.descriptor.specs.Reader.{hasMode};
 ghost use Rattle.narrowing.specs.Escape.{least, orLimit};
 ghost use Rattle.narrowing.specs.Range.{range, most};
-ghost use Rattle.narrowing.specs.Scan.{rowStart, rowEnd, InPlace, Filled, lacksAt, lowestFrom, EscapeOf, fullRange, rowCovers, AloneOf, fullModes, rowMarked, CoveredOf, MarkedOf, FirstOf};
+ghost use Rattle.narrowing.specs.Code.{rowStart, rowEnd, InPlace, Filled, lacksAt, lowestFrom, EscapeOf, fullRange, rowCovers, AloneOf, fullModes, rowMarked, CoveredOf, MarkedOf, FirstOf};
 
 // A mode and a number of names.
 pub(crate) enum Found {
@@ -23,7 +25,7 @@ pub(crate) enum Found {
     Nothing,
 }
 
-// Reads the `count` grants from `at` on into a table with three numbers a row: where the grant's levels begin, where they end, and the
+// ReadAs the `count` grants from `at` on into a table with three numbers a row: where the grant's levels begin, where they end, and the
 // mask. Answers the number of rows.
 pub(crate) fn fill(parent: &[u8], at: usize, count: u64, table: &mut [usize]) -> usize
     requires { ⌜ 3 * count ≤ length (now table) ⌝ }
@@ -53,7 +55,7 @@ pub(crate) fn fill(parent: &[u8], at: usize, count: u64, table: &mut [usize]) ->
 
 // Whether the mask lacks the mode.
 fn lacks(mask: u64, mode: u64) -> bool
-    requires { ⌜ mode < 4 ⌝ }
+    requires { ⌜ mode < modeCount ⌝ }
     ensures { λ r. ⌜ r ≡ not (hasMode mask mode) ⌝ }
 {
     match mode {
@@ -66,7 +68,7 @@ fn lacks(mask: u64, mode: u64) -> bool
 
 // The least number from `from` on and below `to` at which the mask marked lacks the mode; `to` where there is none.
 fn least_lacking(d: &[u64], mode: u64, from: usize, to: usize) -> usize
-    requires { ⌜ (mode < 4) × (from ≤ to) × (to ≤ length (now d)) ⌝ }
+    requires { ⌜ (mode < modeCount) × (from ≤ to) × (to ≤ length (now d)) ⌝ }
     ensures { λ r. ⌜ r ≡ orLimit (least (lacksAt (now (d .entry)) mode) from (to - from)) to ⌝ }
 {
     let mut k = from;
@@ -99,10 +101,10 @@ fn ends_deep(p: &[u8]) -> bool
 // The lowest of the mask's modes in which a path escapes, with the fewest names from `from` on and below `to`.
 fn lowest(d: &[u64], mask: u64, from: usize, to: usize) -> Found
     requires { ⌜ (from ≤ to) × (to ≤ length (now d)) ⌝ }
-    ensures { λ r. ⌜ r ≡ lowestFrom (now (d .entry)) mask from to 0 4 ⌝ }
+    ensures { λ r. ⌜ r ≡ lowestFrom (now (d .entry)) mask from to 0 modeCount ⌝ }
 {
     let mut mode: u64 = 0;
-    while mode < 4 {
+    while mode < MODE_COUNT {
         if !lacks(mask, mode) {
             let k = least_lacking(d, mode, from, to);
             if k < to {

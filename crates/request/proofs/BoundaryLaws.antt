@@ -31,7 +31,8 @@ module _ (s : List ℕ) (q : Request) (d : Descriptor) (u : Under s (q .id) (hel
   -- Where a step of the number n fails and those before it pass, the answer is n.
   answered : (n : ℕ) → (n ≡ 0 → ⊥) → failsBy answerOf n (stepsFor q (held d)) ≡ true → numbersOf (decisionOf s q) ≡ refusal n
   answered n other e =
-      let z : numbersOf (decisionOf s q) .answer ≡ n = ap answerOf (decided-exactly s q (held d) u) ∙ failed-by answerOf n (stepsFor q (held d)) (grantedFor q (held d)) e in
+      let z : numbersOf (decisionOf s q) .answer ≡ n =
+      ap answerOf (decided-exactly s q (held d) u) ∙ failed-by answerOf n (stepsFor q (held d)) (grantedFor q (held d)) e in
       refusals-zero s q (λ o. other (sym z ∙ o)) ∙ ap refusal z
 
   module _ (w : formed q ≡ true) (l : isListed (q .revoked) (q .id) ≡ false) where
@@ -43,7 +44,8 @@ module _ (s : List ℕ) (q : Request) (d : Descriptor) (u : Under s (q .id) (hel
     too-late : d .payload .notAfter ≤ q .clock → numbersOf (decisionOf s q) ≡ refusal 10
     too-late h =
         let b : d .payload .notBefore < d .payload .notAfter = u .2 .allowed .formed .payload .lasts in
-        answered 10 (λ e. omega arith) (rw (w, l, le-leb (d .payload .notBefore) (q .clock) (omega arith), le-ltb (q .clock) (d .payload .notAfter) h))
+        answered 10 (λ e. omega arith)
+        (rw (w, l, le-leb (d .payload .notBefore) (q .clock) (omega arith), le-ltb (q .clock) (d .payload .notAfter) h))
 
 -- `BeginBoundary`.
 pub begin-boundary : BeginBoundary

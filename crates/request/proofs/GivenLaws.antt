@@ -26,7 +26,8 @@ given : (s : List ℕ) (q : Request) (x : Stored) → Under s (q .id) x → AllP
 given s q badImage u a = absurd (false≢true (passed-by answerOf 16 (stepsFor q badImage) a))
 given s q notHeld u a = absurd (false≢true (passed-by answerOf 7 (stepsFor q notHeld) a))
 given s q (held d) u a =
-    let w = first-serves (d .payload .grants) (q .mode) (pathOf (q .resource)) (and-left _ true (passed-by answerOf 13 (stepsFor q (held d)) a)) in
+    let w = first-serves (d .payload .grants) (q .mode) (pathOf (q .resource))
+    (and-left _ true (passed-by answerOf 13 (stepsFor q (held d)) a)) in
     (d, u, (w .grant, record { place = w .place; there = w .there; serves = w .serves; first = w .first }, w .mine), refl)
 
 -- `GrantedGives`.

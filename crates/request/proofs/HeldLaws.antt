@@ -1,4 +1,4 @@
--- What a request is decided on: the survey of the image, and the body that a sound image holds (specs/Decision.antt). Assumes nothing.
+-- What a request is decided on: the check of the image, and the body that a sound image holds (specs/Decision.antt). Assumes nothing.
 use mathlib.Core.Path.{_≡_, refl, sym, ap, _∙_}
 use mathlib.Core.Bool.{Bool, true, false}
 use mathlib.Core.List.{List, []}
@@ -12,13 +12,13 @@ use Rattle.descriptor.specs.declared.Reading.the-variants.{Read}
 use Rattle.steps.specs.Order.{orElse, inOrder}
 use Rattle.image.specs.declared.Held.{Held}
 use Rattle.image.specs.declared.Held.the-variants.{Missing, Body}
-use Rattle.image.specs.declared.Survey.{Survey}
-use Rattle.image.specs.declared.Survey.the-variants.{Sound}
+use Rattle.image.specs.declared.ImageCheck.{ImageCheck}
+use Rattle.image.specs.declared.ImageCheck.the-variants.{Sound}
 use Rattle.image.specs.Image.{Row, reading, bodyWith}
 use Rattle.image.specs.Check.{isSound, isHeld}
-use Rattle.image.specs.Edition1.{imageOf, Holds, surveyOf}
+use Rattle.image.specs.Edition1.{imageOf, Holds, checkOf}
 use Rattle.image.specs.Laws.{HeldIs}
-use Rattle.image.proofs.Laws.{survey-tells}
+use Rattle.image.proofs.Laws.{check-tells}
 use Rattle.request.specs.declared.Decision.{Decision}
 use Rattle.request.specs.declared.Decision.the-variants as answers
 use Rattle.request.specs.declared.search.Matched.{Matched}
@@ -26,18 +26,18 @@ use Rattle.request.specs.declared.search.Matched.the-variants.{Nothing}
 use Rattle.request.specs.Request.{Request, wellFormed}
 use Rattle.request.specs.Decision.{Facts, stepsBy, grantedBy, factsOf, matchedOn, factsIn, matchedIn, stepsOf, decisionOf}
 
--- ---- what is decided on a survey
+-- ---- what is decided on a check
 
 -- The decision by the steps: whether the image is sound and holds the id, the facts of the descriptor, and the first grant that serves.
 abbrev pub decidedBy : Request → Bool → Bool → Facts → Matched → Decision
 decidedBy q sound held x m = inOrder (stepsBy q sound held x m) (grantedBy q x m)
 
--- The decision of a request of which the survey of the image is v.
-abbrev pub decidedIn : List ℕ → Request → Survey → Decision
+-- The decision of a request of which the check of the image is v.
+abbrev pub decidedIn : List ℕ → Request → ImageCheck → Decision
 decidedIn s q v = decidedBy q (isSound v) (isHeld v) (factsIn s v) (matchedIn s q v)
 
--- The decision is that on the survey of the image.
-pub decided-in : (s : List ℕ) (q : Request) (v : Survey) → surveyOf s (q .id) ≡ v → decisionOf s q ≡ decidedIn s q v
+-- The decision is that on the check of the image.
+pub decided-in : (s : List ℕ) (q : Request) (v : ImageCheck) → checkOf s (q .id) ≡ v → decisionOf s q ≡ decidedIn s q v
 unfolding decisionOf stepsOf
 decided-in s q v e = ap (decidedIn s q) e
 
@@ -62,7 +62,7 @@ pub decided-on-body : (s : List ℕ) (q : Request) (bs : List Row) (b : List ℕ
     → bodyWith (q .id) bs ≡ some b → reading b ≡ Read f
     → decisionOf s q ≡ heldBy q b f
 decided-on-body s q bs b f h e r =
-    let w = survey-tells s (q .id) bs h in
+    let w = check-tells s (q .id) bs h in
     decided-in s q (Sound (length bs) (length (imageOf bs)) (w .0)) (w .1) ∙ go (w .0) (w .2)
   where
     go : (k : Held) → HeldIs s (q .id) bs k → decidedIn s q (Sound (length bs) (length (imageOf bs)) k) ≡ heldBy q b f
@@ -75,12 +75,12 @@ decided-on-body s q bs b f h e r =
 
 -- The decision on a sound image that does not hold the id.
 abbrev pub missingBy : Request → Decision
-missingBy q = decidedBy q true false (record { before = 0; after = 0; fay = []; terminal = [] }) Nothing
+missingBy q = decidedBy q true false (record { notBefore = 0; notAfter = 0; fay = []; terminal = [] }) Nothing
 
 -- A request for an id that a sound image does not hold is decided without a body.
 pub decided-on-none : (s : List ℕ) (q : Request) (bs : List Row) → Holds s bs → bodyWith (q .id) bs ≡ none → decisionOf s q ≡ missingBy q
 decided-on-none s q bs h e =
-    let w = survey-tells s (q .id) bs h in
+    let w = check-tells s (q .id) bs h in
     decided-in s q (Sound (length bs) (length (imageOf bs)) (w .0)) (w .1) ∙ go (w .0) (w .2)
   where
     go : (k : Held) → HeldIs s (q .id) bs k → decidedIn s q (Sound (length bs) (length (imageOf bs)) k) ≡ missingBy q

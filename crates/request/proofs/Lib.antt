@@ -1,7 +1,7 @@
-pub mod SearchLaws
-pub mod ArgumentLaws
-pub mod DecideLaws
-pub mod FitLaws
+pub mod SearchCode
+pub mod ArgumentCode
+pub mod DecideCode
+pub mod BodyCode
 pub mod ListedLaws
 pub mod HeldLaws
 pub mod GrantLaws

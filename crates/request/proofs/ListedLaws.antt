@@ -7,7 +7,7 @@ use native.Mathlib.Omega.{arith}
 use native.Mathlib.Decide.{decLe}
 use lib.ListN.{length}
 use Rattle.octets.specs.Bytes.{part, same}
-use Rattle.image.specs.Layout.{idSize}
+use Rattle.descriptor.specs.Allowed.{idSize}
 use Rattle.octets.proofs.SameLaws.{same-equal, equal-same}
 use Rattle.request.specs.Request.{listedAmong, isListed}
 use Rattle.request.specs.Promises.{ListedExactly}
@@ -38,7 +38,8 @@ is-listed revoked id (suc n) i h e = go (same (part revoked (idSize * n) idSize)
     go false t k = elim (decLe n i) [
       | yes l ↦
           (let here : i ≡ n = omega arith in
-          absurd (false≢true (sym t ∙ equal-same (part revoked (idSize * n) idSize) id (ap (λ (j : ℕ). part revoked (idSize * j) idSize) (sym here) ∙ e))))
+          absurd (false≢true (sym t
+          ∙ equal-same (part revoked (idSize * n) idSize) id (ap (λ (j : ℕ). part revoked (idSize * j) idSize) (sym here) ∙ e))))
       | no l ↦ k (omega arith) e
     ]
 

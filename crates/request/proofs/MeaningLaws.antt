@@ -12,7 +12,7 @@ use Rattle.descriptor.specs.declared.Reading.the-variants.{Read}
 use Rattle.descriptor.specs.Model.{Descriptor, encode}
 use Rattle.descriptor.specs.Allowed.{Formed, Allowed}
 use Rattle.descriptor.specs.View.{descriptorView}
-use Rattle.descriptor.specs.Answer.{fieldsOf, readingOf}
+use Rattle.descriptor.specs.Code.{fieldsOf, readingOf}
 use Rattle.descriptor_laws.proofs.Laws.{reads-exactly, seen-handed}
 use Rattle.image.specs.Image.{Row, reading, bodyWith}
 use Rattle.image.specs.Edition1.{Holds}
@@ -21,7 +21,7 @@ use Rattle.request.specs.Request.{Request, wellFormed}
 use Rattle.request.specs.Decision.{Facts, factsOf, matchedOn, decisionOf}
 use Rattle.request.specs.Meaning.{firstServing, factsOfDescriptor, decidedFor}
 use Rattle.request.proofs.HeldLaws.{decidedBy, malformed-first, decided-on-body}
-use Rattle.request.proofs.ArgumentLaws.{formed-mode, formed-resource}
+use Rattle.request.proofs.ArgumentCode.{formed-mode, formed-resource}
 use Rattle.request.proofs.GrantLaws.{matched-agree}
 
 -- What well-formed arguments say of the mode and the resource id.
@@ -36,7 +36,7 @@ reading-encode d b o = ap readingOf (reads-exactly (encode d) b (descriptorView 
 -- The facts that are read of the encoding of a formed descriptor are the descriptor's.
 facts-agree : (d : Descriptor) → Formed d → factsOf (encode d) (fieldsOf (descriptorView 0 d)) ≡ factsOfDescriptor d
 facts-agree d q =
-    ap₂ (λ (f t : List ℕ). record { before = d .payload .notBefore; after = d .payload .notAfter; fay = f; terminal = t })
+    ap₂ (λ (f t : List ℕ). record { notBefore = d .payload .notBefore; notAfter = d .payload .notAfter; fay = f; terminal = t })
     (seen-handed d q .fay) (seen-handed d q .terminal)
 
 -- A request for a descriptor that a sound image holds is decided on that descriptor, with the meaning of matching.

@@ -15,9 +15,9 @@ use Rattle.steps.specs.Key.{isVerdict, isThat, keyOpen}
 use Rattle.steps.specs.Laws.{mapped, passesBy}
 use Rattle.steps.proofs.Laws.{order-mapped, passed-end, same-end, passed-by, not-by}
 use Rattle.steps.proofs.Promises as order
-use Rattle.image.specs.declared.Survey.the-variants.{Unsound}
-use Rattle.image.specs.Edition1.{surveyOf}
-use Rattle.image.proofs.Laws.{editions-surveyed}
+use Rattle.image.specs.declared.ImageCheck.the-variants.{Unsound}
+use Rattle.image.specs.Edition1.{checkOf}
+use Rattle.image.proofs.Laws.{editions-checked}
 use Rattle.request.specs.declared.Decision.{Decision}
 use Rattle.request.specs.declared.Decision.the-variants as answers
 use Rattle.request.specs.declared.DecisionNumbers.{DecisionNumbers}
@@ -46,15 +46,15 @@ by-numbers : (q : Request) (sound there : Bool) (x : Facts) (m : Matched)
     → numbersOf (decidedBy q sound there x m) ≡ inOrder (mapped numbersOf (stepsBy q sound there x m)) (numbersOf (grantedBy q x m))
 by-numbers q sound there x m = order-mapped numbersOf (stepsBy q sound there x m) (grantedBy q x m)
 
--- An image that a survey calls unsound.
-unsound-numbers : (s : List ℕ) (q : Request) → surveyOf s (q .id) ≡ Unsound → numbersOf (decisionOf s q) ≡ answerFor q badImage
+-- An image that a check calls unsound.
+unsound-numbers : (s : List ℕ) (q : Request) → checkOf s (q .id) ≡ Unsound → numbersOf (decisionOf s q) ≡ answerFor q badImage
 unfolding inOrder orElse stepsBy laterSteps wellFormed isVerdict resourceOk
 unsound-numbers s q e = ap numbersOf (decided-in s q Unsound e) ∙ by-numbers q false false (factsIn s Unsound) Nothing
 
 -- A sound image that does not hold the id.
 missing-numbers : (q : Request) → numbersOf (missingBy q) ≡ answerFor q notHeld
 unfolding inOrder orElse stepsBy laterSteps wellFormed isVerdict resourceOk
-missing-numbers q = by-numbers q true false (record { before = 0; after = 0; fay = []; terminal = [] }) Nothing
+missing-numbers q = by-numbers q true false (record { notBefore = 0; notAfter = 0; fay = []; terminal = [] }) Nothing
 
 -- What is granted on a descriptor, where some grant of it serves.
 granted-numbers : (q : Request) (d : Descriptor) → Allowed d → someServes (d .payload .grants) (q .mode) (pathOf (q .resource)) ≡ true
@@ -70,7 +70,8 @@ granted-numbers q d a e =
 
 -- The steps on a descriptor that is held, with their numbers.
 held-steps : (q : Request) (d : Descriptor)
-    → mapped numbersOf (stepsBy q true true (factsOfDescriptor d) (firstServing (d .payload .grants) (q .mode) (pathOf (q .resource)) 0)) ≡ stepsFor q (held d)
+    → mapped numbersOf (stepsBy q true true (factsOfDescriptor d) (firstServing (d .payload .grants) (q .mode) (pathOf (q .resource)) 0))
+    ≡ stepsFor q (held d)
 unfolding stepsBy laterSteps revocationSteps descriptorSteps keySteps wellFormed isVerdict isThat keyOpen resourceOk
 held-steps q d = rw (some-found (d .payload .grants) (q .mode) (pathOf (q .resource)) 0)
 
@@ -82,7 +83,8 @@ held-numbers q d a =
     let r : DecisionNumbers = numbersOf (grantedBy q (factsOfDescriptor d) m) in
     by-numbers q true true (factsOfDescriptor d) m
     ∙ ap (λ (steps : List (Step DecisionNumbers)). inOrder steps r) (held-steps q d)
-    ∙ same-end (stepsFor q (held d)) r (grantedFor q (held d)) (λ p. granted-numbers q d a (and-left _ true (passed-by answerOf 13 (stepsFor q (held d)) p)))
+    ∙ same-end (stepsFor q (held d)) r (grantedFor q (held d))
+    (λ p. granted-numbers q d a (and-left _ true (passed-by answerOf 13 (stepsFor q (held d)) p)))
 
 -- `DecidedExactly`.
 pub decided-exactly : DecidedExactly
@@ -138,7 +140,8 @@ refusals-zero s q n = refused-zero (decisionOf s q) n
 pub refused-exactly : RefusedExactly
 refused-exactly s q x n u other =
     let e = decided-exactly s q x u in
-    let k = order.fail-exactly DecisionNumbers (stepsFor q x) (grantedFor q x) (refusal n) (λ f. other (ap answerOf f ∙ granted-zero q x)) in (
+    let k = order.fail-exactly DecisionNumbers (stepsFor q x) (grantedFor q x) (refusal n)
+    (λ f. other (ap answerOf f ∙ granted-zero q x)) in (
       λ z. k .0 (sym e ∙ refusals-zero s q (λ f. other (sym z ∙ f)) ∙ ap refusal z),
       λ f. ap answerOf (e ∙ k .1 f),
     )
@@ -147,7 +150,8 @@ refused-exactly s q x n u other =
 pub editions-refused : EditionsRefused
 unfolding inOrder orElse
 editions-refused s q other =
-    let e = unsound-numbers s q (editions-surveyed s (q .id) other) in (
-      λ z. false≢true (passed-by answerOf 16 (stepsFor q badImage) (not-by answerOf 0 (stepsFor q badImage) (refusal 0) (never-zero q badImage) (sym (ap answerOf e) ∙ z) .0)),
+    let e = unsound-numbers s q (editions-checked s (q .id) other) in (
+      λ z. false≢true (passed-by answerOf 16 (stepsFor q badImage)
+          (not-by answerOf 0 (stepsFor q badImage) (refusal 0) (never-zero q badImage) (sym (ap answerOf e) ∙ z) .0)),
       λ f. e ∙ rw f,
     )

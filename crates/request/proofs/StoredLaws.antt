@@ -13,8 +13,7 @@ use Rattle.image.specs.declared.Held.the-variants.{Missing, Body}
 use Rattle.image.specs.Image.{Row, bodyWith}
 use Rattle.image.specs.Edition1.{Holds}
 use Rattle.image.specs.Laws.{HeldIs}
-use Rattle.image.proofs.Laws.{survey-tells}
-use Rattle.submission.specs.declared.Submission.the-variants as submission
+use Rattle.image.proofs.Laws.{check-tells}
 use Rattle.submission.specs.Submission.{submitted, afterOf, numberOf}
 use Rattle.submission.proofs.Laws.{done-means, after-holds}
 use Rattle.submission.proofs.Promises.{refusal-keeps}
@@ -45,7 +44,7 @@ stored-decided d b clock verdict window bytes a z =
 -- Two images in which the id finds the same body decide a request for it alike.
 found-alike : (s t : List ℕ) (q : Request) (bs cs : List Row) → Holds s bs → Holds t cs → bodyWith (q .id) cs ≡ bodyWith (q .id) bs
     → decisionOf t q ≡ decisionOf s q
-found-alike s t q bs cs h k e = let w = survey-tells s (q .id) bs h in go (w .0) (w .2)
+found-alike s t q bs cs h k e = let w = check-tells s (q .id) bs h in go (w .0) (w .2)
   where
     go : (x : Held) → HeldIs s (q .id) bs x → decisionOf t q ≡ decisionOf s q
     go Missing i = decided-on-none t q cs k (e ∙ i) ∙ sym (decided-on-none s q bs h i)

@@ -9,12 +9,12 @@ use Rattle.descriptor.specs.Model.{Descriptor, encode}
 use Rattle.descriptor.specs.Allowed.{Allowed}
 use Rattle.image.specs.declared.Held.{Held}
 use Rattle.image.specs.declared.Held.the-variants.{Missing, Body}
-use Rattle.image.specs.declared.Survey.{Survey}
-use Rattle.image.specs.declared.Survey.the-variants.{Sound, Unsound}
+use Rattle.image.specs.declared.ImageCheck.{ImageCheck}
+use Rattle.image.specs.declared.ImageCheck.the-variants.{Sound, Unsound}
 use Rattle.image.specs.Image.{Row, bodyWith, isRead}
-use Rattle.image.specs.Edition1.{Holds, RowsOk, surveyOf, rowsHeld}
+use Rattle.image.specs.Edition1.{Holds, RowsOk, checkOf, rowsHeld}
 use Rattle.image.specs.Laws.{HeldBody, HeldIs}
-use Rattle.image.proofs.Laws.{body-read, encoding-read, body-with-exactly, survey-tells, survey-says, survey-unsound}
+use Rattle.image.proofs.Laws.{body-read, encoding-read, body-with-exactly, check-tells, check-says, check-unsound}
 use Rattle.octets.proofs.PartLaws.{part-bytes}
 use Rattle.octets.proofs.OptionLaws.{none-some}
 use Rattle.request.specs.Promises.{Stored, badImage, notHeld, held, Among, Under, AllStored}
@@ -23,7 +23,8 @@ use Rattle.request.specs.Promises.{Stored, badImage, notHeld, held, Amon
 pub held-found : (s id : List ℕ) (d : Descriptor) (u : Under s id (held d)) → bodyWith id (u .0) ≡ some (encode d)
 held-found s id d u =
     let a : Among (u .0) id d = u .2 in
-    body-with-exactly id (u .0) (encode d) (u .1 .rows) .1 (encoding-read d (a .bytes) (a .allowed) .3 ∙ a .named, (a .place, a .inside, a .there))
+    body-with-exactly id (u .0) (encode d) (u .1 .rows) .1
+    (encoding-read d (a .bytes) (a .allowed) .3 ∙ a .named, (a .place, a .inside, a .there))
 
 -- A descriptor whose encoding is the body with an id is held under it.
 pub found-among : (id : List ℕ) (bs : List Row) (d : Descriptor) → RowsOk bs → Allowed d → AreBytes (encode d)
@@ -42,15 +43,15 @@ body-among s id bs at len f b o h =
 
 -- Where no descriptor with the id is held, no body has it.
 pub none-found : (s id : List ℕ) (u : Under s id notHeld) → bodyWith id (u .0) ≡ none
-none-found s id u = let w = survey-tells s id (u .0) (u .1) in go (w .0) (w .2)
+none-found s id u = let w = check-tells s id (u .0) (u .1) in go (w .0) (w .2)
   where
     go : (k : Held) → HeldIs s id (u .0) k → bodyWith id (u .0) ≡ none
     go Missing i = i
     go (Body at len f) i = let r = body-among s id (u .0) at len f (u .2) (u .1 .rows) i in absurd (u .3 (r .0) (r .1))
 
 -- Bytes that are no image are called unsound.
-pub unsound : (s id : List ℕ) → Under s id badImage → surveyOf s id ≡ Unsound
-unsound s id u = survey-unsound s id (u .0) .1 (u .1)
+pub unsound : (s id : List ℕ) → Under s id badImage → checkOf s id ≡ Unsound
+unsound s id u = check-unsound s id (u .0) .1 (u .1)
 
 -- Where no body has the id, no descriptor with it is held.
 none-among : (s id : List ℕ) (bs : List Row) → Holds s bs → bodyWith id bs ≡ none → (d : Descriptor) → Among bs id d → ⊥
@@ -58,14 +59,14 @@ none-among s id bs h e d a = none-some (encode d) (sym e ∙ held-found s id d (
 
 -- `AllStored`.
 pub all-stored : AllStored
-all-stored s id b = go (surveyOf s id) refl
+all-stored s id b = go (checkOf s id) refl
   where
-    go : (v : Survey) → surveyOf s id ≡ v → (x : Stored) × Under s id x
-    go Unsound e = (badImage, (b, survey-unsound s id b .0 e))
+    go : (v : ImageCheck) → checkOf s id ≡ v → (x : Stored) × Under s id x
+    go Unsound e = (badImage, (b, check-unsound s id b .0 e))
     go (Sound n end Missing) e =
-        let w = survey-says s id b n end Missing e in
+        let w = check-says s id b n end Missing e in
         (notHeld, (rowsHeld s, w .holds, b, none-among s id (rowsHeld s) (w .holds) (w .held)))
     go (Sound n end (Body at len f)) e =
-        let w = survey-says s id b n end (Body at len f) e in
+        let w = check-says s id b n end (Body at len f) e in
         let r = body-among s id (rowsHeld s) at len f b (w .holds .rows) (w .held) in
         (held (r .0), (rowsHeld s, w .holds, r .1))

@@ -5,6 +5,7 @@ use mathlib.Core.List.{List, [], _∷_, _++_}
 use Prim.Native.Nat.{ℕ, zero, suc, _+_, _-_, min}
 use lib.ListN.{take, drop}
 use lib.Dec.{leb, ltb, eqb}
+use Rattle.resource.specs.Identifier.{faySize, levelsPlace, terminalSize}
 use Rattle.octets.specs.Bytes.{part, same}
 use Rattle.exact.specs.Reads.{got, refused}
 use Rattle.resource.specs.Text.{levelsMatch}
@@ -14,10 +15,10 @@ use Rattle.steps.specs.declared.Window.{Window}
 use Rattle.steps.specs.Order.{Step, step, inOrder}
 use Rattle.steps.specs.Key.{bad, noKey, isThat, keyOpen}
 use Rattle.image.specs.declared.Held.the-variants.{Missing, Body}
-use Rattle.image.specs.declared.Survey.{Survey}
-use Rattle.image.specs.declared.Survey.the-variants.{Sound, Unsound}
+use Rattle.image.specs.declared.ImageCheck.{ImageCheck}
+use Rattle.image.specs.declared.ImageCheck.the-variants.{Sound, Unsound}
 use Rattle.image.specs.Check.{isSound, isHeld}
-use Rattle.image.specs.Edition1.{surveyOf}
+use Rattle.image.specs.Edition1.{checkOf}
 use Rattle.request.specs.declared.Decision.{Decision}
 use Rattle.request.specs.declared.DecisionNumbers.{DecisionNumbers}
 use Rattle.request.specs.declared.Decision.the-variants as answers
@@ -29,8 +30,8 @@ use Rattle.request.specs.Request.{Request, wellFormed, isListed}
 
 -- what the steps look at in a descriptor: not_before, not_after, the subject's fay id and the terminal id
 pub record Facts : Type 0 where
-  pub before : ℕ
-  pub after : ℕ
+  pub notBefore : ℕ
+  pub notAfter : ℕ
   pub fay : List ℕ
   pub terminal : List ℕ
 
@@ -46,8 +47,8 @@ revocationSteps q = step (not (isListed (q .revoked) (q .id))) answers.Revoked �
 -- 9 to 13: the descriptor's period, its subject, its terminal, and a grant that serves
 unfoldable pub descriptorSteps : Facts → List ℕ → List ℕ → ℕ → Matched → List (Step Decision)
 descriptorSteps x fay terminal clock m =
-    step (leb (x .before) clock) answers.NotYetValid
-    ∷ step (ltb clock (x .after)) answers.Expired
+    step (leb (x .notBefore) clock) answers.NotYetValid
+    ∷ step (ltb clock (x .notAfter)) answers.Expired
     ∷ step (same (x .fay) fay) answers.SubjectMismatch
     ∷ step (same (x .terminal) terminal) answers.TerminalMismatch
     ∷ step (isMatched m) answers.Insufficient
@@ -75,18 +76,25 @@ stepsBy q sound held x m =
 
 -- granted: the grant's place, its mask, and the session's end, the smaller of not_after and the clock and the session length together
 unfoldable pub grantedBy : Request → Facts → Matched → Decision
-grantedBy q x (IsAt grant mask) = answers.Granted grant mask (min (x .after) (q .clock + q .session))
+grantedBy q x (IsAt grant mask) = answers.Granted grant mask (min (x .notAfter) (q .clock + q .session))
 grantedBy q x Nothing = answers.Insufficient
 
 -- ---- from the bytes of an image
 
 -- the facts of a body of which f was read
 abbrev pub factsOf : List ℕ → Fields → Facts
-factsOf b f = record { before = f .before; after = f .after; fay = part b (f .fay) 40; terminal = part b (f .terminal) 45 }
+factsOf b f = record {
+  notBefore = f .«not_before»;
+  notAfter = f .«not_after»;
+  fay = part b (f .fay) faySize;
+  terminal =
+      part b (f .terminal) terminalSize;
+}
 
 -- a grant that was seen in b serves: it has the mode, no constraint pair, and its levels match those of the resource
 unfoldable pub serves : List ℕ → List ℕ → ℕ → GrantSeen → Bool
-serves b r mode g = hasMode (g .mask) mode && (eqb (g .pairs) 0 && levelsMatch (part b (g .pattern .start + 46) (g .pattern .len - 46)) r)
+serves b r mode g = hasMode (g .mask) mode &&
+    (eqb (g .pairs) 0 && levelsMatch (part b (g .pattern .start + levelsPlace) (g .pattern .len - levelsPlace)) r)
 
 -- a grant with its place and mask, or what the next ones have
 abbrev pub orNext : Bool → ℕ → ℕ → Matched → Matched
@@ -102,7 +110,8 @@ firstFrom b r mode (suc n) at i =
 -- the first grant of a body that serves; none where the resource is another terminal's
 unfoldable pub matchedOn : List ℕ → Fields → List ℕ → ℕ → Matched
 matchedOn b f resource mode =
-    cond (same (part b (f .terminal) 45) (take 45 resource)) (firstFrom b (drop 46 resource) mode (f .grants) (f .first) 0) Nothing
+    cond (same (part b (f .terminal) terminalSize) (take terminalSize resource))
+    (firstFrom b (drop levelsPlace resource) mode (f .grants) (f .first) 0) Nothing
 
 -- the decision on a body of which f was read
 unfoldable pub decidedOn : Request → List ℕ → Fields → Decision
@@ -112,24 +121,24 @@ decidedOn q b f =
     inOrder (laterSteps q x m) (grantedBy q x m)
 
 -- the facts of the body that was found
-abbrev pub factsIn : List ℕ → Survey → Facts
+abbrev pub factsIn : List ℕ → ImageCheck → Facts
 factsIn s (Sound n end (Body at len f)) = factsOf (part s at len) f
-factsIn s (Sound n end Missing) = record { before = 0; after = 0; fay = []; terminal = [] }
-factsIn s Unsound = record { before = 0; after = 0; fay = []; terminal = [] }
+factsIn s (Sound n end Missing) = record { notBefore = 0; notAfter = 0; fay = []; terminal = [] }
+factsIn s Unsound = record { notBefore = 0; notAfter = 0; fay = []; terminal = [] }
 
 -- its first grant that serves
-abbrev pub matchedIn : List ℕ → Request → Survey → Matched
+abbrev pub matchedIn : List ℕ → Request → ImageCheck → Matched
 matchedIn s q (Sound n end (Body at len f)) = matchedOn (part s at len) f (q .resource) (q .mode)
 matchedIn s q (Sound n end Missing) = Nothing
 matchedIn s q Unsound = Nothing
 
 -- the steps of a request to the image s
 unfoldable pub stepsOf : List ℕ → Request → List (Step Decision)
-stepsOf s q = let v = surveyOf s (q .id) in stepsBy q (isSound v) (isHeld v) (factsIn s v) (matchedIn s q v)
+stepsOf s q = let v = checkOf s (q .id) in stepsBy q (isSound v) (isHeld v) (factsIn s v) (matchedIn s q v)
 
 -- the decision: the first failing step's refusal, or granted
 unfoldable pub decisionOf : List ℕ → Request → Decision
-decisionOf s q = let v = surveyOf s (q .id) in inOrder (stepsOf s q) (grantedBy q (factsIn s v) (matchedIn s q v))
+decisionOf s q = let v = checkOf s (q .id) in inOrder (stepsOf s q) (grantedBy q (factsIn s v) (matchedIn s q v))
 
 -- ---- document 01's numbers
 

@@ -1,5 +1,5 @@
 pub mod Request
 pub mod Decision
 pub mod Meaning
-pub mod Stages
+pub mod Code
 pub mod Promises

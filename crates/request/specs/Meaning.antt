@@ -22,8 +22,8 @@ firstServing (g ∷ gs) m x i = orNext (grantServes g m x) i (maskOf (g .modes))
 -- what the steps look at
 abbrev pub factsOfDescriptor : Descriptor → Facts
 factsOfDescriptor d = record {
-  before = d .payload .notBefore;
-  after = d .payload .notAfter;
+  notBefore = d .payload .notBefore;
+  notAfter = d .payload .notAfter;
   fay = d .payload .fay;
   terminal = d .payload .terminal;
 }

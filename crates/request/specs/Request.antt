@@ -9,7 +9,8 @@ use Rattle.resource.specs.Identifier.{isFay, isTerminal}
 use Rattle.resource.specs.Text.{resourceOk}
 use Rattle.steps.specs.declared.Window.{Window}
 use Rattle.steps.specs.Key.{isVerdict}
-use Rattle.image.specs.Layout.{idSize}
+use Rattle.descriptor.specs.Allowed.{idSize}
+use Rattle.descriptor.specs.Modes.{highestMode}
 
 -- the arguments of a request but for the image: the descriptor's id, the fay, the terminal and the resource that ask; the mode; the
 -- clock and the host's session length, in seconds; the ids that are revoked, one after the other; the host's verdict on the signature,
@@ -41,10 +42,6 @@ requestOf id fay terminal resource mode clock session revoked verdict window =
       verdict = verdict;
       window = window;
     }
-
--- the highest mode number
-abbrev pub highestMode : ℕ
-highestMode = 3
 
 -- the arguments are well formed: the verdict, the mode, the id's size, the fay, terminal and resource ids, and the list's size
 unfoldable pub wellFormed : Request → Bool

@@ -3,15 +3,22 @@ use crate::Decision;
 use crate::Environment;
 use crate::search::Matched;
 use descriptor::Fields;
+use descriptor::sizes::HIGHEST_MODE;
+use descriptor::sizes::ID_SIZE;
 use octets::same_bytes;
+use resource::sizes::FAY_SIZE;
+use resource::sizes::LEVELS_PLACE;
+use resource::sizes::TERMINAL_SIZE;
 ghost use mathlib.Core.Path.{_≡_};
 ghost use mathlib.Core.Bool.{true};
 ghost use Prim.Native.Nat.{_+_, _≤_, min};
 ghost use lib.ListN.{length};
+ghost use Rattle.resource.specs.Identifier.{terminalSize};
 ghost use Rattle.resource.specs.Text.{resourceOk};
+ghost use Rattle.descriptor.specs.Modes.{highestMode};
 ghost use Rattle.request.specs.Request.{requestOf, wellFormed, isListed};
 ghost use Rattle.request.specs.Decision.{matchedOn, decidedOn};
-ghost use Rattle.request.specs.Stages.{BodyFits, applicabilityOf, signedBy};
+ghost use Rattle.request.specs.Code.{BodyFits, applicabilityOf, signedBy};
 
 // What the steps 9 to 13 answer: the grant that serves, with its mask, or the refusal of the first step that fails.
 pub(crate) enum Applicability {
@@ -34,10 +41,10 @@ pub(crate) fn well_formed(
     if 2 < environment.verdict {
         return false;
     }
-    if 3 < mode {
+    if HIGHEST_MODE < mode {
         return false;
     }
-    if id.len() != 16 {
+    if id.len() != ID_SIZE {
         return false;
     }
     if !resource::is_fay(fay) {
@@ -49,18 +56,18 @@ pub(crate) fn well_formed(
     if !resource::is_resource(resource) {
         return false;
     }
-    revoked.len() % 16 == 0
+    revoked.len() % ID_SIZE == 0
 }
 
 // Whether the id is in the list.
 fn is_listed(revoked: &[u8], id: &[u8]) -> bool
     ensures { λ r. ⌜ r ≡ isListed (now (revoked .entry)) (now (id .entry)) ⌝ }
 {
-    let mut i = revoked.len() / 16;
+    let mut i = revoked.len() / ID_SIZE;
     while 0 < i {
         i -= 1;
-        let at = 16 * i;
-        if same_bytes(&revoked[at..at + 16], id) {
+        let at = ID_SIZE * i;
+        if same_bytes(&revoked[at..at + ID_SIZE], id) {
             return true;
         }
     }
@@ -68,28 +75,34 @@ fn is_listed(revoked: &[u8], id: &[u8]) -> bool
 }
 
 // The smaller of not_after and the clock and the session length together, which may be more than a number holds.
-fn session_end(after: u64, clock: u64, session: u64) -> u64
-    ensures { λ r. ⌜ r ≡ min after (clock + session) ⌝ }
+fn session_end(not_after: u64, clock: u64, session: u64) -> u64
+    ensures { λ r. ⌜ r ≡ min «not_after» (clock + session) ⌝ }
 {
-    if after <= clock {
-        return after;
+    if not_after <= clock {
+        return not_after;
     }
-    if session < after - clock {
+    if session < not_after - clock {
         return clock + session;
     }
-    after
+    not_after
 }
 
 // The first grant of the body that serves; none where the resource is another terminal's.
 fn match_grant(body: &[u8], fields: Fields, resource: &[u8], mode: u64) -> Matched
-    requires { ⌜ (resourceOk (now resource) ≡ true) × (mode ≤ 3) × (fields .terminal + 45 ≤ length (now body)) ⌝ }
+    requires { ⌜ (resourceOk (now resource) ≡ true) × (mode ≤ highestMode) × (fields .terminal + terminalSize ≤ length (now body)) ⌝ }
     ensures { λ r. ⌜ r ≡ matchedOn (now (body .entry)) fields (now (resource .entry)) mode ⌝ }
 {
     let t = fields.terminal;
-    if !same_bytes(&body[t..t + 45], &resource[..45]) {
+    if !same_bytes(&body[t..t + TERMINAL_SIZE], &resource[..TERMINAL_SIZE]) {
         return Matched::Nothing;
     }
-    crate::search::first_grant(body, fields.first, fields.grants, mode, &resource[46..])
+    crate::search::first_grant(
+        body,
+        fields.first,
+        fields.grants,
+        mode,
+        &resource[LEVELS_PLACE..],
+    )
 }
 
 // The steps 9 to 13 on a body of which the fields were read.
@@ -102,21 +115,21 @@ fn check_descriptor(
     mode: u64,
     clock: u64,
 ) -> Applicability
-    requires { ⌜ (resourceOk (now resource) ≡ true) × (mode ≤ 3) × BodyFits (now body) fields ⌝ }
+    requires { ⌜ (resourceOk (now resource) ≡ true) × (mode ≤ highestMode) × BodyFits (now body) fields ⌝ }
     ensures { λ r. ⌜ r ≡ applicabilityOf (now (body .entry)) fields (now (fay .entry)) (now (terminal .entry)) (now (resource .entry)) mode clock ⌝ }
 {
-    if clock < fields.before {
+    if clock < fields.not_before {
         return Applicability::Refused(Decision::NotYetValid);
     }
-    if fields.after <= clock {
+    if fields.not_after <= clock {
         return Applicability::Refused(Decision::Expired);
     }
     let f = fields.fay;
-    if !same_bytes(&body[f..f + 40], fay) {
+    if !same_bytes(&body[f..f + FAY_SIZE], fay) {
         return Applicability::Refused(Decision::SubjectMismatch);
     }
     let t = fields.terminal;
-    if !same_bytes(&body[t..t + 45], terminal) {
+    if !same_bytes(&body[t..t + TERMINAL_SIZE], terminal) {
         return Applicability::Refused(Decision::TerminalMismatch);
     }
     match match_grant(body, fields, resource, mode) {
@@ -126,8 +139,8 @@ fn check_descriptor(
 }
 
 // The steps 14 and 4, where a grant serves.
-fn signed(grant: u64, mask: u64, after: u64, environment: Environment) -> Decision
-    ensures { λ r. ⌜ r ≡ signedBy grant mask after environment ⌝ }
+fn signed(grant: u64, mask: u64, not_after: u64, environment: Environment) -> Decision
+    ensures { λ r. ⌜ r ≡ signedBy grant mask «not_after» environment ⌝ }
 {
     let clock = environment.clock;
     let verdict = environment.verdict;
@@ -143,7 +156,7 @@ fn signed(grant: u64, mask: u64, after: u64, environment: Environment) -> Decisi
     Decision::Granted {
         grant,
         mask,
-        end: session_end(after, clock, environment.session),
+        end: session_end(not_after, clock, environment.session),
     }
 }
 
@@ -159,7 +172,7 @@ pub(crate) fn on_body(
     revoked: &[u8],
     environment: Environment,
 ) -> Decision
-    requires { ⌜ (resourceOk (now resource) ≡ true) × (mode ≤ 3) × BodyFits (now body) fields ⌝ }
+    requires { ⌜ (resourceOk (now resource) ≡ true) × (mode ≤ highestMode) × BodyFits (now body) fields ⌝ }
     ensures { λ r. ⌜ r ≡ decidedOn (requestOf (now (id .entry)) (now (fay .entry)) (now (terminal .entry)) (now (resource .entry)) mode (environment .clock) (environment .session) (now (revoked .entry)) (environment .verdict) (environment .window)) (now (body .entry)) fields ⌝ }
 {
     if is_listed(revoked, id) {
@@ -174,7 +187,12 @@ pub(crate) fn on_body(
         mode,
         environment.clock,
     ) {
-        Applicability::Applies { grant, mask } => signed(grant, mask, fields.after, environment),
+        Applicability::Applies { grant, mask } => signed(
+            grant,
+            mask,
+            fields.not_after,
+            environment,
+        ),
         Applicability::Refused(refusal) => refusal,
     }
 }

@@ -4,7 +4,7 @@ mod search;
 
 use descriptor::Fields;
 use image::Held;
-use image::Survey;
+use image::ImageCheck;
 use steps::Window;
 ghost use mathlib.Core.Path.{_≡_};
 ghost use Prim.Native.Nat.{_+_, _≤_, _<_};
@@ -64,7 +64,7 @@ pub fn request(
         return Decision::Malformed;
     }
     match image::check(image, id) {
-        Survey::Sound {
+        ImageCheck::Sound {
             rows: _,
             end: _,
             held,
@@ -85,6 +85,6 @@ pub fn request(
             }
             Held::Missing => Decision::NotFound,
         },
-        Survey::Unsound => Decision::BadImage,
+        ImageCheck::Unsound => Decision::BadImage,
     }
 }

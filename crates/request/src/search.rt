@@ -2,10 +2,12 @@
 use descriptor::GrantFields;
 use descriptor::GrantRead;
 use resource::LevelStep;
+use resource::sizes::LEVELS_PLACE;
 ghost use mathlib.Core.Path.{_≡_};
 ghost use Prim.Native.Nat.{_≤_};
+ghost use Rattle.descriptor.specs.Modes.{highestMode};
 ghost use Rattle.request.specs.Decision.{firstFrom};
-ghost use Rattle.request.specs.Stages.{eligible};
+ghost use Rattle.request.specs.Code.{eligible};
 
 // A grant's place, counted from 0, and its mask; or there is none.
 pub(crate) enum Matched {
@@ -15,7 +17,7 @@ pub(crate) enum Matched {
 
 // Whether a grant has the mode and no constraint pair.
 fn is_eligible(mask: u64, pairs: u64, mode: u64) -> bool
-    requires { ⌜ mode ≤ 3 ⌝ }
+    requires { ⌜ mode ≤ highestMode ⌝ }
     ensures { λ r. ⌜ r ≡ eligible mask pairs mode ⌝ }
 {
     if pairs != 0 {
@@ -31,7 +33,7 @@ fn is_eligible(mask: u64, pairs: u64, mode: u64) -> bool
 
 // The first of the `count` grants from `first` on that serves: for each, its levels are compared with those of the resource, r.
 pub(crate) fn first_grant(s: &[u8], first: usize, count: u64, mode: u64, r: &[u8]) -> Matched
-    requires { ⌜ mode ≤ 3 ⌝ }
+    requires { ⌜ mode ≤ highestMode ⌝ }
     ensures { λ o. ⌜ o ≡ firstFrom (now (s .entry)) (now (r .entry)) mode count first 0 ⌝ }
 {
     let mut i: u64 = 0;
@@ -46,7 +48,7 @@ pub(crate) fn first_grant(s: &[u8], first: usize, count: u64, mode: u64, r: &[u8
         if is_eligible(fields.mask, fields.pairs, mode) {
             let start = fields.pattern;
             let end = start + fields.len;
-            let mut p = &s[start + 46..end];
+            let mut p = &s[start + LEVELS_PLACE..end];
             let mut q = r;
             'levels: loop {
                 if resource::is_deep(p) {

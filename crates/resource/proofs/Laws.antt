@@ -6,7 +6,7 @@ use Rattle.resource.proofs.CoverLaws.{covers-exactly, taken-can-be, cov
 use Rattle.resource.proofs.CoverLaws.{witness-has-names, zs-are-fresh}
 use Rattle.resource.proofs.WithoutLaws.{pattern-without}
 use Rattle.resource.proofs.SpellLaws.{first-spelled}
-use Rattle.resource.proofs.StepLaws.{star-level, first-levels, step-tells, deep-tells, next-decides}
+use Rattle.resource.proofs.FirstLevelLaws.{star-level, first-levels, step-tells, deep-tells, next-decides}
 use Rattle.resource.proofs.TextLaws.{terminal-long, fay-long, pattern-sized, resource-sized, pattern-id, pattern-parts, admits-parts}
 
 -- ---- texts

@@ -4,7 +4,7 @@ pub mod FormLaws
 pub mod WithoutLaws
 pub mod ScanLaws
 pub mod TextLaws
-pub mod StepLaws
+pub mod FirstLevelLaws
 pub mod SpellLaws
 pub mod MatchLaws
 pub mod CoverLaws

@@ -15,7 +15,7 @@ use Rattle.octets.specs.Scan.{without}
 use Rattle.resource.specs.Pattern.{Levels, Pattern, matches, admits, levelsBefore, taken, AllNames, Some, NamesIn, spelled}
 use Rattle.resource.specs.Pattern.{IsPattern, patternText}
 use Rattle.resource.specs.Text.{resourceOk, patternOk, pathOf, patternOf, withLevel, levelsOf, levelsMatch}
-use Rattle.resource.specs.Scan.{starFirst, stepOf}
+use Rattle.resource.specs.Code.{starFirst, stepOf}
 use Rattle.resource.specs.Cover.{covers, witness, CanTake, Fresh, longestName, zs}
 
 -- ---- texts
@@ -47,7 +47,8 @@ PatternLevels = (p : List ℕ) → patternOk p ≡ true → levels p ≡ take te
 -- a pattern matches a path exactly where the first 45 bytes of their texts are the same and the levels below match
 abbrev pub AdmitsText : Type 0
 AdmitsText = (p r : List ℕ) → patternOk p ≡ true → resourceOk r ≡ true
-    → admits (patternOf p) (pathOf r) ≡ (same (take terminalSize p) (take terminalSize r) && levelsMatch (drop levelsPlace p) (drop levelsPlace r))
+    → admits (patternOf p) (pathOf r)
+    ≡ (same (take terminalSize p) (take terminalSize r) && levelsMatch (drop levelsPlace p) (drop levelsPlace r))
 
 -- the text of a pattern has no space
 abbrev pub PatternSpaceless : Type 0

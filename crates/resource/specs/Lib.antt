@@ -3,7 +3,7 @@ pub mod Identifier
 pub mod Level
 pub mod Pattern
 pub mod Text
-pub mod Scan
+pub mod Code
 pub mod Cover
 pub mod Promises
 pub mod Laws

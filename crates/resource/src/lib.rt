@@ -9,7 +9,7 @@ ghost use mathlib.Core.Path.{_≡_};
 ghost use Rattle.resource.specs.Identifier.{isFay, isTerminal};
 ghost use Rattle.resource.specs.Level.{isDeep};
 ghost use Rattle.resource.specs.Text.{resourceOk, patternOk, matching};
-ghost use Rattle.resource.specs.Scan.{stepOf};
+ghost use Rattle.resource.specs.Code.{stepOf};
 
 // What matching two texts answers; Malformed is document 01's 15.
 pub enum Matching {

@@ -8,7 +8,7 @@ use crate::sizes::TERMINAL_SIZE;
 ghost use mathlib.Core.Path.{_≡_};
 ghost use Rattle.resource.specs.Level.{isDeep};
 ghost use Rattle.resource.specs.Text.{levelsMatch, matching};
-ghost use Rattle.resource.specs.Scan.{levelLength, nameStep, starFirst, starStep, stepOf};
+ghost use Rattle.resource.specs.Code.{levelLength, nameStep, starFirst, starStep, stepOf};
 
 // A name of p against a name of r.
 fn name_step(p: &[u8], r: &[u8]) -> LevelStep

@@ -1,6 +1,6 @@
 -- The host's verdict on a signature, and the key's window. Document 01, "Submission, in this order". A reader of the promises does not
 -- need this page: where a promise has a step it says what passes.
-use mathlib.Core.Bool.{Bool, true, false, not, _&&_, _||_}
+use mathlib.Core.Bool.{Bool, not, _&&_, _||_}
 use Prim.Native.Nat.{ℕ}
 use lib.Dec.{leb, eqb}
 use Rattle.steps.specs.declared.Window.{Window}

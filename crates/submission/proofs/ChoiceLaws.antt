@@ -1,4 +1,4 @@
--- What the stages that only look answer is what the steps in order come to (specs/Stages.antt, specs/Submission.antt). Assumes nothing.
+-- What the stages that only look answer is what the steps in order come to (specs/Code.antt, specs/Submission.antt). Assumes nothing.
 use mathlib.Core.Path.{_≡_, refl, sym, ap}
 use mathlib.Core.Logic.{_⊎_, inl, inr, ⊎-elim}
 use mathlib.Core.Bool.{Bool, true, false}
@@ -18,18 +18,18 @@ use Rattle.steps.specs.Laws.{allPass, failsBy}
 use Rattle.steps.proofs.Laws.{passed-end, all-pass, failed-by}
 use Rattle.image.specs.declared.Held.{Held}
 use Rattle.image.specs.declared.Held.the-variants.{Missing, Body}
-use Rattle.image.specs.declared.Survey.{Survey}
-use Rattle.image.specs.declared.Survey.the-variants.{Sound, Unsound}
+use Rattle.image.specs.declared.ImageCheck.{ImageCheck}
+use Rattle.image.specs.declared.ImageCheck.the-variants.{Sound, Unsound}
 use Rattle.image.specs.Image.{rowOf, reading, idOf}
 use Rattle.image.specs.Check.{isHeld}
-use Rattle.image.specs.Edition1.{surveyOf, rowsHeld, hasRoom}
+use Rattle.image.specs.Edition1.{checkOf, rowsHeld, hasRoom}
 use Rattle.submission.specs.declared.Submission.{Submission}
 use Rattle.submission.specs.declared.Submission.the-variants as answers
 use Rattle.submission.specs.declared.choose.Choice.{Choice}
 use Rattle.submission.specs.declared.choose.Choice.the-variants.{Answer, Store}
 use Rattle.submission.specs.declared.choose.Admission.{Admission}
 use Rattle.submission.specs.Submission.{longestLead, stepsBy, numberOf, afterAnswer}
-use Rattle.submission.specs.Stages.{admitted, placed, whenAdmitted, chosenRead, chosenUnread, chosenBy, choiceOf}
+use Rattle.submission.specs.Code.{admitted, placed, whenAdmitted, chosenRead, chosenUnread, chosenBy, choiceOf}
 use Rattle.submission.proofs.StepLaws.{number-is}
 
 -- ---- the buffer after a refusal
@@ -55,7 +55,7 @@ refused-keeps d b held a other = ⊎-elim (λ e. e) (λ e. absurd (other e)) (ke
 -- ---- what a choice says
 
 -- The body is to be stored: the id is not held, and every step but the last passes, which is whether there is room.
-pub record Storing (d b : List ℕ) (clock verdict : ℕ) (window : Window) (r : Reading) (v : Survey) (n end id mask : ℕ) : Type 0 where
+pub record Storing (d b : List ℕ) (clock verdict : ℕ) (window : Window) (r : Reading) (v : ImageCheck) (n end id mask : ℕ) : Type 0 where
   pub done : hasRoom d (rowsHeld d) (rowOf b) ≡ true → answers.Done ≡ inOrder (stepsBy d b clock verdict window r v) answers.Done
   pub full : hasRoom d (rowsHeld d) (rowOf b) ≡ false → answers.Full ≡ inOrder (stepsBy d b clock verdict window r v) answers.Done
   pub found : v ≡ Sound n end Missing
@@ -65,13 +65,13 @@ pub record Storing (d b : List ℕ) (clock verdict : ℕ) (window : Window) (r :
   pub modes : mask ≡ fields .mask
 
 -- An answer is what the steps come to, and leaves the buffer as it was; a body that is to be stored has passed all but the last.
-abbrev pub ChoiceIs : List ℕ → List ℕ → ℕ → ℕ → Window → Reading → Survey → Choice → Type 0
+abbrev pub ChoiceIs : List ℕ → List ℕ → ℕ → ℕ → Window → Reading → ImageCheck → Choice → Type 0
 ChoiceIs d b clock verdict window r v (Answer a) = (a ≡ inOrder (stepsBy d b clock verdict window r v) answers.Done)
     × (afterAnswer d b (isHeld v) a ≡ d)
 ChoiceIs d b clock verdict window r v (Store n end id mask) = Storing d b clock verdict window r v n end id mask
 
 -- A refusal whose step fails, where those before it pass, is a choice that says so.
-refuses : (d b : List ℕ) (clock verdict : ℕ) (window : Window) (r : Reading) (v : Survey) (a : Submission) → 0 < numberOf a
+refuses : (d b : List ℕ) (clock verdict : ℕ) (window : Window) (r : Reading) (v : ImageCheck) (a : Submission) → 0 < numberOf a
     → failsBy numberOf (numberOf a) (stepsBy d b clock verdict window r v) ≡ true → ChoiceIs d b clock verdict window r v (Answer a)
 refuses d b clock verdict window r v a n e =
     let steps : List (Step Submission) = stepsBy d b clock verdict window r v in (
@@ -81,7 +81,7 @@ refuses d b clock verdict window r v a n e =
     )
 
 -- Where every step passes, the answer is 0.
-all-done : (d b : List ℕ) (clock verdict : ℕ) (window : Window) (r : Reading) (v : Survey)
+all-done : (d b : List ℕ) (clock verdict : ℕ) (window : Window) (r : Reading) (v : ImageCheck)
     → allPass (stepsBy d b clock verdict window r v) ≡ true
     → answers.Done ≡ inOrder (stepsBy d b clock verdict window r v) answers.Done
 all-done d b clock verdict window r v e =
@@ -89,18 +89,18 @@ all-done d b clock verdict window r v e =
     sym (passed-end steps answers.Done (all-pass steps e))
 
 module _ (d b : List ℕ) (clock verdict : ℕ) (window : Window) (known : isVerdict verdict ≡ true) where
-  module _ (n end : ℕ) (f : Fields) (early : leb (f .before) (clock + longestLead) ≡ true) (issuer : isThat verdict noKey ≡ false)
+  module _ (n end : ℕ) (f : Fields) (early : leb (f .«not_before») (clock + longestLead) ≡ true) (issuer : isThat verdict noKey ≡ false)
       (key : keyOpen window clock ≡ true) (signed : isThat verdict bad ≡ false) where
     -- Where the steps before it pass, the place of the body is what the last two steps come to.
     placed-is : (h : Held) → ChoiceIs d b clock verdict window (Read f) (Sound n end h) (placed d b n end h f)
     unfolding stepsBy placed
     placed-is (Body at len g) =
-        let v : Survey = Sound n end (Body at len g) in
+        let v : ImageCheck = Sound n end (Body at len g) in
         by-cond (ChoiceIs d b clock verdict window (Read f) v) (same (part d at len) b)
         (λ e. (all-done d b clock verdict window (Read f) v (rw (known, early, issuer, key, signed, e)), refl))
         (λ e. refuses d b clock verdict window (Read f) v answers.Duplicate (omega arith) (rw (known, early, issuer, key, signed, e)))
     placed-is Missing =
-        let v : Survey = Sound n end Missing in
+        let v : ImageCheck = Sound n end Missing in
         record {
           done = λ e. all-done d b clock verdict window (Read f) v (rw (known, early, issuer, key, signed, e));
           full = λ e. refuses d b clock verdict window (Read f) v answers.Full (omega arith) (rw (known, early, issuer, key, signed, e)) .0;
@@ -113,12 +113,13 @@ module _ (d b : List ℕ) (clock verdict : ℕ) (window : Window) (known : isVer
 
   -- A body that reads, in an image that is sound: the steps from the beginning to the signature, and then the place.
   read-is : (n end : ℕ) (h : Held) (f : Fields)
-      → ChoiceIs d b clock verdict window (Read f) (Sound n end h) (whenAdmitted (admitted (f .before) clock verdict window) (placed d b n end h f))
+      → ChoiceIs d b clock verdict window (Read f) (Sound n end h)
+      (whenAdmitted (admitted (f .«not_before») clock verdict window) (placed d b n end h f))
   unfolding stepsBy admitted
   read-is n end h f =
-      let v : Survey = Sound n end h in
+      let v : ImageCheck = Sound n end h in
       let P : Admission → Type 0 = λ a. ChoiceIs d b clock verdict window (Read f) v (whenAdmitted a (placed d b n end h f)) in
-      by-cond P (leb (f .before) (clock + longestLead))
+      by-cond P (leb (f .«not_before») (clock + longestLead))
       (λ early. by-cond P (isThat verdict noKey)
       (λ issuer. refuses d b clock verdict window (Read f) v answers.UnknownIssuer (omega arith) (rw (known, early, issuer)))
       (λ issuer. by-cond P (keyOpen window clock)
@@ -130,7 +131,7 @@ module _ (d b : List ℕ) (clock verdict : ℕ) (window : Window) (known : isVer
       (λ early. refuses d b clock verdict window (Read f) v answers.Validity (omega arith) (rw (known, early)))
 
   -- A verdict that is known: the image, then what reading the body answered.
-  known-is : (r : Reading) (v : Survey) → ChoiceIs d b clock verdict window r v (chosenBy d b clock verdict window r v)
+  known-is : (r : Reading) (v : ImageCheck) → ChoiceIs d b clock verdict window r v (chosenBy d b clock verdict window r v)
   unfolding stepsBy chosenRead chosenUnread
   known-is (Read f) (Sound n end h) = read-is n end h f
   known-is (Read f) Unsound = refuses d b clock verdict window (Read f) Unsound answers.BadImage (omega arith) (rw known)
@@ -141,11 +142,11 @@ module _ (d b : List ℕ) (clock verdict : ℕ) (window : Window) (known : isVer
 
 -- What the stages choose is what the steps come to.
 pub choice-is : (d b : List ℕ) (clock verdict : ℕ) (window : Window)
-    → ChoiceIs d b clock verdict window (reading b) (surveyOf d (idOf b)) (choiceOf d b clock verdict window)
+    → ChoiceIs d b clock verdict window (reading b) (checkOf d (idOf b)) (choiceOf d b clock verdict window)
 unfolding stepsBy choiceOf
 choice-is d b clock verdict window =
     let r : Reading = reading b in
-    let v : Survey = surveyOf d (idOf b) in
+    let v : ImageCheck = checkOf d (idOf b) in
     by-cond (ChoiceIs d b clock verdict window r v) (isVerdict verdict)
     (λ known. known-is d b clock verdict window known r v)
     (λ unknown. refuses d b clock verdict window r v answers.Malformed (omega arith) (rw unknown))

@@ -17,7 +17,8 @@ use Rattle.steps.specs.Order.{Step}
 use Rattle.steps.specs.Laws.{allPass, failsBy}
 use Rattle.steps.proofs.Laws.{passed-end, all-pass, failed-by}
 use Rattle.image.specs.declared.StoredNumbers.{StoredNumbers}
-use Rattle.image.specs.Layout.{idSize, edition1, mostRows}
+use Rattle.descriptor.specs.Allowed.{idSize}
+use Rattle.image.specs.Layout.{edition1, mostRows}
 use Rattle.image.specs.Image.{Row, rowOf, idOf, bodyWith}
 use Rattle.image.specs.Check.{numbersOf}
 use Rattle.image.specs.Grow as grow
@@ -26,7 +27,6 @@ use Rattle.image.specs.Promises.{refusal}
 use Rattle.octets.proofs.SameLaws.{equal-same, not-same}
 use Rattle.image.proofs.Promises.{layout-fixed, lookup-exactly}
 use Rattle.image.proofs.Laws.{encoding-read}
-use Rattle.submission.specs.declared.Submission.the-variants as answers
 use Rattle.submission.specs.Submission.{submitted, afterOf, numberOf}
 use Rattle.submission.specs.Promises.{rows, descriptor, stepsFor, Gives, larger, Ready, LastSteps, StoredFound, OthersFound}
 use Rattle.submission.specs.Promises.{LeadBoundary, RowBoundary}

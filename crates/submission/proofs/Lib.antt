@@ -1,4 +1,4 @@
-pub mod CodeLaws
+pub mod SubmitCode
 pub mod ChoiceLaws
 pub mod StepLaws
 pub mod StoredLaws

@@ -12,7 +12,7 @@ use Rattle.descriptor.specs.Model.{Descriptor, encode}
 use Rattle.descriptor.specs.Allowed.{Allowed}
 use Rattle.descriptor.specs.Numbers as descriptor
 use Rattle.descriptor.specs.Reader.{readOf}
-use Rattle.descriptor.specs.Answer.{readingOf}
+use Rattle.descriptor.specs.Code.{readingOf}
 use Rattle.steps.specs.declared.Window.{Window}
 use Rattle.steps.specs.Order.{Step, orElse, inOrder, NoneIs}
 use Rattle.steps.specs.Key.{isVerdict, isThat, keyOpen}
@@ -21,35 +21,35 @@ use Rattle.steps.proofs.Laws.{order-mapped, none-is}
 use Rattle.steps.proofs.Promises as order
 use Rattle.image.specs.declared.Held.{Held}
 use Rattle.image.specs.declared.Held.the-variants.{Missing, Body}
-use Rattle.image.specs.declared.Survey.{Survey}
-use Rattle.image.specs.declared.Survey.the-variants.{Sound, Unsound}
+use Rattle.image.specs.declared.ImageCheck.{ImageCheck}
+use Rattle.image.specs.declared.ImageCheck.the-variants.{Sound, Unsound}
 use Rattle.image.specs.Image.{Row, reading, isRead, idOf}
 use Rattle.image.specs.Grow as grow
-use Rattle.image.specs.Edition1.{imageOf, Holds, surveyOf, rowsHeld}
+use Rattle.image.specs.Edition1.{imageOf, Holds, checkOf, rowsHeld}
 use Rattle.image.specs.Promises.{answerOf}
 use Rattle.image.specs.Laws.{HeldIs}
-use Rattle.image.proofs.Laws.{body-read, encoding-read, survey-tells, survey-says, survey-unsound, rows-named}
+use Rattle.image.proofs.Laws.{body-read, encoding-read, check-tells, check-says, check-unsound, rows-named}
 use Rattle.submission.specs.declared.Submission.the-variants as answers
 use Rattle.submission.specs.Submission.{stepsBy, steps, submitted, numberOf}
 use Rattle.submission.specs.Promises.{Stored, unsound, rows, structure, validity, descriptor as encoding, IsStored, IsBody}
 use Rattle.submission.specs.Promises.{AlwaysMeets, stepsFor, SubmittedExactly, DoneExactly, RefusedExactly}
 use Rattle.submission.specs.Promises as promised
 
--- ---- the number, by what reading answers and what the survey finds
+-- ---- the number, by what reading answers and what the check finds
 
--- The number of the first failing step, by the reading r and the survey v.
-abbrev numberBy : List ℕ → List ℕ → ℕ → ℕ → Window → Reading → Survey → ℕ
+-- The number of the first failing step, by the reading r and the check v.
+abbrev numberBy : List ℕ → List ℕ → ℕ → ℕ → Window → Reading → ImageCheck → ℕ
 numberBy d b clock verdict window r v = inOrder (mapped numberOf (stepsBy d b clock verdict window r v)) 0
 
--- The number of a submission is that by the reading of the body and the survey of the buffer for its id.
-number-by : (d b : List ℕ) (clock verdict : ℕ) (window : Window) (r : Reading) (v : Survey) → reading b ≡ r → surveyOf d (idOf b) ≡ v
+-- The number of a submission is that by the reading of the body and the check of the buffer for its id.
+number-by : (d b : List ℕ) (clock verdict : ℕ) (window : Window) (r : Reading) (v : ImageCheck) → reading b ≡ r → checkOf d (idOf b) ≡ v
     → numberOf (submitted d b clock verdict window) ≡ numberBy d b clock verdict window r v
 unfolding submitted steps
 number-by d b clock verdict window r v e f =
-    order-mapped numberOf (stepsBy d b clock verdict window (reading b) (surveyOf d (idOf b))) answers.Done
+    order-mapped numberOf (stepsBy d b clock verdict window (reading b) (checkOf d (idOf b))) answers.Done
     ∙ ap₂ (numberBy d b clock verdict window) e f
 
--- A survey that does not call the image sound, whatever reading answers.
+-- A check that does not call the image sound, whatever reading answers.
 by-unsound : (d b : List ℕ) (clock verdict : ℕ) (window : Window) (r : Reading) (x : promised.Body)
     → numberBy d b clock verdict window r Unsound ≡ inOrder (stepsFor unsound x (length d) clock verdict window) 0
 unfolding stepsBy inOrder orElse isVerdict
@@ -70,7 +70,7 @@ by-validity d b clock verdict window bs n end h = refl
 
 -- The encoding of a descriptor.
 by-descriptor : (d : List ℕ) (clock verdict : ℕ) (window : Window) (bs : List Row) (c : Descriptor) (f : Fields) (h : Held)
-    → rowsHeld d ≡ bs → f .before ≡ c .payload .notBefore → HeldIs d (c .payload .id) bs h
+    → rowsHeld d ≡ bs → f .«not_before» ≡ c .payload .notBefore → HeldIs d (c .payload .id) bs h
     → numberBy d (encode c) clock verdict window (Read f) (Sound (length bs) (length (imageOf bs)) h)
     ≡ inOrder (stepsFor (rows bs) (encoding c) (length d) clock verdict window) 0
 unfolding stepsBy isVerdict isThat keyOpen grow.hasRoom
@@ -86,7 +86,7 @@ pub number-descriptor : (d : List ℕ) (clock verdict : ℕ) (window : Window) (
     → numberOf (submitted d (encode c) clock verdict window) ≡ inOrder (stepsFor (rows bs) (encoding c) (length d) clock verdict window) 0
 number-descriptor d clock verdict window bs c h bytes a =
     let r = encoding-read c bytes a in
-    let w = survey-tells d (idOf (encode c)) bs h in
+    let w = check-tells d (idOf (encode c)) bs h in
     number-by d (encode c) clock verdict window (Read (r .0)) (Sound (length bs) (length (imageOf bs)) (w .0)) (r .1) (w .1)
     ∙ by-descriptor d clock verdict window bs c (r .0) (w .0) (rows-named d bs h) (r .2)
     (subst (λ (id : List ℕ). HeldIs d id bs (w .0)) (r .3) (w .2))
@@ -116,14 +116,14 @@ validity-read b e = go (readingOf (readOf b)) e
 -- `SubmittedExactly`.
 pub submitted-exactly : SubmittedExactly
 submitted-exactly d b clock verdict window unsound x m =
-    number-by d b clock verdict window (reading b) Unsound refl (survey-unsound d (idOf b) (m .buffer-bytes) .1 (m .stored))
+    number-by d b clock verdict window (reading b) Unsound refl (check-unsound d (idOf b) (m .buffer-bytes) .1 (m .stored))
     ∙ by-unsound d b clock verdict window (reading b) x
 submitted-exactly d b clock verdict window (rows bs) structure m =
-    let w = survey-tells d (idOf b) bs (m .stored) in
+    let w = check-tells d (idOf b) bs (m .stored) in
     number-by d b clock verdict window Structure (Sound (length bs) (length (imageOf bs)) (w .0)) (structure-read b (m .body)) (w .1)
     ∙ by-structure d b clock verdict window bs (length bs) (length (imageOf bs)) (w .0)
 submitted-exactly d b clock verdict window (rows bs) validity m =
-    let w = survey-tells d (idOf b) bs (m .stored) in
+    let w = check-tells d (idOf b) bs (m .stored) in
     number-by d b clock verdict window Validity (Sound (length bs) (length (imageOf bs)) (w .0)) (validity-read b (m .body)) (w .1)
     ∙ by-validity d b clock verdict window bs (length bs) (length (imageOf bs)) (w .0)
 submitted-exactly d b clock verdict window (rows bs) (encoding c) m =
@@ -159,11 +159,11 @@ refused-exactly d b clock verdict window s x m n other =
 
 -- What every buffer holds.
 stored-of : (d : List ℕ) → AreBytes d → (s : Stored) × IsStored d s
-stored-of d bytes = go (surveyOf d []) refl
+stored-of d bytes = go (checkOf d []) refl
   where
-    go : (v : Survey) → surveyOf d [] ≡ v → (s : Stored) × IsStored d s
-    go (Sound n end h) e = (rows (rowsHeld d), survey-says d [] bytes n end h e .holds)
-    go Unsound e = (unsound, survey-unsound d [] bytes .0 e)
+    go : (v : ImageCheck) → checkOf d [] ≡ v → (s : Stored) × IsStored d s
+    go (Sound n end h) e = (rows (rowsHeld d), check-says d [] bytes n end h e .holds)
+    go Unsound e = (unsound, check-unsound d [] bytes .0 e)
 
 -- What every body is.
 body-of : (b : List ℕ) → AreBytes b → (x : promised.Body) × IsBody b x

@@ -15,10 +15,10 @@ use Rattle.steps.specs.Order.{AllPass}
 use Rattle.steps.specs.Laws.{passesBy}
 use Rattle.steps.proofs.Laws.{none-is, passed-by, failed-by}
 use Rattle.steps.proofs.Promises as order
-use Rattle.image.specs.declared.Survey.the-variants.{Unsound}
+use Rattle.image.specs.declared.ImageCheck.the-variants.{Unsound}
 use Rattle.image.specs.Image.{rowOf, reading, isRead, idOf}
 use Rattle.image.specs.Check.{isSound, isHeld}
-use Rattle.image.specs.Edition1.{surveyOf, rowsHeld, hasRoom}
+use Rattle.image.specs.Edition1.{checkOf, rowsHeld, hasRoom}
 use Rattle.submission.specs.declared.Submission.{Submission}
 use Rattle.submission.specs.declared.Submission.the-variants as answers
 use Rattle.submission.specs.Submission.{isStructure, isValidity, agrees, stepsBy, steps, submitted, numberOf}
@@ -33,7 +33,8 @@ pick (a ∷ rest) n = cond (eqb (numberOf a) n) a (pick rest n)
 -- The answer with a number.
 abbrev answerWith : ℕ → Submission
 answerWith =
-    pick (answers.Structure ∷ answers.Validity ∷ answers.UnknownIssuer ∷ answers.BadSignature ∷ answers.Duplicate ∷ answers.Full ∷ answers.KeyInvalid ∷ answers.Malformed ∷ answers.BadImage ∷ [])
+    pick (answers.Structure ∷ answers.Validity ∷ answers.UnknownIssuer ∷ answers.BadSignature ∷ answers.Duplicate ∷ answers.Full ∷
+    answers.KeyInvalid ∷ answers.Malformed ∷ answers.BadImage ∷ [])
 
 -- It is the one that has the number.
 with-number : (a : Submission) → answerWith (numberOf a) ≡ a
@@ -64,10 +65,10 @@ done-exactly d b clock verdict window =
 
 -- What is known of a body where every step has passed.
 pub record Passed (d b : List ℕ) : Type 0 where
-  pub sound : isSound (surveyOf d (idOf b)) ≡ true
+  pub sound : isSound (checkOf d (idOf b)) ≡ true
   pub reads : isRead (reading b) ≡ true
-  pub same-bytes : agrees d b (surveyOf d (idOf b)) ≡ true
-  pub room : (isHeld (surveyOf d (idOf b)) || hasRoom d (rowsHeld d) (rowOf b)) ≡ true
+  pub same-bytes : agrees d b (checkOf d (idOf b)) ≡ true
+  pub room : (isHeld (checkOf d (idOf b)) || hasRoom d (rowsHeld d) (rowOf b)) ≡ true
 
 -- A reading that is neither 1 nor 2 is 0.
 read-passes : (r : Reading) → not (isStructure r) ≡ true → not (isValidity r) ≡ true → isRead r ≡ true
@@ -91,7 +92,7 @@ done-passed d b clock verdict window e =
     }
 
 -- An image that is not sound is answered with 16, where the verdict is one of the three.
-pub unsound-refused : (d b : List ℕ) (clock verdict : ℕ) (window : Window) → verdict ≤ 2 → surveyOf d (idOf b) ≡ Unsound
+pub unsound-refused : (d b : List ℕ) (clock verdict : ℕ) (window : Window) → verdict ≤ 2 → checkOf d (idOf b) ≡ Unsound
     → submitted d b clock verdict window ≡ answers.BadImage
 unfolding submitted steps stepsBy isVerdict
 unsound-refused d b clock verdict window h e =

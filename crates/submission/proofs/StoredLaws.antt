@@ -13,15 +13,15 @@ use Rattle.descriptor.specs.declared.Fields.{Fields}
 use Rattle.steps.specs.declared.Window.{Window}
 use Rattle.image.specs.declared.Held.{Held}
 use Rattle.image.specs.declared.Held.the-variants.{Missing, Body}
-use Rattle.image.specs.declared.Survey.{Survey}
-use Rattle.image.specs.declared.Survey.the-variants.{Sound, Unsound}
+use Rattle.image.specs.declared.ImageCheck.{ImageCheck}
+use Rattle.image.specs.declared.ImageCheck.the-variants.{Sound, Unsound}
 use Rattle.image.specs.Image.{Row, rowOf, idOf, bodyWith}
 use Rattle.image.specs.Check.{isSound, isHeld}
-use Rattle.image.specs.Edition1.{imageOf, Holds, surveyOf, rowsHeld, hasRoom, withBody}
+use Rattle.image.specs.Edition1.{imageOf, Holds, checkOf, rowsHeld, hasRoom, withBody}
 use Rattle.octets.proofs.OptionLaws.{some-same, none-some}
 use Rattle.octets.proofs.SameLaws.{same-equal}
 use Rattle.image.specs.Laws.{HeldIs}
-use Rattle.image.proofs.Laws.{body-read, rows-named, survey-tells, survey-says, editions-surveyed, one-more}
+use Rattle.image.proofs.Laws.{body-read, rows-named, check-tells, check-says, editions-checked, one-more}
 use Rattle.submission.specs.declared.Submission.the-variants as answers
 use Rattle.submission.specs.Submission.{agrees, submitted, numberOf, afterOf}
 use Rattle.submission.specs.Promises.{RefusalKeeps, RepeatKeeps, EditionsRefused}
@@ -30,30 +30,30 @@ use Rattle.submission.proofs.ChoiceLaws.{refused-keeps}
 use Rattle.submission.proofs.SubmitLaws.{after-held, after-new}
 use Rattle.submission.proofs.StepLaws.{number-is, Passed, done-passed, unsound-refused}
 
--- ---- what the survey finds
+-- ---- what the check finds
 
--- The survey for an id that no body has.
-survey-new : (d id : List ℕ) (bs : List Row) → Holds d bs → bodyWith id bs ≡ none
-    → surveyOf d id ≡ Sound (length bs) (length (imageOf bs)) Missing
-survey-new d id bs h new = let w = survey-tells d id bs h in w .1 ∙ ap (Sound (length bs) (length (imageOf bs))) (go (w .0) (w .2))
+-- The check for an id that no body has.
+check-new : (d id : List ℕ) (bs : List Row) → Holds d bs → bodyWith id bs ≡ none
+    → checkOf d id ≡ Sound (length bs) (length (imageOf bs)) Missing
+check-new d id bs h new = let w = check-tells d id bs h in w .1 ∙ ap (Sound (length bs) (length (imageOf bs))) (go (w .0) (w .2))
   where
     go : (x : Held) → HeldIs d id bs x → x ≡ Missing
     go Missing k = refl
     go (Body at len f) k = absurd (none-some (part d at len) (sym new ∙ k .which))
 
--- The body that is held under an id, and where the survey found it.
+-- The body that is held under an id, and where the check found it.
 record Repeat (d id : List ℕ) (bs : List Row) (c : List ℕ) : Type 0 where
   at : ℕ
   len : ℕ
   fields : Fields
-  found : surveyOf d id ≡ Sound (length bs) (length (imageOf bs)) (Body at len fields)
+  found : checkOf d id ≡ Sound (length bs) (length (imageOf bs)) (Body at len fields)
   body : part d at len ≡ c
 
--- The survey for an id that a body has.
-survey-repeat : (d id : List ℕ) (bs : List Row) (c : List ℕ) → Holds d bs → bodyWith id bs ≡ some c → Repeat d id bs c
-survey-repeat d id bs c h held = let w = survey-tells d id bs h in go (w .0) (w .1) (w .2)
+-- The check for an id that a body has.
+check-repeat : (d id : List ℕ) (bs : List Row) (c : List ℕ) → Holds d bs → bodyWith id bs ≡ some c → Repeat d id bs c
+check-repeat d id bs c h held = let w = check-tells d id bs h in go (w .0) (w .1) (w .2)
   where
-    go : (x : Held) → surveyOf d id ≡ Sound (length bs) (length (imageOf bs)) x → HeldIs d id bs x → Repeat d id bs c
+    go : (x : Held) → checkOf d id ≡ Sound (length bs) (length (imageOf bs)) x → HeldIs d id bs x → Repeat d id bs c
     go Missing e k = absurd (none-some c (sym k ∙ held))
     go (Body at len f) e k = record {
       at = at;
@@ -69,19 +69,19 @@ survey-repeat d id bs c h held = let w = survey-tells d id bs h in go (w .0) (w 
 -- `RefusalKeeps`.
 pub refusal-keeps : RefusalKeeps
 unfolding afterOf
-refusal-keeps d b clock verdict window other = refused-keeps d b (isHeld (surveyOf d (idOf b))) (submitted d b clock verdict window)
+refusal-keeps d b clock verdict window other = refused-keeps d b (isHeld (checkOf d (idOf b))) (submitted d b clock verdict window)
     (λ e. other (ap numberOf e))
 
 -- `RepeatKeeps`.
 pub repeat-keeps : RepeatKeeps
 repeat-keeps d b clock verdict window bs c h held = after-held d b clock verdict window
-    (ap isHeld (survey-repeat d (idOf b) bs c h held .found))
+    (ap isHeld (check-repeat d (idOf b) bs c h held .found))
 
 -- `EditionsRefused`.
 pub editions-refused : EditionsRefused
 editions-refused d b clock verdict window h other =
     let e : submitted d b clock verdict window ≡ answers.BadImage
-    = unsound-refused d b clock verdict window h (editions-surveyed d (idOf b) other) in
+    = unsound-refused d b clock verdict window h (editions-checked d (idOf b) other) in
     (ap numberOf e, refusal-keeps d b clock verdict window (λ f. omega (arith, ap numberOf e, f)))
 
 -- ---- what an answer of 0 says
@@ -91,10 +91,10 @@ pub done-means : DoneMeans
 done-means d b clock verdict window bytes a z =
     let p = done-passed d b clock verdict window (number-is (submitted d b clock verdict window) answers.Done z) in
     let r = body-read b a (p .reads) in
-    (go (surveyOf d (idOf b)) refl (p .sound), (r .0, r .1, r .2, r .3))
+    (go (checkOf d (idOf b)) refl (p .sound), (r .0, r .1, r .2, r .3))
   where
-    go : (v : Survey) → surveyOf d (idOf b) ≡ v → isSound (surveyOf d (idOf b)) ≡ true → (bs : List Row) × Holds d bs
-    go (Sound n end h) e t = (rowsHeld d, survey-says d (idOf b) bytes n end h e .holds)
+    go : (v : ImageCheck) → checkOf d (idOf b) ≡ v → isSound (checkOf d (idOf b)) ≡ true → (bs : List Row) × Holds d bs
+    go (Sound n end h) e t = (rowsHeld d, check-says d (idOf b) bytes n end h e .holds)
     go Unsound e t = absurd (false≢true (sym (ap isSound e) ∙ t))
 
 module _ (d b : List ℕ) (clock verdict : ℕ) (window : Window) (bs : List Row) (h : Holds d bs)
@@ -106,20 +106,20 @@ module _ (d b : List ℕ) (clock verdict : ℕ) (window : Window) (bs : List Row
   -- Under an id that is held, it says that the same bytes are held.
   repeat-same : (c : List ℕ) → bodyWith (idOf b) bs ≡ some c → c ≡ b
   repeat-same c held =
-      let r : Repeat d (idOf b) bs c = survey-repeat d (idOf b) bs c h held in
+      let r : Repeat d (idOf b) bs c = check-repeat d (idOf b) bs c h held in
       let s : same (part d (r .at) (r .len)) b ≡ true
-      = subst (λ (v : Survey). agrees d b v ≡ true) (r .found) (done-passed d b clock verdict window done .same-bytes) in
+      = subst (λ (v : ImageCheck). agrees d b v ≡ true) (r .found) (done-passed d b clock verdict window done .same-bytes) in
       sym (r .body) ∙ same-equal (part d (r .at) (r .len)) b s
 
   -- Under a new id, it says that there is room, and leaves the buffer with the body added last, which holds the bodies and the new one.
   pub stored-last : bodyWith (idOf b) bs ≡ none
       → Holds (afterOf d b clock verdict window) (bs ++ (rowOf b ∷ [])) × (afterOf d b clock verdict window ≡ withBody d bs (rowOf b))
   stored-last new =
-      let found : surveyOf d (idOf b) ≡ Sound (length bs) (length (imageOf bs)) Missing = survey-new d (idOf b) bs h new in
+      let found : checkOf d (idOf b) ≡ Sound (length bs) (length (imageOf bs)) Missing = check-new d (idOf b) bs h new in
       let p : Passed d b = done-passed d b clock verdict window done in
       let room : hasRoom d bs (rowOf b) ≡ true
       = ap (λ (l : List Row). hasRoom d l (rowOf b)) (sym (rows-named d bs h))
-      ∙ subst (λ (v : Survey). (isHeld v || hasRoom d (rowsHeld d) (rowOf b)) ≡ true) found (p .room) in
+      ∙ subst (λ (v : ImageCheck). (isHeld v || hasRoom d (rowsHeld d) (rowOf b)) ≡ true) found (p .room) in
       let whole : afterOf d b clock verdict window ≡ withBody d bs (rowOf b)
       = after-new d b clock verdict window (ap isHeld found) done ∙ ap (λ (l : List Row). withBody d l (rowOf b)) (rows-named d bs h) in
       (subst (λ (x : List ℕ). Holds x (bs ++ (rowOf b ∷ []))) (sym whole) (one-more .holds d bs (rowOf b) h room (p .reads) new), whole)

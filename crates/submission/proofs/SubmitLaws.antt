@@ -1,5 +1,5 @@
 -- What a choice comes to: an answer is the submission's and leaves the buffer as it was; a body that is stored leaves the buffer after
--- the submission (specs/Stages.antt, specs/Submission.antt). Assumes nothing.
+-- the submission (specs/Code.antt, specs/Submission.antt). Assumes nothing.
 use mathlib.Core.Path.{_≡_, refl, sym, ap, ap₂, _∙_, subst}
 use mathlib.Core.Bool.{Bool, true, false, cond}
 use mathlib.Core.List.{List}
@@ -9,31 +9,31 @@ use Rattle.octets.specs.Bytes.{AreBytes}
 use Rattle.descriptor.specs.declared.Fields.{Fields}
 use Rattle.steps.specs.declared.Window.{Window}
 use Rattle.image.specs.declared.Held.the-variants.{Missing}
-use Rattle.image.specs.declared.Survey.{Survey}
+use Rattle.image.specs.declared.ImageCheck.{ImageCheck}
 use Rattle.image.specs.declared.Added.{Added}
 use Rattle.image.specs.declared.Added.the-variants.{Done, Full}
 use Rattle.image.specs.Image.{Row, rowOf, reading, idOf}
 use Rattle.image.specs.Check.{isHeld}
-use Rattle.image.specs.Edition1.{imageOf, surveyOf, rowsHeld, addedOf, afterAdd, hasRoom, withBody}
-use Rattle.image.proofs.Laws.{survey-says, body-added}
+use Rattle.image.specs.Edition1.{imageOf, checkOf, rowsHeld, addedOf, afterAdd, hasRoom, withBody}
+use Rattle.image.proofs.Laws.{check-says, body-added}
 use Rattle.submission.specs.declared.Submission.{Submission}
 use Rattle.submission.specs.declared.Submission.the-variants as answers
 use Rattle.submission.specs.declared.choose.Choice.{Choice}
 use Rattle.submission.specs.declared.choose.Choice.the-variants.{Answer, Store}
 use Rattle.submission.specs.Submission.{steps, submitted, afterAnswer, afterOf}
-use Rattle.submission.specs.Stages.{choiceOf, storedAs}
+use Rattle.submission.specs.Code.{choiceOf, storedAs}
 use Rattle.submission.proofs.ChoiceLaws.{Storing, ChoiceIs, choice-is}
 
 -- ---- the buffer after a submission
 
 -- Where the id is held the buffer is as it was.
-pub after-held : (d b : List ℕ) (clock verdict : ℕ) (window : Window) → isHeld (surveyOf d (idOf b)) ≡ true
+pub after-held : (d b : List ℕ) (clock verdict : ℕ) (window : Window) → isHeld (checkOf d (idOf b)) ≡ true
     → afterOf d b clock verdict window ≡ d
 unfolding afterOf
 after-held d b clock verdict window e = ap (λ (t : Bool). afterAnswer d b t (submitted d b clock verdict window)) e
 
 -- Where the id is not held, the answer 0 leaves the buffer with the body added last.
-pub after-new : (d b : List ℕ) (clock verdict : ℕ) (window : Window) → isHeld (surveyOf d (idOf b)) ≡ false
+pub after-new : (d b : List ℕ) (clock verdict : ℕ) (window : Window) → isHeld (checkOf d (idOf b)) ≡ false
     → submitted d b clock verdict window ≡ answers.Done → afterOf d b clock verdict window ≡ withBody d (rowsHeld d) (rowOf b)
 unfolding afterOf
 after-new d b clock verdict window e f = ap₂ (afterAnswer d b) e f
@@ -45,7 +45,7 @@ pub choice-answer : (d b : List ℕ) (clock verdict : ℕ) (window : Window) (a 
     → (a ≡ submitted d b clock verdict window) × (d ≡ afterOf d b clock verdict window)
 unfolding submitted steps afterOf
 choice-answer d b clock verdict window a e =
-    let v : Survey = surveyOf d (idOf b) in
+    let v : ImageCheck = checkOf d (idOf b) in
     let k : ChoiceIs d b clock verdict window (reading b) v (Answer a)
     = subst (ChoiceIs d b clock verdict window (reading b) v) e (choice-is d b clock verdict window) in
     (k .0, sym (k .1) ∙ ap (afterAnswer d b (isHeld v)) (k .0))
@@ -57,12 +57,12 @@ store-added : (d b : List ℕ) (clock verdict : ℕ) (window : Window) (n end id
     × (afterAdd d n end b id mask ≡ afterOf d b clock verdict window)
 unfolding submitted steps afterOf
 store-added d b clock verdict window n end id mask bytes e =
-    let v : Survey = surveyOf d (idOf b) in
+    let v : ImageCheck = checkOf d (idOf b) in
     let k : Storing d b clock verdict window (reading b) v n end id mask
     = subst (ChoiceIs d b clock verdict window (reading b) v) e (choice-is d b clock verdict window) in
     let f : Fields = k .fields in
     let bs : List Row = rowsHeld d in
-    let s = survey-says d (idOf b) bytes n end Missing (k .found) in
+    let s = check-says d (idOf b) bytes n end Missing (k .found) in
     let a = body-added d bs (rowOf b) f (s .holds) (k .reads) in
     let x = go k (hasRoom d bs (rowOf b)) refl in (
       ap storedAs (ap₂ (λ (i j : ℕ). addedOf d i j b id) (s .rows) (s .ends) ∙ ap (addedOf d (length bs) (length (imageOf bs)) b)
@@ -72,7 +72,7 @@ store-added d b clock verdict window n end id mask bytes e =
           ∙ ap₂ (afterAdd d (length bs) (length (imageOf bs)) b) (k .named) (k .modes) ∙ a .1 ∙ x .1,
     )
   where
-    go : Storing d b clock verdict window (reading b) (surveyOf d (idOf b)) n end id mask → (t : Bool)
+    go : Storing d b clock verdict window (reading b) (checkOf d (idOf b)) n end id mask → (t : Bool)
         → hasRoom d (rowsHeld d) (rowOf b) ≡ t
         → (storedAs (cond t Done Full) ≡ submitted d b clock verdict window)
         × (cond t (withBody d (rowsHeld d) (rowOf b)) d ≡ afterOf d b clock verdict window)

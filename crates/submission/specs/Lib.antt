@@ -1,4 +1,4 @@
 pub mod Submission
-pub mod Stages
+pub mod Code
 pub mod Promises
 pub mod Laws

@@ -10,11 +10,11 @@ use Rattle.steps.specs.declared.Window.{Window}
 use Rattle.steps.specs.Order.{Step, step, inOrder}
 use Rattle.steps.specs.Key.{bad, noKey, isVerdict, isThat, keyOpen}
 use Rattle.image.specs.declared.Held.the-variants.{Missing, Body}
-use Rattle.image.specs.declared.Survey.{Survey}
-use Rattle.image.specs.declared.Survey.the-variants.{Sound, Unsound}
+use Rattle.image.specs.declared.ImageCheck.{ImageCheck}
+use Rattle.image.specs.declared.ImageCheck.the-variants.{Sound, Unsound}
 use Rattle.image.specs.Image.{rowOf, reading, idOf}
 use Rattle.image.specs.Check.{isSound, isHeld}
-use Rattle.image.specs.Edition1.{surveyOf, rowsHeld, hasRoom, withBody}
+use Rattle.image.specs.Edition1.{checkOf, rowsHeld, hasRoom, withBody}
 use Rattle.submission.specs.declared.Submission.{Submission}
 use Rattle.submission.specs.declared.Submission.the-variants as answers
 
@@ -38,20 +38,20 @@ isValidity Validity = true
 
 -- not_before
 abbrev pub begins : Reading → ℕ
-begins (Read f) = f .before
+begins (Read f) = f .«not_before»
 begins Structure = 0
 begins Validity = 0
 
 -- the body that is held under the id, if any, is the same bytes
-abbrev pub agrees : List ℕ → List ℕ → Survey → Bool
+abbrev pub agrees : List ℕ → List ℕ → ImageCheck → Bool
 agrees d b (Sound n end (Body at len f)) = same (part d at len) b
 agrees d b (Sound n end Missing) = true
 agrees d b Unsound = true
 
 -- ---- the steps
 
--- the steps, by what reading the body answered and what the survey of the image for its id found
-unfoldable pub stepsBy : List ℕ → List ℕ → ℕ → ℕ → Window → Reading → Survey → List (Step Submission)
+-- the steps, by what reading the body answered and what the check of the image for its id found
+unfoldable pub stepsBy : List ℕ → List ℕ → ℕ → ℕ → Window → Reading → ImageCheck → List (Step Submission)
 stepsBy d b clock verdict window r v =
     step (isVerdict verdict) answers.Malformed
     ∷ step (isSound v) answers.BadImage
@@ -67,7 +67,7 @@ stepsBy d b clock verdict window r v =
 
 -- the steps of a submission of the body b to the image d
 unfoldable pub steps : List ℕ → List ℕ → ℕ → ℕ → Window → List (Step Submission)
-steps d b clock verdict window = stepsBy d b clock verdict window (reading b) (surveyOf d (idOf b))
+steps d b clock verdict window = stepsBy d b clock verdict window (reading b) (checkOf d (idOf b))
 
 -- the answer: the first failing step's, or done
 unfoldable pub submitted : List ℕ → List ℕ → ℕ → ℕ → Window → Submission
@@ -104,4 +104,4 @@ afterAnswer d b false answers.BadImage = d
 
 -- the buffer after a submission
 unfoldable pub afterOf : List ℕ → List ℕ → ℕ → ℕ → Window → List ℕ
-afterOf d b clock verdict window = afterAnswer d b (isHeld (surveyOf d (idOf b))) (submitted d b clock verdict window)
+afterOf d b clock verdict window = afterAnswer d b (isHeld (checkOf d (idOf b))) (submitted d b clock verdict window)

@@ -2,18 +2,18 @@
 use crate::Submission;
 use descriptor::Fields;
 use descriptor::Reading;
+use descriptor::sizes::ID_SIZE;
 use image::Held;
-use image::Survey;
-use image::layout::ID_SIZE;
+use image::ImageCheck;
 use steps::Window;
 ghost use mathlib.Core.Path.{_≡_};
 ghost use Prim.Native.Nat.{_+_, _≤_};
 ghost use lib.ListN.{length, replicate};
-ghost use Rattle.image.specs.Edition1.{surveyOf};
-ghost use Rattle.image.specs.Layout.{idSize};
-ghost use Rattle.image.specs.Laws.{HeldFits, SurveyFits};
+ghost use Rattle.image.specs.Edition1.{checkOf};
+ghost use Rattle.descriptor.specs.Allowed.{idSize};
+ghost use Rattle.image.specs.Laws.{HeldFits, CheckFits};
 ghost use Rattle.octets.specs.Bytes.{AreBytes};
-ghost use Rattle.submission.specs.Stages.{admitted, placed, chosenRead, chosenUnread, choiceOf};
+ghost use Rattle.submission.specs.Code.{admitted, placed, chosenRead, chosenUnread, choiceOf};
 
 // What is to be done: the answer alone, or the body is to be stored after so many rows, whose bodies end at `end`; its id stands at `id`.
 pub(crate) enum Choice {
@@ -36,11 +36,11 @@ pub(crate) enum Admission {
 const LONGEST_LEAD: u64 = 86400;
 
 // The beginning, the issuer, the key and the signature of a body that reads.
-fn admit(before: u64, clock: u64, verdict: u64, window: Window) -> Admission
-    ensures { λ r. ⌜ r ≡ admitted before clock verdict window ⌝ }
+fn admit(not_before: u64, clock: u64, verdict: u64, window: Window) -> Admission
+    ensures { λ r. ⌜ r ≡ admitted «not_before» clock verdict window ⌝ }
 {
-    if clock < before {
-        if LONGEST_LEAD < before - clock {
+    if clock < not_before {
+        if LONGEST_LEAD < not_before - clock {
             return Admission::Refused(Submission::Validity);
         }
     }
@@ -77,7 +77,7 @@ fn place(image: &[u8], body: &[u8], rows: u64, end: usize, held: Held, fields: F
     }
 }
 
-// A body that reads, by the survey of the image for its id.
+// A body that reads, by the check of the image for its id.
 fn choose_read(
     image: &[u8],
     body: &[u8],
@@ -85,34 +85,34 @@ fn choose_read(
     verdict: u64,
     window: Window,
     fields: Fields,
-    found: Survey,
+    found: ImageCheck,
 ) -> Choice
-    requires { ⌜ SurveyFits (now image) found ⌝ }
+    requires { ⌜ CheckFits (now image) found ⌝ }
     ensures { λ r. ⌜ r ≡ chosenRead (now (image .entry)) (now (body .entry)) clock verdict window fields found ⌝ }
 {
     match found {
-        Survey::Sound { rows, end, held } => {
-            match admit(fields.before, clock, verdict, window) {
+        ImageCheck::Sound { rows, end, held } => {
+            match admit(fields.not_before, clock, verdict, window) {
                 Admission::Refused(answer) => Choice::Answer(answer),
                 Admission::Admitted => place(image, body, rows, end, held, fields),
             }
         }
-        Survey::Unsound => Choice::Answer(Submission::BadImage),
+        ImageCheck::Unsound => Choice::Answer(Submission::BadImage),
     }
 }
 
 // A body that does not read: the image is looked at first.
 fn choose_unread(image: &[u8], answer: Submission) -> Choice
-    ensures { λ r. ⌜ r ≡ chosenUnread answer (surveyOf (now (image .entry)) (replicate idSize 0)) ⌝ }
+    ensures { λ r. ⌜ r ≡ chosenUnread answer (checkOf (now (image .entry)) (replicate idSize 0)) ⌝ }
 {
     let none = [0u8; ID_SIZE];
     match image::check(image, &none) {
-        Survey::Sound {
+        ImageCheck::Sound {
             rows: _,
             end: _,
             held: _,
         } => Choice::Answer(answer),
-        Survey::Unsound => Choice::Answer(Submission::BadImage),
+        ImageCheck::Unsound => Choice::Answer(Submission::BadImage),
     }
 }
 

@@ -6,7 +6,7 @@ use image::Added;
 use steps::Window;
 ghost use mathlib.Core.Path.{_≡_};
 ghost use Rattle.submission.specs.Submission.{submitted, afterOf};
-ghost use Rattle.submission.specs.Stages.{storedAs};
+ghost use Rattle.submission.specs.Code.{storedAs};
 
 // What a submission answers: 0, or the number of the first step that fails: 15 malformed arguments, 16 bad image, 1 and 2 from reading (2
 // also where it begins more than a day ahead), 3 unknown issuer, 14 the key is not valid, 4 bad signature, 5 other bytes under a held

@@ -7,7 +7,12 @@ use Rattle.cap.proofs.cap_descriptor_read.Statement.{statement}
 use Rattle.cap.proofs.cap_descriptor_read.Tie as tie
 
 returns : tie.Need-returns
-returns c = (c .of-reading .ensures ∙ ap numbersOf (c .before .read-descriptor .ensures), are-bytes (c .before .before .before .args .bytes .now) (c .before .before .shared-slice-known .given))
+returns c = (
+  c .of-reading .ensures
+      ∙ ap numbersOf (c .before .read-descriptor .ensures),
+  are-bytes (c .before .before .before .args .bytes .now)
+      (c .before .before .shared-slice-known .given),
+)
 
 pub cap-descriptor-read-spec : {M : Type 1} → statement M
 cap-descriptor-read-spec =

@@ -22,8 +22,10 @@ returns c =
     let w = c .before .before .before in
     let k = shown-submitted _ _ _ _ _ _ _ _ (w .before .before .window .ensures) (w .submit .ensures) in
     let b = w .before .before .before in
-    let a = b .before .before .args in
-    ((c .of-submission .ensures ∙ k .0, k .1), (are-bytes (a .image .now) (b .before .slice-known .given), are-bytes (a .descriptor .now) (b .shared-slice-known .given)))
+    let a = b .before .before .args in (
+      (c .of-submission .ensures ∙ k .0, k .1),
+      (are-bytes (a .image .now) (b .before .slice-known .given), are-bytes (a .descriptor .now) (b .shared-slice-known .given)),
+    )
 
 pub cap-submit-spec : {M : Type 1} → statement M
 cap-submit-spec =

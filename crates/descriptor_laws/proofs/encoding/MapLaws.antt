@@ -19,7 +19,19 @@ use Rattle.descriptor_laws.proofs.encoding.NameLaws.{payload-keys}
 
 module _ (gs : List Grant) (issued : ℕ) (issuer : List ℕ) (after since : ℕ) (t id f : List ℕ) where
   abbrev payloadWith : Option (List Pair) → Option (List ℕ) → Payload
-  payloadWith m g = record { grants = gs; metadata = m; issuedAt = issued; issuer = issuer; notAfter = after; grantor = g; notBefore = since; terminal = t; id = id; fay = f }
+  payloadWith m g = record {
+    grants = gs;
+    metadata = m;
+    issuedAt = issued;
+    issuer = issuer;
+    notAfter = after;
+    grantor = g;
+    notBefore =
+        since;
+    terminal = t;
+    id = id;
+    fay = f;
+  }
 
   payload-map : (m : Option (List Pair)) (g : Option (List ℕ)) → encodePayload (payloadWith m g) ≡ map (payloadEntries (payloadWith m g))
   unfolding encodePayload encGrants
@@ -61,7 +73,11 @@ module _ (ms p : List ℕ) where
   grant-order (some c) = refl
 
 of-grant : (g : Grant) → IsMap (encGrant g) (grantEntries g)
-of-grant g = record { same = grant-map (g .modes) (g .pattern) (g .constraints); order = grant-order (g .modes) (g .pattern) (g .constraints) }
+of-grant g = record {
+  same = grant-map (g .modes) (g .pattern) (g .constraints);
+  order =
+      grant-order (g .modes) (g .pattern) (g .constraints);
+}
 
 -- ---- signature
 

@@ -62,7 +62,8 @@ transitive [] (b ∷ y) (c ∷ z) p q = empty-before c z
 transitive (a ∷ x) (b ∷ y) (c ∷ z) p q =
     ⊎-elim
     (λ l. ⊎-elim (λ m. smaller a x c z (omega arith)) (λ m. smaller a x c z (omega (arith, m .0))) (split b y c z q))
-    (λ l. ⊎-elim (λ m. smaller a x c z (omega (arith, l .0))) (λ m. after a x c z (l .0 ∙ m .0) (transitive x y z (l .1) (m .1))) (split b y c z q))
+    (λ l. ⊎-elim (λ m. smaller a x c z (omega (arith, l .0))) (λ m. after a x c z (l .0 ∙ m .0) (transitive x y z (l .1) (m .1)))
+    (split b y c z q))
     (split a x b y p)
 
 -- ---- in words
@@ -80,7 +81,8 @@ parts : (x y : List ℕ) → before x y ≡ true → Parted x y
 parts x [] e = absurd (none-before x e)
 parts [] (b ∷ y) e = ([], [], b ∷ y, refl, refl, tt)
 parts (a ∷ x) (b ∷ y) e =
-    ⊎-elim {C = Parted (a ∷ x) (b ∷ y)} (λ l. ([], a ∷ x, b ∷ y, refl, refl, l)) (λ r. common a x b y (r .0) (parts x y (r .1))) (split a x b y e)
+    ⊎-elim {C = Parted (a ∷ x) (b ∷ y)} (λ l. ([], a ∷ x, b ∷ y, refl, refl, l)) (λ r. common a x b y (r .0) (parts x y (r .1)))
+    (split a x b y e)
 
 -- and back
 less-before : (a b : List ℕ) → Less a b → before a b ≡ true
@@ -118,4 +120,5 @@ pairs-ascend most ps k = two-ascend [] ps (k .each)
 
 pub pairs-distinct : PairsDistinct
 pairs-distinct most ps k i j p q l m e f same =
-    irreflexive (text (q .key)) (subst (λ (c : List ℕ). before (text c) (text (q .key)) ≡ true) same (pairs-ascend most ps k i j p q l m e f))
+    irreflexive (text (q .key))
+    (subst (λ (c : List ℕ). before (text c) (text (q .key)) ≡ true) same (pairs-ascend most ps k i j p q l m e f))

@@ -11,7 +11,7 @@ use Rattle.cbor_item.specs.Encoding.{head}
 use Rattle.octets.proofs.BytesLaws.{has-left, has-clash}
 use Rattle.exact.proofs.ReadsLaws.{recast, seq, keyed, refine}
 use Rattle.entries.specs.Keys.{kModes, kConstraints, kResourcePattern}
-use Rattle.entries.specs.Model.{Pair, size, encText}
+use Rattle.entries.specs.Model.{size, encText}
 use Rattle.descriptor.specs.Model.{encModes, encGrant}
 use Rattle.descriptor.specs.Allowed.{GrantOk}
 use Rattle.descriptor.specs.Reader.{grantAt}
@@ -46,4 +46,9 @@ module _ (s : List ℕ) (bs : AreBytes s) where
       (λ pat p h k. has-clash s _ kResourcePattern kConstraints constraints-apart (has-left s _ kResourcePattern (encText pat) h) k))))
       GrantOk encGrant (grantView at) (λ v. record { modes = v .1 .0; constraints = v .1 .1 .0; pattern = v .1 .1 .1 })
       (λ v p h. (record { modes = p .1 .0; constraints = p .1 .1 .0; pattern = p .1 .1 .1 .0 }, rw (p .1 .1 .1 .1), rw (p .1 .1 .1 .1)))
-      (λ g q h. ((2 + size (g .constraints), (g .modes, (g .constraints, g .pattern))), ((omega arith, omega (arith, size-small (g .constraints))), (q .modes, (q .constraints, (q .pattern, refl)))), refl, refl))
+      (λ g q h. (
+        (2 + size (g .constraints), (g .modes, (g .constraints, g .pattern))),
+        ((omega arith, omega (arith, size-small (g .constraints))), (q .modes, (q .constraints, (q .pattern, refl)))),
+        refl,
+        refl,
+      ))

@@ -5,6 +5,7 @@ use Prim.Native.Nat.{ℕ, suc, _+_, _-_, _≤_}
 use native.Mathlib.Omega.{arith}
 use lib.ListN.{length, take}
 use lib.Dec.{lit<}
+use Rattle.resource.specs.Identifier.{terminalSize}
 use Rattle.octets.specs.Bytes.{AreBytes, part, Has, same}
 use Rattle.exact.specs.Reads.{Reads, encOpt, encAll, AllFrom, viewAll}
 use Rattle.cbor_item.specs.Encoding.{head}
@@ -26,7 +27,7 @@ use Rattle.descriptor_laws.proofs.grants.GrantLaws.{grant-exact}
 
 -- the first 45 bytes of a pattern: its terminal id
 abbrev pub ownerOf : Grant → List ℕ
-ownerOf g = take 45 (g .pattern)
+ownerOf g = take terminalSize (g .pattern)
 
 -- an allowed grant of the terminal t
 abbrev pub Of : List ℕ → Grant → Type 0
@@ -77,8 +78,15 @@ together-own t (g ∷ gs) q e =
 pub own-together : (t : List ℕ) (gs : List Grant) → 1 ≤ length gs → length gs ≤ 256 → All GrantOk gs → OwnedBy t gs
     → GrantsOk gs × (owner gs ≡ t)
 own-together t [] lo hi a b = absurd (omega arith)
-own-together t (g ∷ gs) lo hi a b =
-    (record { least = lo; most = hi; each = (a .0, subst (λ (u : List ℕ). AllFrom Of constant u gs) (sym (b .0)) (each-of t gs (a .1) (b .1))) }, b .0)
+own-together t (g ∷ gs) lo hi a b = (
+  record {
+    least = lo;
+    most =
+        hi;
+    each = (a .0, subst (λ (u : List ℕ). AllFrom Of constant u gs) (sym (b .0)) (each-of t gs (a .1) (b .1)));
+  },
+  b .0,
+)
 
 -- ---- what is summed
 
@@ -109,11 +117,12 @@ module _ (s : List ℕ) where
       has-right s _ (head 3 (length (g .pattern))) (g .pattern) h₄
 
   -- its first 45 bytes
-  owner-at : (at : ℕ) (g : Grant) → GrantOk g → Has s at (encGrant g) → part s (grantView at g .pattern .start) 45 ≡ ownerOf g
-  owner-at at g q h = part-take s _ 45 (g .pattern) (omega (arith, pattern-short (g .pattern) (q .pattern))) (pattern-at at g h)
+  owner-at : (at : ℕ) (g : Grant) → GrantOk g → Has s at (encGrant g) → part s (grantView at g .pattern .start) terminalSize ≡ ownerOf g
+  owner-at at g q h = part-take s _ terminalSize (g .pattern) (omega (arith, pattern-short (g .pattern) (q .pattern))) (pattern-at at g h)
 
   -- those of the first grant
-  pub first-at : (at : ℕ) (gs : List Grant) → GrantsOk gs → Has s at (encKeyed gs) → part s (grantsView at gs .first) 45 ≡ owner gs
+  pub first-at : (at : ℕ) (gs : List Grant) → GrantsOk gs → Has s at (encKeyed gs) → part s (grantsView at gs .first) terminalSize
+      ≡ owner gs
   unfolding encGrants
   first-at at [] q h = absurd (q .each)
   first-at at (g ∷ gs) q h =
@@ -127,21 +136,28 @@ module _ (s : List ℕ) where
 -- grants as a count, the first and the others
 grants-from : (gs : List Grant) → GrantsOk gs
     → (x : ℕ × (Grant × List Grant))
-    × (((1 ≤ x .0) × (x .0 ≤ 256)) × (GrantOk (x .1 .0) × ((length (x .1 .1) ≡ x .0 - 1) × AllFrom Of constant (ownerOf (x .1 .0)) (x .1 .1))))
+    × (((1 ≤ x .0) × (x .0 ≤ 256))
+    × (GrantOk (x .1 .0) × ((length (x .1 .1) ≡ x .0 - 1) × AllFrom Of constant (ownerOf (x .1 .0)) (x .1 .1))))
     × ((kGrants ++ head 4 (x .0)) ++ (encGrant (x .1 .0) ++ encAll encGrant (x .1 .1)) ≡ encKeyed gs)
     × (_≡_ {A = List Grant} (x .1 .0 ∷ x .1 .1) gs)
 unfolding encGrants
 grants-from [] q = absurd (q .each)
-grants-from (g ∷ gs) q = ((suc (length gs), (g, gs)), ((omega arith, q .most), (q .each .0, (omega arith, q .each .1))), append-assoc kGrants (head 4 (suc (length gs))) (encAll encGrant (g ∷ gs)), refl)
+grants-from (g ∷ gs) q = (
+  (suc (length gs), (g, gs)),
+  ((omega arith, q .most), (q .each .0, (omega arith, q .each .1))),
+  append-assoc kGrants
+      (head 4 (suc (length gs))) (encAll encGrant (g ∷ gs)),
+  refl,
+)
 
 module _ (s : List ℕ) (bs : AreBytes s) where
   -- one more grant is read exactly, where its terminal is to be that whose id stands at `first`
-  more-exact : (first : ℕ) (t : List ℕ) (sum : Sum) (at : ℕ) → part s first 45 ≡ t
+  more-exact : (first : ℕ) (t : List ℕ) (sum : Sum) (at : ℕ) → part s first terminalSize ≡ t
       → Reads s at (Of t) encGrant (λ (g : Grant). addSeen sum g at) (moreAt s first sum at)
   unfolding moreAt
   more-exact first t sum at i =
       refine (grant-exact s bs at) (λ g. ownerOf g ≡ t) (λ g. addSeen sum g at)
-      (λ g n. same (part s (g .pattern .start) 45) (part s first 45)) (λ g n. addGrant sum g)
+      (λ g n. same (part s (g .pattern .start) terminalSize) (part s first terminalSize)) (λ g n. addGrant sum g)
       (λ g p h. (rw (owner-at s at g p h, i) (same-test (ownerOf g) t), refl))
 
   -- grants are read exactly
@@ -153,7 +169,7 @@ module _ (s : List ℕ) (bs : AreBytes s) where
       seq _ (grant-exact s bs _) (λ g p₁ h₁.
       let n = at + length (kGrants ++ head 4 c) in
       mapped
-      (counted s encGrant Of constant (λ sum t. part s (grantView n g .pattern .start) 45 ≡ t) addSeen
+      (counted s encGrant Of constant (λ sum t. part s (grantView n g .pattern .start) terminalSize ≡ t) addSeen
       (moreAt s (grantView n g .pattern .start))
       (λ sum t at i. more-exact _ t sum at i)
       (λ sum t at x i q h. i)
@@ -162,6 +178,10 @@ module _ (s : List ℕ) (bs : AreBytes s) where
       (λ gs q h₂. let e : c ≡ suc (length gs) = omega arith in rw (sum-seen, e)))))
       GrantsOk encKeyed (grantsView at) (λ v. v .1 .0 ∷ v .1 .1)
       (λ v p h.
-      let e : suc (length (v .1 .1)) ≡ v .0 = omega arith in
-      (record { least = omega arith; most = omega arith; each = (p .1 .0, p .1 .1 .1) }, rw e (sym (append-assoc kGrants (head 4 (v .0)) _)), rw e))
+      let e : suc (length (v .1 .1)) ≡ v .0 = omega arith in (
+        record { least = omega arith; most = omega arith; each = (p .1 .0, p .1 .1 .1) },
+        rw e
+            (sym (append-assoc kGrants (head 4 (v .0)) _)),
+        rw e,
+      ))
       (λ gs q h. grants-from gs q)

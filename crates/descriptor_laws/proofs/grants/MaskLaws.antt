@@ -36,7 +36,8 @@ sum-has sum [] m h s a = sym (or-false (hasMode (sum .mask) m))
 sum-has sum (g ∷ gs) m h s a =
     let q = mask-exact (g .modes) (a .0 .modes) in
     sum-has _ gs m h (or-lt 4 (sum .mask) (maskOf (g .modes)) s (q .0)) (a .1)
-    ∙ ap (λ (t : Bool). t || anyHas m gs) (or-has (sum .mask) (maskOf (g .modes)) m ∙ ap (λ (t : Bool). hasMode (sum .mask) m || t) (q .1 m h))
+    ∙ ap (λ (t : Bool). t || anyHas m gs)
+    (or-has (sum .mask) (maskOf (g .modes)) m ∙ ap (λ (t : Bool). hasMode (sum .mask) m || t) (q .1 m h))
     ∙ sym (or-assoc (hasMode (sum .mask) m) (isIn m (g .modes)) (anyHas m gs))
 
 -- The union has no other bit.

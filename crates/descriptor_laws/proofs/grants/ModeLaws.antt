@@ -68,7 +68,8 @@ add-bits = tt
 add-bit : (mask m k : ℕ) → mask < 16 → m < 4 → k < 4 → T (addBit mask m k)
 add-bit mask m k a b c =
     all-below 4 (λ k. addBit mask m k)
-    (all-below 4 (λ m. allBelow 4 (λ k. addBit mask m k)) (all-below 16 (λ mask. allBelow 4 (λ m. allBelow 4 (λ k. addBit mask m k))) add-bits mask a) m b) k c
+    (all-below 4 (λ m. allBelow 4 (λ k. addBit mask m k))
+    (all-below 16 (λ mask. allBelow 4 (λ m. allBelow 4 (λ k. addBit mask m k))) add-bits mask a) m b) k c
 
 -- the mask has exactly the modes seen
 pub record Marks (mask : ℕ) (seen : List ℕ) : Type 0 where
@@ -120,7 +121,8 @@ mode-exact : (s : List ℕ) → AreBytes s → (mask : ℕ) (seen : List ℕ) (a
 unfolding modeAt encMode modeNames
 mode-exact s bs mask seen at i =
     recast
-    (refine (one-exact s bs at modeNames modes-apart) (λ m. isIn m seen ≡ false) (λ m. mask + 2 ^ m) (λ m n. not (hasMode mask m)) (λ m n. mask + 2 ^ m)
+    (refine (one-exact s bs at modeNames modes-apart) (λ m. isIn m seen ≡ false) (λ m. mask + 2 ^ m) (λ m n. not (hasMode mask m))
+    (λ m n. mask + 2 ^ m)
     (λ m p h. (rw (i .bits m p) (T-false (isIn m seen)), refl)))
     (ModeOk seen) encMode (λ m. mask + 2 ^ m) (λ m. m)
     (λ m p h. (record { known = p .0; new = p .1 }, refl, refl))
@@ -152,4 +154,10 @@ modes-exact s bs at =
           ∙ sym (append-assoc kModes (head 4 (v .0)) (encAll encMode (v .1))),
       sym (mask-seen 0 _ (v .1)),
     ))
-    (λ ms q h. ((length ms, ms), ((q .least, q .most), (refl, q .each)), append-assoc kModes (head 4 (length ms)) (encAll encMode ms), refl))
+    (λ ms q h. (
+      (length ms, ms),
+      ((q .least, q .most), (refl, q .each)),
+      append-assoc kModes (head 4 (length ms))
+          (encAll encMode ms),
+      refl,
+    ))

@@ -19,7 +19,7 @@ use Rattle.descriptor.specs.Allowed.{Allowed}
 use Rattle.descriptor.specs.Reader.{Answer, read, structure, validity, readOf, beforePayload, beforeKeyId}
 use Rattle.entries.specs.View.{optPairsView}
 use Rattle.descriptor.specs.View.{maskOf, sumFrom, grantsView, descriptorView}
-use Rattle.descriptor.specs.Answer.{readingOf}
+use Rattle.descriptor.specs.Code.{readingOf}
 use Rattle.descriptor.specs.Numbers.{numbersOf, payloadSpan}
 use Rattle.descriptor_laws.specs.Promises.{pairsIn, constraintPairs, DescriptorHanded, HandsBack, PayloadHanded, handed}
 use Rattle.descriptor_laws.specs.Laws.{SeenHanded}
@@ -114,7 +114,8 @@ payload-inside s d e =
 read-span : (s : List ℕ) → AreBytes s → (d : Descriptor) → Allowed d → s ≡ encode d
     → payloadSpan s (readingOf (readOf s)) ≡ spanOf (handed s .«payload_at») (handed s .«payload_len»)
 read-span s bs d a e =
-    subst (λ (r : Answer). payloadSpan s (readingOf r) ≡ spanOf (numbersOf (readingOf r) .«payload_at») (numbersOf (readingOf r) .«payload_len»)) (sym (answer-seen s bs d a e))
+    subst (λ (r : Answer). payloadSpan s (readingOf r)
+    ≡ spanOf (numbersOf (readingOf r) .«payload_at») (numbersOf (readingOf r) .«payload_len»)) (sym (answer-seen s bs d a e))
     (payload-inside s d e)
 
 -- a refusal hands back nothing

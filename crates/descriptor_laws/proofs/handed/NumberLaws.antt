@@ -4,7 +4,7 @@ use Prim.Native.Nat.{ℕ}
 use native.Mathlib.Omega.{arith}
 use Rattle.descriptor.specs.Reader.{Seen, Answer, read, structure, validity, readOf}
 use Rattle.descriptor.specs.View.{descriptorView}
-use Rattle.descriptor.specs.Answer.{readingOf}
+use Rattle.descriptor.specs.Code.{readingOf}
 use Rattle.descriptor.specs.Numbers.{numbersOf}
 use Rattle.descriptor_laws.specs.Promises.{AnsweredExactly, refusal, RefusalZero}
 use Rattle.descriptor_laws.specs.Laws.{AnswersTold}

@@ -22,7 +22,6 @@ use Rattle.descriptor_laws.proofs.payload.PieceLaws.{issueBytes, granto
 use Rattle.descriptor_laws.proofs.payload.PayloadLaws.{issueOf, grantorOf}
 use Rattle.entries.proofs.SignatureLaws.{encFromKey}
 use Rattle.descriptor_laws.proofs.whole.DescriptorLaws.{halves-encode}
-use Rattle.descriptor_laws.proofs.places.SeenLaws.{payload-here}
 use Rattle.descriptor_laws.proofs.places.PlaceLaws.{issue-at, grantor-at}
 
 -- ---- at a place
@@ -62,7 +61,8 @@ pairs-count (some ps) = refl
 module _ (d : Descriptor) where
   -- metadata stands behind the grants
   pub metadata-stands : StandsIf (encode d) (descriptorView 0 d .payload .metadata .at) (d .payload .metadata)
-  metadata-stands = pairs-stand (encode d) _ kMetadata (d .payload .metadata) _ (has-left (encode d) _ (issueBytes (issueOf (d .payload))) _ (issue-at d))
+  metadata-stands = pairs-stand (encode d) _ kMetadata (d .payload .metadata) _
+      (has-left (encode d) _ (issueBytes (issueOf (d .payload))) _ (issue-at d))
 
   -- issuer_id
   pub issuer-lies : let v = descriptorView 0 d .payload .issuer in Lies (encode d) (v .start) (v .len) (d .payload .issuer)
@@ -75,7 +75,8 @@ module _ (d : Descriptor) where
 
   -- grantor_id
   pub grantor-lies : let v = descriptorView 0 d .payload .grantor in LiesIf (encode d) (v .at) (v .size) (d .payload .grantor)
-  grantor-lies = text-lies (encode d) _ kGrantorId (d .payload .grantor) _ (has-left (encode d) _ (grantorBytes (grantorOf (d .payload))) _ (grantor-at d))
+  grantor-lies = text-lies (encode d) _ kGrantorId (d .payload .grantor) _
+      (has-left (encode d) _ (grantorBytes (grantorOf (d .payload))) _ (grantor-at d))
 
 -- ---- the signature
 
@@ -101,4 +102,5 @@ module _ (d : Descriptor) where
       let s : List ℕ = encode d in
       let g : Signature = d .signature in
       content-lies s _ 2 (g .value)
-      (has-right s _ kSignatureValue _ (has-right s _ (kAlgorithm ++ encAlgorithm (g .algorithm)) _ (has-right s _ (encText (g .keyId)) _ signed-at)))
+      (has-right s _ kSignatureValue _
+      (has-right s _ (kAlgorithm ++ encAlgorithm (g .algorithm)) _ (has-right s _ (encText (g .keyId)) _ signed-at)))

@@ -6,6 +6,7 @@ use Prim.Native.Nat.{ℕ, _+_, _≤_, _<_}
 use native.Mathlib.Omega.{arith}
 use lib.ListN.{length}
 use lib.Dec.{T, leb, ltb, eqb, lit<}
+use Rattle.resource.specs.Identifier.{terminalSize}
 use Rattle.octets.specs.Bytes.{AreBytes, part, Has, same}
 use Rattle.octets.proofs.BytesLaws.{has-left, has-right, has-part}
 use Rattle.octets.proofs.TruthLaws.{eqb-test, leb-test, ltb-test, same-test, and-test}
@@ -59,7 +60,10 @@ idsOf p = (p .terminal, (p .id, p .fay))
 
 -- the encoding of a payload is that of its head, its grants and its pieces, one after the other
 pub pieces-encode : (p : Payload)
-    → head 5 (keysOf p) ++ (encKeyed (p .grants) ++ (encIssue (p .metadata) (p .issuedAt) (p .issuer) (p .notAfter) ++ (encGrantor (p .grantor) (p .notBefore) ++ encIds (p .terminal) (p .id) (p .fay))))
+    → head 5 (keysOf p) ++
+    (encKeyed (p .grants) ++
+    (encIssue (p .metadata) (p .issuedAt) (p .issuer) (p .notAfter) ++
+    (encGrantor (p .grantor) (p .notBefore) ++ encIds (p .terminal) (p .id) (p .fay))))
     ≡ encodePayload p
 unfolding encodePayload
 pieces-encode p = simp append-assoc
@@ -83,17 +87,20 @@ Fits keys gs i g ids =
 
 -- the test of these conditions
 fits-test : (s : List ℕ) (p : PayloadSeen) (k : ℕ) (u t : List ℕ)
-    → flag (p .metadata .there) + flag (p .grantor .there) ≡ k → part s (p .grants .first) 45 ≡ u → part s (p .terminal) 45 ≡ t
+    → flag (p .metadata .there) + flag (p .grantor .there) ≡ k → part s (p .grants .first) terminalSize ≡ u
+    → part s (p .terminal) terminalSize ≡ t
     → T (payloadFits s p) ↔ ((p .keys ≡ 8 + k) × ((u ≡ t) × ((p .issuedAt ≤ p .notBefore) × (p .notBefore < p .notAfter))))
 unfolding payloadFits
 fits-test s p k u t ek eu et =
     rw (ek, eu, et)
     (and-test (eqb (p .keys) (8 + k)) _ (eqb-test (p .keys) (8 + k))
     (and-test (same u t) _ (same-test u t)
-    (and-test (leb (p .issuedAt) (p .notBefore)) (ltb (p .notBefore) (p .notAfter)) (leb-test (p .issuedAt) (p .notBefore)) (ltb-test (p .notBefore) (p .notAfter)))))
+    (and-test (leb (p .issuedAt) (p .notBefore)) (ltb (p .notBefore) (p .notAfter)) (leb-test (p .issuedAt) (p .notBefore))
+    (ltb-test (p .notBefore) (p .notAfter)))))
 
 -- the terminal id of the payload
-terminal-at : (s : List ℕ) (at : ℕ) (ids : Ids) → IdsOk ids → Has s at (idsBytes ids) → part s (idsSeen at ids .terminal) 45 ≡ ids .0
+terminal-at : (s : List ℕ) (at : ℕ) (ids : Ids) → IdsOk ids → Has s at (idsBytes ids) → part s (idsSeen at ids .terminal) terminalSize
+    ≡ ids .0
 terminal-at s at ids p h =
     let k = has-right s _ (head 3 (length (ids .0))) _ (has-right s _ kTerminalId _ (has-left s _ (kTerminalId ++ encText (ids .0)) _ h)) in
     ap (part s _) (sym (terminal-length (ids .0) (p .0))) ∙ has-part s _ (ids .0) k

@@ -52,7 +52,8 @@ module _ (s : List ℕ) (bs : AreBytes s) (at : ℕ) where
       seq _ (keyed kIssuedAt (time-exact s bs _)) (λ t p₁ h₁.
       seq _ (keyed kIssuerId (string-exact s bs _ (Text 1 128) (lit< tt))) (λ c p₂ h₂.
       mapped (keyed kNotAfter (time-exact s bs _)) (λ u. issueView at m t c u) _ (λ u p₃ h₃. refl))))
-      (λ y p h k. has-clash s at kIssuedAt kMetadata metadata-apart (has-left s at kIssuedAt (head 0 (y .0)) (has-left s at (kIssuedAt ++ head 0 (y .0)) _ h)) k)
+      (λ y p h k. has-clash s at kIssuedAt kMetadata metadata-apart
+      (has-left s at kIssuedAt (head 0 (y .0)) (has-left s at (kIssuedAt ++ head 0 (y .0)) _ h)) k)
 
 -- ---- grantor_id and not_before
 

@@ -47,4 +47,6 @@ grants-end d bs q =
     let here : Has s (grantPlace d (length gs)) (behindGrants (d .payload))
     = subst (λ (hs : List Grant). Has s (start + length (encAll encGrant hs)) (behindGrants (d .payload))) (sym (take-length gs))
     (has-right s start (encAll encGrant gs) _ (grants-here d q)) in
-    grant-absent s bs _ .1 (λ g w. key-apart s _ (d .payload .metadata) _ g (subst (Has s _) (behind-keys (encOpt kMetadata encPairs (d .payload .metadata)) _ _ _) here) (w .there))
+    grant-absent s bs _ .1
+    (λ g w. key-apart s _ (d .payload .metadata) _ g
+    (subst (Has s _) (behind-keys (encOpt kMetadata encPairs (d .payload .metadata)) _ _ _) here) (w .there))

@@ -3,6 +3,7 @@ use mathlib.Core.Path.{_≡_, sym, ap, _∙_, subst}
 use mathlib.Core.List.{List, _++_}
 use Prim.Native.Nat.{ℕ, _+_}
 use lib.ListN.{length}
+use Rattle.resource.specs.Identifier.{faySize, terminalSize}
 use Rattle.octets.specs.Bytes.{Has, part}
 use Rattle.cbor_item.specs.Encoding.{head}
 use Rattle.octets.proofs.BytesLaws.{has-left, has-right, has-part}
@@ -23,16 +24,20 @@ module _ (d : Descriptor) where
   abbrev afterGrants : ℕ
   afterGrants = 0 + length beforePayload + length (head 5 (keysOf (d .payload))) + length (encKeyed (d .payload .grants))
 
-  pub issue-at : Has (encode d) afterGrants (issueBytes (issueOf (d .payload)) ++ (grantorBytes (grantorOf (d .payload)) ++ idsBytes (idsOf (d .payload))))
+  pub issue-at : Has (encode d) afterGrants
+      (issueBytes (issueOf (d .payload)) ++ (grantorBytes (grantorOf (d .payload)) ++ idsBytes (idsOf (d .payload))))
   issue-at =
       let s : List ℕ = encode d in
       let p : Payload = d .payload in
-      has-right s _ (encKeyed (p .grants)) _ (has-right s _ (head 5 (keysOf p)) _ (subst (Has s (0 + length beforePayload)) (sym (pieces-encode p)) (payload-here d)))
+      has-right s _ (encKeyed (p .grants)) _
+      (has-right s _ (head 5 (keysOf p)) _ (subst (Has s (0 + length beforePayload)) (sym (pieces-encode p)) (payload-here d)))
 
-  pub grantor-at : Has (encode d) (afterGrants + length (issueBytes (issueOf (d .payload)))) (grantorBytes (grantorOf (d .payload)) ++ idsBytes (idsOf (d .payload)))
+  pub grantor-at : Has (encode d) (afterGrants + length (issueBytes (issueOf (d .payload))))
+      (grantorBytes (grantorOf (d .payload)) ++ idsBytes (idsOf (d .payload)))
   grantor-at = has-right (encode d) _ (issueBytes (issueOf (d .payload))) _ issue-at
 
-  ids-at : Has (encode d) (afterGrants + length (issueBytes (issueOf (d .payload))) + length (grantorBytes (grantorOf (d .payload)))) (idsBytes (idsOf (d .payload)))
+  ids-at : Has (encode d) (afterGrants + length (issueBytes (issueOf (d .payload))) + length (grantorBytes (grantorOf (d .payload))))
+      (idsBytes (idsOf (d .payload)))
   ids-at = has-right (encode d) _ (grantorBytes (grantorOf (d .payload))) _ grantor-at
 
 -- terminal_id
@@ -48,12 +53,14 @@ abbrev ofFay : Payload → List ℕ
 ofFay p = kSubjectFayId ++ encText (p .fay)
 
 -- the terminal id of a formed descriptor stands in its encoding
-pub terminal-part : (d : Descriptor) → Formed d → part (encode d) (descriptorView 0 d .payload .terminal) 45 ≡ d .payload .terminal
+pub terminal-part : (d : Descriptor) → Formed d → part (encode d) (descriptorView 0 d .payload .terminal) terminalSize
+    ≡ d .payload .terminal
 terminal-part d q =
     let s : List ℕ = encode d in
     let p : Payload = d .payload in
     let t : List ℕ = p .terminal in
-    let k = has-right s _ (head 3 (length t)) _ (has-right s _ kTerminalId _ (has-left s _ (ofTerminal p) (ofId p ++ ofFay p) (ids-at d))) in
+    let k = has-right s _ (head 3 (length t)) _
+    (has-right s _ kTerminalId _ (has-left s _ (ofTerminal p) (ofId p ++ ofFay p) (ids-at d))) in
     ap (part s _) (sym (terminal-length t (q .payload .terminal))) ∙ has-part s _ t k
 
 -- so does its id
@@ -66,7 +73,7 @@ id-part d q =
     ap (part s _) (sym (q .payload .id)) ∙ has-part s _ (p .id) k
 
 -- and the subject's fay id
-pub fay-part : (d : Descriptor) → Formed d → part (encode d) (descriptorView 0 d .payload .fay) 40 ≡ d .payload .fay
+pub fay-part : (d : Descriptor) → Formed d → part (encode d) (descriptorView 0 d .payload .fay) faySize ≡ d .payload .fay
 fay-part d q =
     let s : List ℕ = encode d in
     let p : Payload = d .payload in

@@ -37,7 +37,13 @@ take-next : {X : Type 0} (enc : X → List ℕ) (xs : List X) (i : ℕ) (d : X) 
 take-next enc [] i d h = absurd (omega arith)
 take-next enc (x ∷ xs) zero d h = omega (arith, length-append (enc x) [])
 take-next enc (x ∷ xs) (suc i) d h =
-    omega (arith, length-append (enc x) (encAll enc (take i xs)), length-append (enc x) (encAll enc (take (suc i) xs)), take-next enc xs i d (omega arith))
+    omega (
+      arith,
+      length-append (enc x) (encAll enc (take i xs)),
+      length-append (enc x) (encAll enc (take (suc i) xs)),
+      take-next enc xs i d
+          (omega arith),
+    )
 
 -- ---- places
 
@@ -45,7 +51,8 @@ take-next enc (x ∷ xs) (suc i) d h =
 pub payload-here : (d : Descriptor) → Has (encode d) (0 + length beforePayload) (encodePayload (d .payload))
 payload-here d =
     let s : List ℕ = encode d in
-    has-right s 0 beforePayload _ (has-left s 0 (beforePayload ++ encodePayload (d .payload)) _ (subst (Has s 0) (sym (halves-encode d)) (all-has s)))
+    has-right s 0 beforePayload _
+    (has-left s 0 (beforePayload ++ encodePayload (d .payload)) _ (subst (Has s 0) (sym (halves-encode d)) (all-has s)))
 
 -- where the first grant stands, and what follows the last, where the key of the grants stands at a place
 start-at : (s : List ℕ) (at : ℕ) (gs : List Grant) (rest : List ℕ) → 1 ≤ length gs → Has s at (encKeyed gs ++ rest)

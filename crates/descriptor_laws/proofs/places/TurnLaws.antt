@@ -5,6 +5,7 @@ use Prim.Native.Nat.{ℕ, zero, suc, _+_, _-_}
 use native.Mathlib.Nat.{sub-zero, zero-sub, suc-sub-suc}
 use lib.ListN.{length, take, drop}
 use lib.Seq.{take-nil, drop-drop}
+use Rattle.resource.specs.Identifier.{levelsPlace, terminalSize}
 use Rattle.octets.specs.Bytes.{AreBytes, part, Has}
 use Rattle.exact.specs.Reads.{encAll}
 use Rattle.octets.proofs.BytesLaws.{has-left, has-right, has-part}
@@ -26,13 +27,13 @@ drop-take (suc m) (suc n) [] = sym (take-nil (suc n - suc m))
 drop-take (suc m) (suc n) (x ∷ l) = rw (suc-sub-suc n m) (drop-take m n l)
 
 -- a part without its first 46 bytes is the part that begins 46 bytes later
-part-below : (s : List ℕ) (a n : ℕ) → part s (a + 46) (n - 46) ≡ drop 46 (part s a n)
+part-below : (s : List ℕ) (a n : ℕ) → part s (a + levelsPlace) (n - levelsPlace) ≡ drop levelsPlace (part s a n)
 unfolding part
-part-below s a n = sym (drop-take 46 n (drop a s) ∙ ap (take (n - 46)) (drop-drop 46 a s))
+part-below s a n = sym (drop-take levelsPlace n (drop a s) ∙ ap (take (n - levelsPlace)) (drop-drop levelsPlace a s))
 
 module _ (s t : List ℕ) (bs : AreBytes s) where
   -- what is seen of a grant that stands at a place
-  grant-seen : (at : ℕ) (g : Grant) → GrantOk g → take 45 (g .pattern) ≡ t → Has s at (encGrant g) → SeenAs s t g (grantView at g)
+  grant-seen : (at : ℕ) (g : Grant) → GrantOk g → take terminalSize (g .pattern) ≡ t → Has s at (encGrant g) → SeenAs s t g (grantView at g)
   grant-seen at g q o h =
       let e = has-part s _ (g .pattern) (pattern-at s at g h) in
       record {
@@ -41,7 +42,7 @@ module _ (s t : List ℕ) (bs : AreBytes s) where
         mask = refl;
         pairs = refl;
         pattern = e;
-        below = part-below s (grantView at g .pattern .start) (grantView at g .pattern .len) ∙ ap (drop 46) e;
+        below = part-below s (grantView at g .pattern .start) (grantView at g .pattern .len) ∙ ap (drop levelsPlace) e;
       }
 
   -- grants that stand one after the other are read so
@@ -55,7 +56,8 @@ module _ (s t : List ℕ) (bs : AreBytes s) where
 
 pub grants-in-turn : GrantsInTurn
 grants-in-turn d bs q =
-    subst (λ (n : ℕ). InTurn (encode d) (d .payload .terminal) n (descriptorView 0 d .payload .grants .start) (d .payload .grants)) (sym (seen-handed d q .grants))
+    subst (λ (n : ℕ). InTurn (encode d) (d .payload .terminal) n (descriptorView 0 d .payload .grants .start) (d .payload .grants))
+    (sym (seen-handed d q .grants))
     (turn-from (encode d) (d .payload .terminal) bs (d .payload .grants) _ (q .payload .grants) (q .payload .own) (all-grants d q))
 
 pub grants-allowed : GrantsAllowed

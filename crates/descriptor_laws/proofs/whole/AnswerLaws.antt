@@ -44,7 +44,12 @@ whole-encoded s (got v n) short (found a) =
     by-cond (λ b. (b ≡ structure) ⊎ Encoded s) (eqb n (length s))
     (λ e.
     let l : length (encode (a .val)) ≡ length s = omega (arith, eqb-true, a .next) in
-    inr (a .val, record { payload = a .fine .payload; signature = a .fine .signature; short = omega arith }, has-all s (encode (a .val)) (a .has) l))
+    inr (
+      a .val,
+      record { payload = a .fine .payload; signature = a .fine .signature; short = omega arith },
+      has-all s (encode (a .val))
+          (a .has) l,
+    ))
     (λ e. inl refl)
 whole-encoded s refused short r = inl refl
 

@@ -9,6 +9,7 @@ use native.Mathlib.Omega.{arith}
 use lib.ListN.{length, take}
 use lib.Dec.{leb, ltb, eqb}
 use borrow.Author.Tests.{leb-true, le-leb, eqb-false, ne-eqb}
+use Rattle.resource.specs.Identifier.{terminalSize}
 use Rattle.cbor_item.specs.Encoding.{head}
 use Rattle.exact.specs.Reads.{OptOk, AllFrom}
 use Rattle.octets.proofs.Tests.{by-cond, and-left, and-right, and-both}
@@ -177,14 +178,17 @@ within-modes ms q = record { least = q .least; most = q .most; each = each-mode 
 -- a pattern that may enter is one of at most 256 bytes
 pattern-within : (p : List ℕ) → patternOk p ≡ true → (isPattern p ≡ true) × (length p ≤ 256)
 unfolding patternOk
-pattern-within p e =
-    (and-right (leb (length p) longestText) (isPattern p) e, leb-true (length p) longestText (and-left (leb (length p) longestText) (isPattern p) e))
+pattern-within p e = (
+  and-right (leb (length p) longestText) (isPattern p) e,
+  leb-true (length p) longestText
+      (and-left (leb (length p) longestText) (isPattern p) e),
+)
 
 within-pattern : (p : List ℕ) → isPattern p ≡ true → length p ≤ 256 → patternOk p ≡ true
 unfolding patternOk
 within-pattern p e l = and-both (leb (length p) longestText) (isPattern p) (le-leb (length p) longestText l) e
 
-pub grant-within : (t : List ℕ) (g : Grant) → GrantOk g → take 45 (g .pattern) ≡ t → GrantWithin t g
+pub grant-within : (t : List ℕ) (g : Grant) → GrantOk g → take terminalSize (g .pattern) ≡ t → GrantWithin t g
 grant-within t g q o =
     let p = pattern-within (g .pattern) (q .pattern) in
     record {
@@ -212,7 +216,8 @@ formed-within d q =
       short = q .short;
       least = p .least;
       most = p .most;
-      grants = λ i g l e. grant-within (d .payload .terminal) g (all-each GrantOk (d .payload .grants) (p .grants) i g l e) (all-each _ (d .payload .grants) (p .own) i g l e);
+      grants = λ i g l e. grant-within (d .payload .terminal) g (all-each GrantOk (d .payload .grants) (p .grants) i g l e)
+          (all-each _ (d .payload .grants) (p .own) i g l e);
       metadata = opt-map (pairs-within 16) (d .payload .metadata) (p .metadata);
       issued = p .issuedAt;
       issuer = text-within 1 128 (d .payload .issuer) (p .issuer);

@@ -2,7 +2,7 @@
 use mathlib.Core.Path.{_∙_}
 use Rattle.resource.specs.Identifier.{terminalSize}
 use Rattle.octets.proofs.PartLaws.{start-parts}
-use Rattle.narrowing.proofs.NarrowSteps.{parent-constrained, child-constrained, begins-early, ends-late, compared-first}
+use Rattle.narrowing.proofs.NarrowCode.{parent-constrained, child-constrained, begins-early, ends-late, compared-first}
 use native.Mathlib.Omega.{arith}
 use borrow.Author.Needs.{needs}
 use Rattle.narrowing.proofs.compared.Statement.{statement}

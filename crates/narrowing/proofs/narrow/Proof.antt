@@ -2,7 +2,7 @@
 use mathlib.Core.Path.{sym, _∙_}
 use native.Mathlib.Omega.{arith}
 use Rattle.octets.proofs.BytesLaws.{are-bytes}
-use Rattle.narrowing.proofs.NarrowSteps.{terminal-room, grants-few, narrow-both, narrow-structure, narrow-validity, narrow-no-parent}
+use Rattle.narrowing.proofs.NarrowCode.{terminal-room, grants-few, narrow-both, narrow-structure, narrow-validity, narrow-no-parent}
 use borrow.Author.Needs.{needs}
 use Rattle.narrowing.proofs.narrow.Statement.{statement}
 use Rattle.narrowing.proofs.narrow.Tie as tie

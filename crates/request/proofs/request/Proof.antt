@@ -9,12 +9,12 @@ use borrow.Author.Needs.{needs}
 use Rattle.octets.specs.Bytes.{AreBytes}
 use Rattle.octets.proofs.BytesLaws.{are-bytes}
 use Rattle.image.specs.declared.Held.the-variants.{Body}
-use Rattle.image.specs.declared.Survey.the-variants.{Sound}
-use Rattle.image.specs.Edition1.{surveyOf}
+use Rattle.image.specs.declared.ImageCheck.the-variants.{Sound}
+use Rattle.image.specs.Edition1.{checkOf}
 use Rattle.request.specs.Request.{Request, requestOf, wellFormed}
-use Rattle.request.proofs.ArgumentLaws.{formed-mode, formed-resource}
-use Rattle.request.proofs.DecideLaws.{decide-malformed, decide-unsound, decide-missing, decide-body}
-use Rattle.request.proofs.FitLaws.{held-inside, held-fits}
+use Rattle.request.proofs.ArgumentCode.{formed-mode, formed-resource}
+use Rattle.request.proofs.DecideCode.{decide-malformed, decide-unsound, decide-missing, decide-body}
+use Rattle.request.proofs.BodyCode.{held-inside, held-fits}
 use Rattle.request.proofs.request.Statement.{statement}
 use Rattle.request.proofs.request.Tie as tie
 
@@ -44,16 +44,17 @@ bytes k = are-bytes (k .before .args .image .now) (k .shared-slice-known .given)
 formed : (c : tie.Else1) → wellFormed (asked (at1 c)) ≡ true
 formed c = sym (c .before .well-formed .ensures) ∙ not-false _ (c .if1 .left)
 
--- what the survey found
+-- what the check found
 abbrev before-match : tie.After-held2 → tie.After-held
 before-match c = c .before .before .before
 
-surveyed : (c : tie.After-held2)
+checkAnswer : (c : tie.After-held2)
     → let h = before-match c in
     let a = at1 (h .before .before .before) .args in
-    Sound (h .held .given .0 .0) (h .held .given .0 .1 .0) (Body (c .held2 .given .0 .0) (c .held2 .given .0 .1 .0) (c .held2 .given .0 .1 .1 .0))
-    ≡ surveyOf (a .image .now) (a .id .now)
-surveyed c =
+    Sound (h .held .given .0 .0) (h .held .given .0 .1 .0)
+    (Body (c .held2 .given .0 .0) (c .held2 .given .0 .1 .0) (c .held2 .given .0 .1 .1 .0))
+    ≡ checkOf (a .image .now) (a .id .now)
+checkAnswer c =
     let h = before-match c in
     sym (h .held .given .1 ∙ ap (Sound (h .held .given .0 .0) (h .held .given .0 .1 .0)) (c .held2 .given .1))
     ∙ h .before .before .check .ensures
@@ -61,7 +62,7 @@ surveyed c =
 -- the body lies in the image
 inside : (c : tie.After-held2)
     → c .held2 .given .0 .0 + c .held2 .given .0 .1 .0 ≤ length (at1 (before-match c .before .before .before) .args .image .now)
-inside c = held-inside _ _ _ _ _ _ _ (bytes (at2 (before-match c .before .before .before))) (surveyed c)
+inside c = held-inside _ _ _ _ _ _ _ (bytes (at2 (before-match c .before .before .before))) (checkAnswer c)
 
 returns : tie.Need-returns
 returns c = decide-malformed _ _ (sym (c .before .well-formed .ensures) ∙ not-true _ (c .if1 .taken))
@@ -79,13 +80,13 @@ on-body-requires c κs =
     let h = c .before .before in
     let e = before-match h .before .before .before in
     let w = formed e in
-    (formed-resource _ w, formed-mode _ w, held-fits _ _ _ _ _ _ _ (bytes (at2 e)) (surveyed h))
+    (formed-resource _ w, formed-mode _ w, held-fits _ _ _ _ _ _ _ (bytes (at2 e)) (checkAnswer h))
 
 returns-2 : tie.Need-returns-2
 returns-2 c =
     let h = c .before .before .before in
     let e = before-match h .before .before .before in
-    decide-body (at1 e .args .image .now) (asked (at1 e)) (formed e) (surveyed h) (c .on-body .ensures)
+    decide-body (at1 e .args .image .now) (asked (at1 e)) (formed e) (checkAnswer h) (c .on-body .ensures)
 
 returns-3 : tie.Need-returns-3
 returns-3 c =

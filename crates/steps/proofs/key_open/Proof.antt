@@ -1,10 +1,8 @@
 -- `key_open` meets its contract. Assumes nothing.
-use mathlib.Core.Path.{_≡_, refl}
+use mathlib.Core.Path.{refl}
 use Rattle.steps.specs.Key.{keyOpen}
 use Rattle.steps.proofs.key_open.Statement.{statement}
 use Rattle.steps.proofs.key_open.Tie as tie
-use Rattle.steps.proofs.key_open.Reads as reads
-use Rattle.steps.proofs.key_open.Lts as lts
 
 returns : tie.Need-returns
 unfolding keyOpen

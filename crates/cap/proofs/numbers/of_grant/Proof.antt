@@ -1,7 +1,7 @@
 -- `of_grant` meets its contract. Assumes nothing.
 use mathlib.Core.Path.{sym, ap}
 use Rattle.descriptor.specs.declared.GrantRead.{GrantRead}
-use Rattle.descriptor.specs.Answer.{grantRead}
+use Rattle.descriptor.specs.Code.{grantRead}
 use Rattle.descriptor.specs.declared.GrantNumbers.{GrantNumbers}
 use Rattle.descriptor.specs.Numbers.{grantNumbers}
 use borrow.Author.Needs.{needs}

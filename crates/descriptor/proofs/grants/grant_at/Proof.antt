@@ -4,10 +4,10 @@ use native.Mathlib.Omega.{arith}
 use Rattle.cbor_item.specs.Head.{spanRead}
 use Rattle.exact.proofs.ReadsLaws.{took, stopped}
 use Rattle.entries.specs.Keys.{kModes, kConstraints, kResourcePattern}
-use Rattle.entries.specs.Answer.{countRead, optionalRead}
+use Rattle.entries.specs.Code.{countRead, optionalRead}
 use Rattle.entries.proofs.ValueBounds.{string-ends}
 use Rattle.descriptor.specs.Reader.{grantAt}
-use Rattle.descriptor.proofs.ModeSteps.{modes-room}
+use Rattle.descriptor.proofs.ModeCode.{modes-room}
 use borrow.Author.Needs.{needs}
 use Rattle.descriptor.proofs.grants.grant_at.Statement.{statement}
 use Rattle.descriptor.proofs.grants.grant_at.Tie as tie
@@ -47,13 +47,23 @@ add-if-counts : tie.Need-add-if-counts
 add-if-counts c =
     let m = c .before .before .before .before .before .before .before .before .before .before .before in
     let h = m .before .before .before .before .before .before .before .before in
-    omega (arith, h .good .0, modes-room (h .args .s .now) _ (sym (ap countRead (m .mask .given .1)) ∙ m .before .before .modes-at .ensures))
+    omega (
+      arith,
+      h .good .0,
+      modes-room (h .args .s .now) _
+          (sym (ap countRead (m .mask .given .1)) ∙ m .before .before .modes-at .ensures),
+    )
 
 add-if-counts-2 : tie.Need-add-if-counts-2
 add-if-counts-2 c =
     let p = c .before in
     let h = p .before .before .before .before .before .before .before .before .before .before .before .before .before .before .before .before .before .before in
-    omega (arith, h .good .0, string-ends _ (h .args .s .now) _ _ (sym (ap spanRead (p .start .given .1)) ∙ p .before .before .keyed .ensures))
+    omega (
+      arith,
+      h .good .0,
+      string-ends _ (h .args .s .now) _ _
+          (sym (ap spanRead (p .start .given .1)) ∙ p .before .before .keyed .ensures),
+    )
 
 returns-5 : tie.Need-returns-5
 unfolding grantAt kModes kConstraints kResourcePattern

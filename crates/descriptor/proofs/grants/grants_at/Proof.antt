@@ -3,22 +3,24 @@ use mathlib.Core.Path.{_≡_, sym, ap, _∙_}
 use Prim.Native.Nat.{_+_, _*_, _≤_}
 use native.Mathlib.Omega.{arith}
 use lib.ListN.{length}
+use Rattle.resource.specs.Identifier.{terminalSize}
 use Rattle.exact.specs.Reads.{got}
 use Rattle.exact.proofs.ReadsLaws.{took, stopped}
 use Rattle.entries.specs.Keys.{kGrants}
 use Rattle.entries.specs.Value.{countAt, keyedAt}
-use Rattle.entries.specs.Answer.{countRead}
+use Rattle.entries.specs.Code.{countRead}
 use Rattle.entries.proofs.ValueBounds.{count-room}
-use Rattle.descriptor.specs.Answer.{grantRead, sumOf, sumRead}
+use Rattle.descriptor.specs.Code.{grantRead, sumOf, sumRead}
 use Rattle.descriptor.specs.Reader.{grantsAt}
-use Rattle.descriptor.proofs.GrantBounds.{GrantIn, grant-room, more-room, grantsFrom, grants-begin, grants-next, grants-stop}
+use Rattle.descriptor.proofs.GrantBounds.{grant-room, more-room, grantsFrom, grants-begin, grants-next, grants-stop}
 use Rattle.descriptor.proofs.GrantBounds.{grants-done}
 use borrow.Author.Needs.{needs}
 use Rattle.descriptor.proofs.grants.grants_at.Statement.{statement}
 use Rattle.descriptor.proofs.grants.grants_at.Tie as tie
 
 abbrev Inv-loop : tie.InvT-loop
-Inv-loop s at value next start after first sum₀ left₀ here₀ sum left here = (first + 45 ≤ length s) × (sum .pairs + left * 8 ≤ 2048)
+Inv-loop s at value next start after first sum₀ left₀ here₀ sum left here = (first + terminalSize ≤ length s)
+    × (sum .pairs + left * 8 ≤ 2048)
     × (grantsFrom s value start first left (sumOf sum) here ≡ grantsAt s at)
 
 abbrev μ-loop : tie.MeasureT-loop
@@ -26,7 +28,8 @@ abbrev μ-loop : tie.MeasureT-loop
 
 -- how many grants there are to be
 counted : (k : tie.After-value Inv-loop μ-loop) → got (k .value .given .0 .0) (k .value .given .0 .1 .0)
-    ≡ keyedAt (k .before .before .before .before .before .args .s .now) (k .before .before .before .before .before .args .at) kGrants (λ n. countAt (k .before .before .before .before .before .args .s .now) n 4 1 256)
+    ≡ keyedAt (k .before .before .before .before .before .args .s .now) (k .before .before .before .before .before .args .at) kGrants
+    (λ n. countAt (k .before .before .before .before .before .args .s .now) n 4 1 256)
 unfolding kGrants
 counted k = sym (ap countRead (k .value .given .1)) ∙ k .before .before .keyed-count .ensures
 
@@ -67,8 +70,12 @@ loop-again : tie.Need-loop-again Inv-loop μ-loop
 loop-again c =
     let m = c .before in
     let l = m .before .before .before .before in
-    let e = sym (ap sumRead (m .more .given .1)) ∙ m .before .before .more-at .ensures in
-    (l .loop .inv .0, omega (arith, l .loop .inv .1, more-room _ _ _ _ e .few), grants-next _ _ _ _ _ _ _ (m .before .before .before .loop-test .taken) e ∙ l .loop .inv .2)
+    let e = sym (ap sumRead (m .more .given .1)) ∙ m .before .before .more-at .ensures in (
+      l .loop .inv .0,
+      omega (arith, l .loop .inv .1, more-room _ _ _ _ e .few),
+      grants-next _ _ _ _ _ _ _
+          (m .before .before .before .loop-test .taken) e ∙ l .loop .inv .2,
+    )
 
 returns-4 : tie.Need-returns-4 Inv-loop μ-loop
 returns-4 c = grants-done _ _ _ _ _ _ _ (omega arith) ∙ c .before .loop .inv .2

@@ -5,7 +5,7 @@ use native.Mathlib.Omega.{arith}
 use Rattle.octets.proofs.BytesLaws.{T-of}
 use Rattle.entries.specs.Keys.{mRead, mWrite, mExecute, mConfigure}
 use Rattle.entries.proofs.ValueBounds.{key-end}
-use Rattle.descriptor.proofs.ModeSteps.{mode-read, mode-write, mode-execute, mode-configure, mode-none}
+use Rattle.descriptor.proofs.ModeCode.{mode-read, mode-write, mode-execute, mode-configure, mode-none}
 use borrow.Author.Needs.{needs}
 use Rattle.descriptor.proofs.modes.mode_at.Statement.{statement}
 use Rattle.descriptor.proofs.modes.mode_at.Tie as tie
@@ -14,7 +14,8 @@ add-with-mode : tie.Need-add-with-mode
 unfolding mRead
 add-with-mode c =
     let a = c .before .before .before .before .args in
-    let e : a .at + 5 < 2 ^ 64 = key-end (a .s .now) (a .at) mRead (2 ^ 64) (T-of (c .before .has-at .ensures) (c .if1 .taken)) (omega arith) (omega arith) in
+    let e : a .at + 5 < 2 ^ 64 =
+    key-end (a .s .now) (a .at) mRead (2 ^ 64) (T-of (c .before .has-at .ensures) (c .if1 .taken)) (omega arith) (omega arith) in
     omega (arith, e)
 
 returns : tie.Need-returns
@@ -28,7 +29,8 @@ add-with-mode-2 : tie.Need-add-with-mode-2
 unfolding mWrite
 add-with-mode-2 c =
     let a = c .before .before .before .before .before .before .before .args in
-    let e : a .at + 6 < 2 ^ 64 = key-end (a .s .now) (a .at) mWrite (2 ^ 64) (T-of (c .before .has-at2 .ensures) (c .if2 .taken)) (omega arith) (omega arith) in
+    let e : a .at + 6 < 2 ^ 64 =
+    key-end (a .s .now) (a .at) mWrite (2 ^ 64) (T-of (c .before .has-at2 .ensures) (c .if2 .taken)) (omega arith) (omega arith) in
     omega (arith, e)
 
 returns-2 : tie.Need-returns-2
@@ -44,7 +46,8 @@ add-with-mode-3 : tie.Need-add-with-mode-3
 unfolding mExecute
 add-with-mode-3 c =
     let a = c .before .before .before .before .before .before .before .before .before .before .args in
-    let e : a .at + 8 < 2 ^ 64 = key-end (a .s .now) (a .at) mExecute (2 ^ 64) (T-of (c .before .has-at3 .ensures) (c .if3 .taken)) (omega arith) (omega arith) in
+    let e : a .at + 8 < 2 ^ 64 =
+    key-end (a .s .now) (a .at) mExecute (2 ^ 64) (T-of (c .before .has-at3 .ensures) (c .if3 .taken)) (omega arith) (omega arith) in
     omega (arith, e)
 
 returns-3 : tie.Need-returns-3
@@ -62,7 +65,8 @@ add-with-mode-4 : tie.Need-add-with-mode-4
 unfolding mConfigure
 add-with-mode-4 c =
     let a = c .before .before .before .before .before .before .before .before .before .before .before .before .before .args in
-    let e : a .at + 10 < 2 ^ 64 = key-end (a .s .now) (a .at) mConfigure (2 ^ 64) (T-of (c .before .has-at4 .ensures) (c .if4 .taken)) (omega arith) (omega arith) in
+    let e : a .at + 10 < 2 ^ 64 =
+    key-end (a .s .now) (a .at) mConfigure (2 ^ 64) (T-of (c .before .has-at4 .ensures) (c .if4 .taken)) (omega arith) (omega arith) in
     omega (arith, e)
 
 returns-4 : tie.Need-returns-4

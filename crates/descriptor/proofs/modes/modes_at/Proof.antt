@@ -9,9 +9,9 @@ use Rattle.exact.proofs.ReadsLaws.{stopped}
 use Rattle.exact.proofs.CountedLaws.{many-got}
 use Rattle.entries.specs.Keys.{kModes}
 use Rattle.entries.specs.Value.{countAt, keyedAt}
-use Rattle.entries.specs.Answer.{countRead}
+use Rattle.entries.specs.Code.{countRead}
 use Rattle.descriptor.specs.Reader.{modeAt, modesAt}
-use Rattle.descriptor.proofs.ModeSteps.{mode-small, modes-no, modes-yes}
+use Rattle.descriptor.proofs.ModeCode.{mode-small, modes-no, modes-yes}
 use Rattle.descriptor.proofs.modes.modes_at.Statement.{statement}
 use Rattle.descriptor.proofs.modes.modes_at.Tie as tie
 
@@ -23,13 +23,15 @@ abbrev μ-loop : tie.MeasureT-loop
 
 -- what was answered for the key and the head
 counted : (k : tie.After-value Inv-loop μ-loop) → got (k .value .given .0 .0) (k .value .given .0 .1 .0)
-    ≡ keyedAt (k .before .before .before .before .before .args .s .now) (k .before .before .before .before .before .args .at) kModes (λ n. countAt (k .before .before .before .before .before .args .s .now) n 4 1 4)
+    ≡ keyedAt (k .before .before .before .before .before .args .s .now) (k .before .before .before .before .before .args .at) kModes
+    (λ n. countAt (k .before .before .before .before .before .args .s .now) n 4 1 4)
 unfolding kModes
 counted k = sym (ap countRead (k .value .given .1)) ∙ k .before .before .keyed-count .ensures
 
 -- what was answered for one mode
 one : (w : tie.After-with Inv-loop μ-loop) → got (w .with .given .0 .0) (w .with .given .0 .1 .0)
-    ≡ modeAt (w .before .before .before .before .before .before .before .before .before .before .before .args .s .now) (w .before .before .before .before .loop .mask) (w .before .before .before .before .loop .here)
+    ≡ modeAt (w .before .before .before .before .before .before .before .before .before .before .before .args .s .now)
+    (w .before .before .before .before .loop .mask) (w .before .before .before .before .loop .here)
 one w = sym (ap countRead (w .with .given .1)) ∙ w .before .before .mode-at .ensures
 
 returns : tie.Need-returns Inv-loop μ-loop
@@ -51,7 +53,8 @@ loop-again c =
     let l = w .before .before .before .before in
     let a = l .before .before .before .before .before .before .before .args in (
       mode-small (a .s .now) (l .loop .mask) (l .loop .here) (w .with .given .0 .0) (w .with .given .0 .1 .0) (l .loop .inv .0) (one w),
-      sym (many-got (modeAt (a .s .now)) (l .loop .left) (l .loop .mask) (l .loop .here) (w .with .given .0 .0) (w .with .given .0 .1 .0) (omega arith) (one w)) ∙ l .loop .inv .1,
+      sym (many-got (modeAt (a .s .now)) (l .loop .left) (l .loop .mask) (l .loop .here) (w .with .given .0 .0) (w .with .given .0 .1 .0)
+          (omega arith) (one w)) ∙ l .loop .inv .1,
     )
 
 returns-3 : tie.Need-returns-3 Inv-loop μ-loop

@@ -1,5 +1,5 @@
 -- `with_mode` meets its contract. Assumes nothing.
-use Rattle.descriptor.proofs.ModeSteps.{with-yes, with-no}
+use Rattle.descriptor.proofs.ModeCode.{with-yes, with-no}
 use borrow.Author.Needs.{needs}
 use Rattle.descriptor.proofs.modes.with_mode.Statement.{statement}
 use Rattle.descriptor.proofs.modes.with_mode.Tie as tie

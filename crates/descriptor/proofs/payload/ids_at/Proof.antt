@@ -44,7 +44,12 @@ add-t18 : tie.Need-add-t18
 add-t18 c =
     let k = c .before in
     let h = k .before .before .before .before .before .before .before .before .before .before .before .before .before .before .before in
-    omega (arith, h .good .0, string-ends _ (h .args .s .now) _ _ (sym (ap spanRead (k .fay .given .1)) ∙ k .before .before .keyed3 .ensures))
+    omega (
+      arith,
+      h .good .0,
+      string-ends _ (h .args .s .now) _ _
+          (sym (ap spanRead (k .fay .given .1)) ∙ k .before .before .keyed3 .ensures),
+    )
 
 returns-4 : tie.Need-returns-4
 unfolding idsAt kTerminalId kDescriptorId kSubjectFayId

@@ -4,7 +4,7 @@ use native.Mathlib.Omega.{arith}
 use Rattle.cbor_item.specs.Head.{spanRead}
 use Rattle.exact.proofs.ReadsLaws.{took, stopped}
 use Rattle.entries.specs.Keys.{kMetadata, kIssuedAt, kIssuerId, kNotAfter}
-use Rattle.entries.specs.Answer.{countRead, optionalRead}
+use Rattle.entries.specs.Code.{countRead, optionalRead}
 use Rattle.entries.proofs.ValueBounds.{string-ends}
 use Rattle.descriptor.specs.Reader.{issueAt}
 use borrow.Author.Needs.{needs}
@@ -35,7 +35,12 @@ add-keyed-count : tie.Need-add-keyed-count
 add-keyed-count c =
     let k = c .before in
     let h = k .before .before .before .before .before .before .before .before .before .before .before .before .before .before .before in
-    omega (arith, h .good .0, string-ends _ (h .args .s .now) _ _ (sym (ap spanRead (k .start .given .1)) ∙ k .before .before .keyed .ensures))
+    omega (
+      arith,
+      h .good .0,
+      string-ends _ (h .args .s .now) _ _
+          (sym (ap spanRead (k .start .given .1)) ∙ k .before .before .keyed .ensures),
+    )
 
 returns-4 : tie.Need-returns-4
 unfolding issueAt kMetadata kIssuedAt kIssuerId kNotAfter

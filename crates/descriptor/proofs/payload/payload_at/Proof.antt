@@ -1,8 +1,8 @@
 -- `payload_at` meets its contract. Assumes nothing.
 use mathlib.Core.Path.{sym, ap, _∙_}
 use Rattle.exact.proofs.ReadsLaws.{took, stopped}
-use Rattle.entries.specs.Answer.{countRead}
-use Rattle.descriptor.specs.Answer.{grantsRead, issueRead, grantorRead, idsRead}
+use Rattle.entries.specs.Code.{countRead}
+use Rattle.descriptor.specs.Code.{grantsRead, issueRead, grantorRead, idsRead}
 use Rattle.descriptor.specs.Reader.{payloadAt}
 use Rattle.descriptor.proofs.GrantBounds.{grants-room}
 use Rattle.descriptor.proofs.PayloadBounds.{ids-room}

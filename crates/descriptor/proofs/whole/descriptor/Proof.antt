@@ -1,22 +1,21 @@
 -- `descriptor` meets its contract. Assumes nothing.
 use mathlib.Core.Path.{_≡_, refl, sym, ap, _∙_}
-use Prim.Native.Nat.{_+_, _-_, _≤_, _<_}
+use Prim.Native.Nat.{_-_, _≤_, _<_}
 use native.Mathlib.Omega.{arith}
 use lib.ListN.{length}
 use lib.Dec.{lit<}
-use Rattle.octets.specs.Bytes.{hasAt}
-use Rattle.exact.specs.Reads.{got, guard}
+use Rattle.exact.specs.Reads.{got}
 use Rattle.octets.proofs.BytesLaws.{T-of-not, not-T-of}
 use Rattle.exact.proofs.ReadsLaws.{took, stopped, passed, failed}
 use Rattle.descriptor.specs.declared.Reading.the-variants.{Read}
 use Rattle.entries.specs.Keys.{kPayload, kVersion, kSignature, kKeyId}
 use Rattle.entries.specs.Value.{keyedAt}
-use Rattle.entries.specs.Answer.{signatureRead}
+use Rattle.entries.specs.Code.{signatureRead}
 use Rattle.entries.proofs.ValueBounds.{key-room}
 use Rattle.descriptor.specs.Reader.{payloadAt, beforePayload, beforeKeyId, descriptorAt}
-use Rattle.descriptor.specs.Answer.{payloadOf, payloadRead, seenOf}
+use Rattle.descriptor.specs.Code.{payloadOf, payloadRead, seenOf}
 use Rattle.descriptor.proofs.PayloadBounds.{payload-room}
-use Rattle.descriptor.proofs.ReadSteps.{read-long, read-refused, read-more, read-period, read-all}
+use Rattle.descriptor.proofs.ReadCode.{read-long, read-refused, read-more, read-period, read-all}
 use borrow.Author.Needs.{needs}
 use Rattle.descriptor.proofs.whole.descriptor.Statement.{statement}
 use Rattle.descriptor.proofs.whole.descriptor.Tie as tie
@@ -32,13 +31,14 @@ payload k = sym (ap payloadRead (k .payload .given .1)) ∙ k .before .before .p
 
 -- it stands after its key
 keyed : (k : tie.After-payload) → got (payloadOf (k .payload .given .0 .0)) (k .payload .given .0 .1 .0)
-    ≡ keyedAt (k .before .before .before .before .before .before .before .before .args .s .now) 0 beforePayload (payloadAt (k .before .before .before .before .before .before .before .before .args .s .now))
+    ≡ keyedAt (k .before .before .before .before .before .before .before .before .args .s .now) 0 beforePayload
+    (payloadAt (k .before .before .before .before .before .before .before .before .args .s .now))
 unfolding beforePayload kPayload
 keyed k = let h = k .before .before .before in passed _ (T-of-not _ (h .before .has-at .ensures) (h .if2 .left)) (payload k)
 
 -- it ends after its start, and its period is not empty
 fits : (k : tie.After-payload) → (9 ≤ k .payload .given .0 .1 .0)
-    × (k .payload .given .0 .0 .grantor .before < k .payload .given .0 .0 .issue .after)
+    × (k .payload .given .0 .0 .grantor .«not_before» < k .payload .given .0 .0 .issue .«not_after»)
 fits k = let r = payload-room _ _ (payload k) in (r .0, r .1 .lasts)
 
 -- the descriptor that was read
@@ -49,7 +49,8 @@ signed g =
     let f = g .before .before .before in
     let k = f .before .before .before .before in
     took _ (keyed k)
-    (took _ (passed _ (T-of-not _ (f .before .has-at2 .ensures) (f .if3 .left)) (sym (ap signatureRead (g .signature .given .1)) ∙ g .before .before .signature-at .ensures)) refl)
+    (took _ (passed _ (T-of-not _ (f .before .has-at2 .ensures) (f .if3 .left))
+    (sym (ap signatureRead (g .signature .given .1)) ∙ g .before .before .signature-at .ensures)) refl)
 
 returns : tie.Need-returns
 returns c = read-long _ (c .if1 .taken)
@@ -64,7 +65,8 @@ unfolding descriptorAt beforePayload kPayload
 returns-3 c =
     let h = c .before .before .before in
     read-refused _ (h .before .before .before .if1 .left)
-    (stopped _ (passed _ (T-of-not _ (h .before .has-at .ensures) (h .if2 .left)) (sym (ap payloadRead (c .enum-told .given .1)) ∙ c .before .before .payload-at .ensures)))
+    (stopped _ (passed _ (T-of-not _ (h .before .has-at .ensures) (h .if2 .left))
+    (sym (ap payloadRead (c .enum-told .given .1)) ∙ c .before .before .payload-at .ensures)))
 
 returns-4 : tie.Need-returns-4
 unfolding descriptorAt beforePayload beforeKeyId kPayload kVersion kSignature kKeyId
@@ -75,7 +77,12 @@ returns-4 c =
 add-signature-at : tie.Need-add-signature-at
 add-signature-at c =
     let k = c .before .before .before .before in
-    omega (arith, short k, key-room (k .before .before .before .before .before .before .before .before .args .s .now) _ _ _ (lit< tt) (c .before .has-at2 .ensures) (c .if3 .left))
+    omega (
+      arith,
+      short k,
+      key-room (k .before .before .before .before .before .before .before .before .args .s .now) _ _ _ (lit< tt)
+          (c .before .has-at2 .ensures) (c .if3 .left),
+    )
 
 returns-5 : tie.Need-returns-5
 unfolding descriptorAt beforePayload beforeKeyId kPayload kVersion kSignature kKeyId
@@ -84,7 +91,8 @@ returns-5 c =
     let k = f .before .before .before .before in
     read-refused _ (short k)
     (took _ (keyed k)
-    (stopped _ (passed _ (T-of-not _ (f .before .has-at2 .ensures) (f .if3 .left)) (sym (ap signatureRead (c .enum-told2 .given .1)) ∙ c .before .before .signature-at .ensures))))
+    (stopped _ (passed _ (T-of-not _ (f .before .has-at2 .ensures) (f .if3 .left))
+    (sym (ap signatureRead (c .enum-told2 .given .1)) ∙ c .before .before .signature-at .ensures))))
 
 returns-6 : tie.Need-returns-6
 returns-6 c =
@@ -92,7 +100,11 @@ returns-6 c =
     read-more _ (short (g .before .before .before .before .before .before .before)) (signed g) (c .if4 .taken)
 
 sub-if5 : tie.Need-sub-if5
-sub-if5 c = omega (arith, fits (c .before .before .before .before .before .before .before .before .before .before .before .before .before) .1)
+sub-if5 c = omega (
+  arith,
+  fits
+      (c .before .before .before .before .before .before .before .before .before .before .before .before .before) .1,
+)
 
 returns-7 : tie.Need-returns-7
 returns-7 c =
@@ -101,7 +113,8 @@ returns-7 c =
     read-period _ (short (g .before .before .before .before .before .before .before)) (signed g) (e .if4 .left) (c .if5 .taken)
 
 sub-fields-of : tie.Need-sub-fields-of
-sub-fields-of c = omega (arith, fits (c .before .before .before .before .before .before .before .before .before .before .before .before .before .before) .0)
+sub-fields-of c = omega
+    (arith, fits (c .before .before .before .before .before .before .before .before .before .before .before .before .before .before) .0)
 
 returns-8 : tie.Need-returns-8
 returns-8 c =

@@ -5,9 +5,9 @@ use native.Mathlib.Omega.{arith}
 use Rattle.octets.proofs.BytesLaws.{T-of-not}
 use Rattle.exact.proofs.ReadsLaws.{took, stopped}
 use Rattle.entries.specs.Reader.{optPairsAt}
-use Rattle.entries.specs.Answer.{countRead}
+use Rattle.entries.specs.Code.{countRead}
 use Rattle.entries.proofs.ValueBounds.{key-end}
-use Rattle.entries.proofs.ValueSteps.{or-there, or-absent}
+use Rattle.entries.proofs.ValueCode.{or-there, or-absent}
 use borrow.Author.Needs.{needs}
 use Rattle.entries.proofs.pairs.opt_pairs.Statement.{statement}
 use Rattle.entries.proofs.pairs.opt_pairs.Tie as tie
@@ -19,7 +19,11 @@ returns c = or-absent _ _ _ _ (c .before .has-at .ensures) (c .if1 .taken)
 add-place : tie.Need-add-place
 add-place c =
     let a = c .before .before .before .before .args in
-    omega (arith, key-end (a .s .now) (a .at) (a .key .now) (2 ^ 64) (T-of-not _ (c .before .has-at .ensures) (c .if1 .left)) (omega arith) (omega arith))
+    omega (
+      arith,
+      key-end (a .s .now) (a .at) (a .key .now) (2 ^ 64) (T-of-not _ (c .before .has-at .ensures) (c .if1 .left)) (omega arith)
+          (omega arith),
+    )
 
 returns-2 : tie.Need-returns-2
 unfolding optPairsAt

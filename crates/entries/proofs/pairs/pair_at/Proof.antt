@@ -11,7 +11,7 @@ use Rattle.entries.specs.declared.value.Kind.the-variants.{Text}
 use Rattle.entries.specs.Value.{kindAt}
 use Rattle.entries.specs.Reader.{pairAt}
 use Rattle.entries.proofs.ValueBounds.{string-room}
-use Rattle.entries.proofs.PairSteps.{pair-early, pair-no, pair-yes}
+use Rattle.entries.proofs.PairCode.{pair-early, pair-no, pair-yes}
 use borrow.Author.Needs.{needs}
 use Rattle.entries.proofs.pairs.pair_at.Statement.{statement}
 use Rattle.entries.proofs.pairs.pair_at.Tie as tie
@@ -24,7 +24,8 @@ key k = sym (ap spanRead (k .start .given .1)) ∙ k .before .before .string-at 
 
 -- the key lies in the bytes, after its place
 key-in : (k : tie.After-start)
-    → SpanTo (k .before .before .before .before .args .s .now) (k .before .before .before .before .args .at) (spanOf (k .start .given .0 .0) (k .start .given .0 .1 .0)) (k .start .given .0 .0 + k .start .given .0 .1 .0)
+    → SpanTo (k .before .before .before .before .args .s .now) (k .before .before .before .before .args .at)
+    (spanOf (k .start .given .0 .0) (k .start .given .0 .1 .0)) (k .start .given .0 .0 + k .start .given .0 .1 .0)
 key-in k = string-room (Text 1 64) _ _ (key k)
 
 returns : tie.Need-returns
@@ -59,7 +60,11 @@ add-t15 : tie.Need-add-t15
 add-t15 c =
     let f = c .before in
     let h = f .before .before .before .before .before .before .before .before .before .before .before .before in
-    omega (arith, string-room (Text 0 256) (h .args .s .now) _ (sym (ap spanRead (f .from .given .1)) ∙ f .before .before .string-at2 .ensures) .fits)
+    omega (
+      arith,
+      string-room (Text 0 256) (h .args .s .now) _
+          (sym (ap spanRead (f .from .given .1)) ∙ f .before .before .string-at2 .ensures) .fits,
+    )
 
 returns-4 : tie.Need-returns-4
 returns-4 c =

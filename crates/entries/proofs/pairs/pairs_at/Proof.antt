@@ -11,9 +11,9 @@ use Rattle.exact.proofs.ReadsLaws.{stopped}
 use Rattle.exact.proofs.CountedLaws.{many-got}
 use Rattle.entries.specs.Value.{countAt}
 use Rattle.entries.specs.Reader.{pairAt, pairsAt}
-use Rattle.entries.specs.Answer.{countRead, pairRead}
+use Rattle.entries.specs.Code.{countRead, pairRead}
 use Rattle.entries.proofs.ValueBounds.{pair-room}
-use Rattle.entries.proofs.PairSteps.{pairs-no, pairs-yes}
+use Rattle.entries.proofs.PairCode.{pairs-no, pairs-yes}
 use Rattle.entries.proofs.pairs.pairs_at.Statement.{statement}
 use Rattle.entries.proofs.pairs.pairs_at.Tie as tie
 
@@ -26,13 +26,16 @@ abbrev μ-loop : tie.MeasureT-loop
 
 -- what was answered for the head
 counted : (k : tie.After-value Inv-loop μ-loop) → got (k .value .given .0 .0) (k .value .given .0 .1 .0)
-    ≡ countAt (k .before .before .before .before .args .s .now) (k .before .before .before .before .args .at) 5 0 (k .before .before .before .before .args .most)
+    ≡ countAt (k .before .before .before .before .args .s .now) (k .before .before .before .before .args .at) 5 0
+    (k .before .before .before .before .args .most)
 counted k = sym (ap countRead (k .value .given .1)) ∙ k .before .before .count-at .ensures
 
 -- what was answered for one pair
 one : (w : tie.After-n Inv-loop μ-loop)
     → got (spanOf (w .before .before .before .before .loop .here) (w .n .given .0 .0)) (w .n .given .0 .1 .0)
-    ≡ pairAt (w .before .before .before .before .before .before .before .before .before .before .args .s .now) (spanOf (w .before .before .before .before .loop .last) (w .before .before .before .before .loop .len)) (w .before .before .before .before .loop .here)
+    ≡ pairAt (w .before .before .before .before .before .before .before .before .before .before .args .s .now)
+    (spanOf (w .before .before .before .before .loop .last) (w .before .before .before .before .loop .len))
+    (w .before .before .before .before .loop .here)
 one w = sym (ap (pairRead (w .before .before .before .before .loop .here)) (w .n .given .1)) ∙ w .before .before .pair-at .ensures
 
 returns : tie.Need-returns Inv-loop μ-loop
@@ -57,7 +60,8 @@ loop-again c =
     let l = w .before .before .before .before in
     let a = l .before .before .before .before .before .before .args in (
       pair-room (a .s .now) (spanOf (l .loop .last) (l .loop .len)) (l .loop .here) (w .n .given .0 .0) (w .n .given .0 .1 .0) (one w),
-      sym (many-got (pairAt (a .s .now)) (l .loop .left) (spanOf (l .loop .last) (l .loop .len)) (l .loop .here) (spanOf (l .loop .here) (w .n .given .0 .0)) (w .n .given .0 .1 .0) (omega arith) (one w)) ∙ l .loop .inv .1,
+      sym (many-got (pairAt (a .s .now)) (l .loop .left) (spanOf (l .loop .last) (l .loop .len)) (l .loop .here)
+          (spanOf (l .loop .here) (w .n .given .0 .0)) (w .n .given .0 .1 .0) (omega arith) (one w)) ∙ l .loop .inv .1,
     )
 
 returns-3 : tie.Need-returns-3 Inv-loop μ-loop

@@ -7,7 +7,7 @@ use Rattle.exact.proofs.ReadsLaws.{passed, failed}
 use Rattle.entries.specs.Keys.{kAlgorithm, ed25519, ecdsaP256Sha256, algorithms}
 use Rattle.entries.specs.Reader.{algorithmAt}
 use Rattle.entries.proofs.ValueBounds.{key-room, key-fits}
-use Rattle.entries.proofs.ValueSteps.{one-first, one-next, one-none}
+use Rattle.entries.proofs.ValueCode.{one-first, one-next, one-none}
 use borrow.Author.Needs.{needs}
 use Rattle.entries.proofs.signature.algorithm_at.Statement.{statement}
 use Rattle.entries.proofs.signature.algorithm_at.Tie as tie
@@ -37,7 +37,8 @@ returns-3 c =
     let f = c .before .before .before in
     let e = f .before .before .before in
     passed _ (T-of-not _ (e .before .has-at .ensures) (e .if1 .left))
-    (one-first _ _ 1 _ _ _ (c .before .has-at3 .ensures) (c .if3 .taken) ∙ one-next _ _ 0 _ _ _ (f .before .has-at2 .ensures) (f .if2 .left))
+    (one-first _ _ 1 _ _ _ (c .before .has-at3 .ensures) (c .if3 .taken)
+    ∙ one-next _ _ 0 _ _ _ (f .before .has-at2 .ensures) (f .if2 .left))
 
 returns-4 : tie.Need-returns-4
 unfolding algorithmAt kAlgorithm algorithms ed25519 ecdsaP256Sha256
@@ -45,7 +46,8 @@ returns-4 c =
     let f = c .before .before .before in
     let e = f .before .before .before in
     passed _ (T-of-not _ (e .before .has-at .ensures) (e .if1 .left))
-    (one-none _ _ 2 ∙ (one-next _ _ 1 _ _ _ (c .before .has-at3 .ensures) (c .if3 .left) ∙ one-next _ _ 0 _ _ _ (f .before .has-at2 .ensures) (f .if2 .left)))
+    (one-none _ _ 2 ∙ (one-next _ _ 1 _ _ _ (c .before .has-at3 .ensures) (c .if3 .left)
+    ∙ one-next _ _ 0 _ _ _ (f .before .has-at2 .ensures) (f .if2 .left)))
 
 pub algorithm-at-spec : {M : Type 1} → statement M
 algorithm-at-spec =

@@ -1,7 +1,6 @@
 -- `if_fits` meets its contract. Assumes nothing.
 use mathlib.Core.Path.{refl}
-use Rattle.entries.proofs.ValueSteps.{flag-yes, flag-no}
-use borrow.Author.Needs.{needs}
+use Rattle.entries.proofs.ValueCode.{flag-yes, flag-no}
 use Rattle.entries.proofs.signature.if_fits.Statement.{statement}
 use Rattle.entries.proofs.signature.if_fits.Tie as tie
 

@@ -5,7 +5,7 @@ use Rattle.cbor_item.specs.Head.{spanRead}
 use Rattle.exact.proofs.ReadsLaws.{took, stopped}
 use Rattle.entries.specs.declared.value.Kind.the-variants.{Bytes}
 use Rattle.entries.specs.Keys.{kSignatureValue}
-use Rattle.entries.specs.Answer.{countRead}
+use Rattle.entries.specs.Code.{countRead}
 use Rattle.entries.specs.Reader.{signatureAt}
 use Rattle.entries.proofs.ValueBounds.{string-room, string-ends}
 use borrow.Author.Needs.{needs}
@@ -41,7 +41,12 @@ add-if-fits : tie.Need-add-if-fits
 add-if-fits c =
     let v = c .before in
     let h = v .before .before .before .before .before .before .before .before .before .before .before .before .before in
-    omega (arith, h .good .0, string-ends (Bytes 1 72) (h .args .s .now) _ _ (sym (ap spanRead (v .value .given .1)) ∙ v .before .before .keyed .ensures))
+    omega (
+      arith,
+      h .good .0,
+      string-ends (Bytes 1 72) (h .args .s .now) _ _
+          (sym (ap spanRead (v .value .given .1)) ∙ v .before .before .keyed .ensures),
+    )
 
 returns-4 : tie.Need-returns-4
 unfolding signatureAt kSignatureValue

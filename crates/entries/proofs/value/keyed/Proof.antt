@@ -3,7 +3,7 @@ use Prim.Native.Nat.{_^_}
 use native.Mathlib.Omega.{arith}
 use Rattle.octets.proofs.BytesLaws.{T-of}
 use Rattle.entries.proofs.ValueBounds.{key-end}
-use Rattle.entries.proofs.ValueSteps.{flag-yes, flag-no}
+use Rattle.entries.proofs.ValueCode.{flag-yes, flag-no}
 use borrow.Author.Needs.{needs}
 use Rattle.entries.proofs.value.keyed.Statement.{statement}
 use Rattle.entries.proofs.value.keyed.Tie as tie
@@ -11,7 +11,11 @@ use Rattle.entries.proofs.value.keyed.Tie as tie
 add-string-at : tie.Need-add-string-at
 add-string-at c =
     let a = c .before .before .before .before .args in
-    omega (arith, key-end (a .s .now) (a .at) (a .key .now) (2 ^ 64) (T-of (c .before .has-at .ensures) (c .if1 .taken)) (omega arith) (omega arith))
+    omega (
+      arith,
+      key-end (a .s .now) (a .at) (a .key .now) (2 ^ 64) (T-of (c .before .has-at .ensures) (c .if1 .taken)) (omega arith)
+          (omega arith),
+    )
 
 returns : tie.Need-returns
 returns c = flag-yes _ _ (c .before .before .has-at .ensures) (c .before .if1 .taken) (c .string-at .ensures)

@@ -7,7 +7,7 @@ use Rattle.exact.proofs.ReadsLaws.{took, stopped}
 use Rattle.cbor_item.specs.Head.{spanRead}
 use Rattle.entries.specs.Value.{optKindAt}
 use Rattle.entries.proofs.ValueBounds.{key-end, string-room}
-use Rattle.entries.proofs.ValueSteps.{or-there, or-absent}
+use Rattle.entries.proofs.ValueCode.{or-there, or-absent}
 use borrow.Author.Needs.{needs}
 use Rattle.entries.proofs.value.opt_keyed.Statement.{statement}
 use Rattle.entries.proofs.value.opt_keyed.Tie as tie
@@ -19,7 +19,11 @@ returns c = or-absent _ _ _ _ (c .before .has-at .ensures) (c .if1 .taken)
 add-string-at : tie.Need-add-string-at
 add-string-at c =
     let a = c .before .before .before .before .args in
-    omega (arith, key-end (a .s .now) (a .at) (a .key .now) (2 ^ 64) (T-of-not _ (c .before .has-at .ensures) (c .if1 .left)) (omega arith) (omega arith))
+    omega (
+      arith,
+      key-end (a .s .now) (a .at) (a .key .now) (2 ^ 64) (T-of-not _ (c .before .has-at .ensures) (c .if1 .left)) (omega arith)
+          (omega arith),
+    )
 
 returns-2 : tie.Need-returns-2
 unfolding optKindAt
@@ -32,7 +36,11 @@ add-t12 : tie.Need-add-t12
 add-t12 c =
     let k = c .before in
     let a = k .before .before .before .before .before .before .before .args in
-    omega (arith, string-room (a .kind) (a .s .now) _ (sym (ap spanRead (k .start .given .1)) ∙ k .before .before .string-at .ensures) .fits)
+    omega (
+      arith,
+      string-room (a .kind) (a .s .now) _
+          (sym (ap spanRead (k .start .given .1)) ∙ k .before .before .string-at .ensures) .fits,
+    )
 
 returns-3 : tie.Need-returns-3
 unfolding optKindAt

@@ -9,7 +9,7 @@ use Rattle.exact.proofs.ReadsLaws.{stopped}
 use Rattle.cbor_item.specs.Head.{spanRead, spanAt}
 use Rattle.entries.specs.Kinds.{majorOf, isKind}
 use Rattle.entries.specs.Value.{stringAt, kindAt}
-use Rattle.entries.proofs.ValueSteps.{string-yes, string-no, span-bound}
+use Rattle.entries.proofs.ValueCode.{string-yes, string-no, span-bound}
 use borrow.Author.Needs.{needs}
 use Rattle.entries.proofs.value.string_at.Statement.{statement}
 use Rattle.entries.proofs.value.string_at.Tie as tie
@@ -17,7 +17,8 @@ use Rattle.entries.proofs.value.string_at.Tie as tie
 -- what was answered for the string
 here : (k : tie.After-start)
     → got (spanOf (k .start .given .0 .0) (k .start .given .0 .1 .0)) (k .start .given .0 .0 + k .start .given .0 .1 .0)
-    ≡ spanAt (k .before .before .before .before .before .args .s .now) (k .before .before .before .before .before .args .at) (majorOf (k .before .before .before .before .before .args .kind))
+    ≡ spanAt (k .before .before .before .before .before .args .s .now) (k .before .before .before .before .before .args .at)
+    (majorOf (k .before .before .before .before .before .args .kind))
 here k = sym (ap spanRead (k .start .given .1)) ∙ k .before .before .read-span .ensures
     ∙ ap (spanAt _ _) (k .before .before .before .major-of .ensures)
 
@@ -28,7 +29,9 @@ fits k = span-bound _ _ _ (k .start .given .0 .0) (k .start .given .0 .1 .0) (he
 
 returns : tie.Need-returns
 unfolding kindAt stringAt
-returns c = stopped _ (sym (ap spanRead (c .enum-told .given .1)) ∙ c .before .before .read-span .ensures ∙ ap (spanAt _ _) (c .before .before .before .major-of .ensures))
+returns c = stopped _
+    (sym (ap spanRead (c .enum-told .given .1)) ∙ c .before .before .read-span .ensures
+    ∙ ap (spanAt _ _) (c .before .before .before .major-of .ensures))
 
 add-end : tie.Need-add-end
 add-end c = omega (arith, fits (c .before))
@@ -40,13 +43,15 @@ returns-2 : tie.Need-returns-2
 unfolding kindAt
 returns-2 c =
     let k = c .before .before .before .before in
-    string-yes _ (isKind (k .before .before .before .before .before .args .kind)) _ _ _ _ _ (here k) (c .before .is-kind .ensures) (c .if1 .taken)
+    string-yes _ (isKind (k .before .before .before .before .before .args .kind)) _ _ _ _ _ (here k) (c .before .is-kind .ensures)
+    (c .if1 .taken)
 
 returns-3 : tie.Need-returns-3
 unfolding kindAt
 returns-3 c =
     let k = c .before .before .before .before in
-    string-no _ (isKind (k .before .before .before .before .before .args .kind)) _ _ _ _ _ (here k) (c .before .is-kind .ensures) (c .if1 .left)
+    string-no _ (isKind (k .before .before .before .before .before .args .kind)) _ _ _ _ _ (here k) (c .before .is-kind .ensures)
+    (c .if1 .left)
 
 pub string-at-spec : {M : Type 1} → statement M
 string-at-spec =

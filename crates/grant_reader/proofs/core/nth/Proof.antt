@@ -3,9 +3,9 @@ use mathlib.Core.Path.{_≡_, sym, ap, _∙_}
 use borrow.Author.Needs.{needs}
 use Rattle.grant_reader.proofs.core.nth.Statement.{statement}
 use Rattle.grant_reader.proofs.core.nth.Tie as tie
-use Rattle.descriptor.specs.Answer.{grantRead}
+use Rattle.descriptor.specs.Code.{grantRead}
 use Rattle.descriptor.specs.Reader.{grantAt}
-use Rattle.grant_reader.specs.Walk.{placeFrom, nthOf}
+use Rattle.grant_reader.specs.Code.{placeFrom, nthOf}
 use Rattle.grant_reader.proofs.WalkLaws.{nth-from, from-here, from-step, refused-stays}
 
 abbrev Inv-loop : tie.InvT-loop
@@ -26,7 +26,8 @@ loop-again : tie.Need-loop-again Inv-loop μ-loop
 loop-again c =
     let l = c .before .before .before .before in
     l .before .loop .inv
-    ∙ ap (grantAt _) (from-step _ _ _ _ _ (l .loop-test .taken) (sym (ap grantRead (c .before .next .given .1)) ∙ c .before .before .before .read-grant .ensures))
+    ∙ ap (grantAt _) (from-step _ _ _ _ _ (l .loop-test .taken)
+    (sym (ap grantRead (c .before .next .given .1)) ∙ c .before .before .before .read-grant .ensures))
 
 returns-2 : tie.Need-returns-2 Inv-loop μ-loop
 returns-2 c =

@@ -1,6 +1,6 @@
 -- `new_image` meets its contract. Assumes nothing.
 use native.Mathlib.Omega.{arith}
-use Rattle.image.proofs.CodeLaws.{new-short, new-done}
+use Rattle.image.proofs.CheckCode.{new-short, new-done}
 use borrow.Author.Needs.{needs}
 use Rattle.image.proofs.grow.new_image.Statement.{statement}
 use Rattle.image.proofs.grow.new_image.Tie as tie

@@ -4,11 +4,12 @@ use Prim.Native.Nat.{_+_, _-_, _≤_}
 use native.Mathlib.Omega.{arith}
 use lib.ListN.{length}
 use Rattle.image.specs.declared.Held.the-variants.{Missing}
-use Rattle.image.specs.Layout.{idSize, rowPlace}
-use Rattle.image.specs.Check.{rowRead, rowsFrom, surveyed}
+use Rattle.descriptor.specs.Allowed.{idSize}
+use Rattle.image.specs.Layout.{rowPlace}
+use Rattle.image.specs.Check.{rowRead, rowsFrom, checkAnswer}
 use Rattle.image.proofs.RowPlaceLaws.{place-order, row-inside}
-use Rattle.image.proofs.StepLaws.{row-next-is, rows-stop, rows-done, rows-begin}
-use Rattle.image.proofs.CodeLaws.{rows-noted}
+use Rattle.image.proofs.RowsCode.{row-next-is, rows-stop, rows-done, rows-begin}
+use Rattle.image.proofs.CheckCode.{rows-noted}
 use borrow.Author.Needs.{needs}
 use Rattle.image.proofs.rows.all_rows.Statement.{statement}
 use Rattle.image.proofs.rows.all_rows.Tie as tie
@@ -57,7 +58,7 @@ returns c =
     let r = c .before .before in
     let t = r .before in
     let l = t .before .loop in
-    sym (ap (surveyed (t .before .before .before .before .before .args .n))
+    sym (ap (checkAnswer (t .before .before .before .before .before .args .n))
     (l .inv .2 ∙ rows-stop _ _ _ _ _ _ _ (t .loop-test .taken) (sym (ap rowRead (c .enum-told .given .1)) ∙ r .row-at .ensures)))
 
 loop-again : tie.Need-loop-again Inv-loop μ-loop
@@ -71,13 +72,13 @@ loop-again c =
       omega arith,
       row-next-is _ _ _ _ _ _ e .1,
       l .inv .2 ∙ rows-noted _ _ _ _ _ _ _ _ _ _ _ _ (t .loop-test .taken) e
-          (k .row-place2 .ensures .0) (c .before .same-bytes .ensures) (c .note .ensures),
+          (k .row-place2 .ensures .0) (c .before .same-bytes .ensures) (c .keep .ensures),
     )
 
 returns-2 : tie.Need-returns-2 Inv-loop μ-loop
 returns-2 c =
     let l = c .before .loop in
-    sym (ap (surveyed (c .before .before .before .before .before .args .n)) (l .inv .2 ∙ rows-done _ _ _ _ _ _ _ (omega arith)))
+    sym (ap (checkAnswer (c .before .before .before .before .before .args .n)) (l .inv .2 ∙ rows-done _ _ _ _ _ _ _ (omega arith)))
 
 pub all-rows-spec : {M : Type 1} → statement M
 all-rows-spec =

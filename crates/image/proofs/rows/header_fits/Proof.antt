@@ -1,6 +1,6 @@
 -- `header_fits` meets its contract. Assumes nothing.
 use native.Mathlib.Omega.{arith}
-use Rattle.image.proofs.CodeLaws.{header-is}
+use Rattle.image.proofs.CheckCode.{header-is}
 use borrow.Author.Needs.{needs}
 use Rattle.image.proofs.rows.header_fits.Statement.{statement}
 use Rattle.image.proofs.rows.header_fits.Tie as tie

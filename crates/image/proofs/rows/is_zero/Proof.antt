@@ -3,7 +3,7 @@ use mathlib.Core.Path.{_≡_}
 use Prim.Native.Nat.{_-_, _≤_}
 use native.Mathlib.Omega.{arith}
 use Rattle.octets.specs.Number.{numberAt}
-use Rattle.image.proofs.CodeLaws.{zero-none, zero-more, zero-not, zero-all}
+use Rattle.image.proofs.CheckCode.{zero-none, zero-more, zero-not, zero-all}
 use borrow.Author.Needs.{needs}
 use Rattle.image.proofs.rows.is_zero.Statement.{statement}
 use Rattle.image.proofs.rows.is_zero.Tie as tie

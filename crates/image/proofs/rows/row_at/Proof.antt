@@ -4,7 +4,7 @@ use mathlib.Core.Logic.{inl, inr}
 use native.Mathlib.Omega.{arith}
 use Rattle.image.specs.Layout.{rowPlace}
 use Rattle.image.specs.Check.{onRead, rowAt}
-use Rattle.image.proofs.CodeLaws.{afterRead, row-short, row-read, id-room, read-not, row-other, row-twice, row-good}
+use Rattle.image.proofs.CheckCode.{afterRead, row-short, row-read, id-room, read-not, row-other, row-twice, row-good}
 use borrow.Author.Needs.{needs}
 use Rattle.image.proofs.rows.row_at.Statement.{statement}
 use Rattle.image.proofs.rows.row_at.Tie as tie

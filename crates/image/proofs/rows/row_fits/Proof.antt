@@ -1,6 +1,6 @@
 -- `row_fits` meets its contract. Assumes nothing.
 use native.Mathlib.Omega.{arith}
-use Rattle.image.proofs.CodeLaws.{fits-not, fits-is}
+use Rattle.image.proofs.CheckCode.{fits-not, fits-is}
 use borrow.Author.Needs.{needs}
 use Rattle.image.proofs.rows.row_fits.Statement.{statement}
 use Rattle.image.proofs.rows.row_fits.Tie as tie

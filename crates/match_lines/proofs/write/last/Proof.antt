@@ -22,7 +22,9 @@ returns-3 c =
     let t = c .before .before in
     let s = t .least .ensures in
     let a = t .before .before .before .before .args in
-    last-done _ _ _ _ _ _ (omega arith) (ended-none (a .long) (a .buffer .now) (a .n) (t .least .result) (s .0) (s .1) (c .before .if2 .left) (c .if3 .taken)) refl (sym (over-nil _ _))
+    last-done _ _ _ _ _ _ (omega arith)
+    (ended-none (a .long) (a .buffer .now) (a .n) (t .least .result) (s .0) (s .1) (c .before .if2 .left) (c .if3 .taken)) refl
+    (sym (over-nil _ _))
 
 slice-aggregate-verdict-if : tie.Need-slice-aggregate-verdict-if
 slice-aggregate-verdict-if c = sym (length-take-le _ _ (c .before .before .before .least .ensures .0))
@@ -35,7 +37,9 @@ returns-4 c =
     let t = e .before .before in
     let s = t .least .ensures in
     let a = t .before .before .before .before .args in
-    last-done _ _ _ _ _ _ (omega arith) (ended-some (a .long) (a .buffer .now) (a .n) (t .least .result) (s .0) (s .1) (e .before .if2 .left) (e .if3 .left) _ (v .verdict-if .ensures)) (p .put2 .ensures .0) (p .put2 .ensures .1)
+    last-done _ _ _ _ _ _ (omega arith)
+    (ended-some (a .long) (a .buffer .now) (a .n) (t .least .result) (s .0) (s .1) (e .before .if2 .left) (e .if3 .left) _
+    (v .verdict-if .ensures)) (p .put2 .ensures .0) (p .put2 .ensures .1)
 
 pub last-spec : {M : Type 1} → statement M
 last-spec =

@@ -9,7 +9,7 @@ use borrow.Fn.Kinds.{In}
 use borrow.Fn.PlainCycle.{Measures, is, falls, and}
 use Rattle.resource.specs.Level.{isDeep, levels}
 use Rattle.resource.proofs.step_levels.Reads as step-levels-reads
-use Rattle.narrowing.proofs.CoverSteps.{Goes, Stepped, step-decides, next-fewer, next-same, deep-matches, fresh-told}
+use Rattle.narrowing.proofs.CoverCode.{Goes, Stepped, step-decides, next-fewer, next-same, deep-matches, fresh-told}
 use Rattle.narrowing.proofs.range.cover.Reads as cover
 use Rattle.narrowing.proofs.range.cover.Kinds as cover-kinds
 use Rattle.narrowing.proofs.range.+cover.Lts-cover as cover-lts

@@ -1,5 +1,5 @@
 -- `ends_deep` meets its contract. Assumes nothing.
-use Rattle.narrowing.proofs.DeepSteps.{short-ends, other-ends, deep-alone, deep-after}
+use Rattle.narrowing.proofs.DeepCode.{short-ends, other-ends, deep-alone, deep-after}
 use borrow.Author.Needs.{needs}
 use Rattle.narrowing.proofs.search.ends_deep.Statement.{statement}
 use Rattle.narrowing.proofs.search.ends_deep.Tie as tie

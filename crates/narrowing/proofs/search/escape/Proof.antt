@@ -6,7 +6,7 @@ use Prim.Native.Nat.{ℕ}
 use native.Mathlib.Omega.{arith}
 use lib.ListN.{length, length-replicate}
 use borrow.Author.Needs.{needs}
-use Rattle.narrowing.specs.Scan.{markedRows, lowestIn, zeros}
+use Rattle.narrowing.specs.Code.{markedRows, lowestIn, zeros}
 use Rattle.narrowing.proofs.TableLaws.{escape-nothing, met-shared, met-other, escape-deep, escape-flat}
 use Rattle.narrowing.proofs.search.escape.Statement.{statement}
 use Rattle.narrowing.proofs.search.escape.Tie as tie

@@ -5,11 +5,11 @@ use native.Mathlib.Omega.{arith}
 use lib.ListN.{length}
 use Rattle.resource.specs.Identifier.{levelsPlace}
 use Rattle.descriptor.specs.declared.GrantRead.the-variants.{IsGrant}
-use Rattle.descriptor.specs.Answer.{grantRead}
+use Rattle.descriptor.specs.Code.{grantRead}
 use Rattle.descriptor.specs.Reader.{grantAt}
 use Rattle.descriptor.proofs.GrantBounds.{pattern-room}
-use Rattle.narrowing.specs.Scan.{Filled, firstIn}
-use Rattle.narrowing.proofs.NarrowSteps.{first-begin, first-hit, first-next, first-none, first-done}
+use Rattle.narrowing.specs.Code.{Filled, firstIn}
+use Rattle.narrowing.proofs.NarrowCode.{first-begin, first-hit, first-next, first-none, first-done}
 use borrow.Author.Needs.{needs}
 use Rattle.narrowing.proofs.search.first.Statement.{statement}
 use Rattle.narrowing.proofs.search.first.Tie as tie

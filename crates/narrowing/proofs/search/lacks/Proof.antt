@@ -2,7 +2,7 @@
 use mathlib.Core.Path.{_≡_, refl}
 use Prim.Native.Nat.{ℕ, zero, suc, _/_, _<_}
 use native.Mathlib.Omega.{arith}
-use Rattle.narrowing.proofs.SearchSteps.{lacks-mode}
+use Rattle.narrowing.proofs.SearchCode.{lacks-mode}
 use Rattle.narrowing.proofs.search.lacks.Statement.{statement}
 use Rattle.narrowing.proofs.search.lacks.Tie as tie
 

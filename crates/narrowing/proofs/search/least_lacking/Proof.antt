@@ -5,8 +5,8 @@ use Prim.Native.Nat.{_-_, _≤_}
 use native.Mathlib.Omega.{arith}
 use borrow.Author.Needs.{needs}
 use Rattle.narrowing.specs.Escape.{least, orLimit}
-use Rattle.narrowing.specs.Scan.{lacksAt}
-use Rattle.narrowing.proofs.SearchSteps.{least-hit, least-miss, least-end}
+use Rattle.narrowing.specs.Code.{lacksAt}
+use Rattle.narrowing.proofs.SearchCode.{least-hit, least-miss, least-end}
 use Rattle.narrowing.proofs.search.least_lacking.Statement.{statement}
 use Rattle.narrowing.proofs.search.least_lacking.Tie as tie
 

@@ -5,8 +5,8 @@ use mathlib.Core.Logic.{⊎-elim}
 use Prim.Native.Nat.{_-_, _≤_}
 use native.Mathlib.Omega.{arith}
 use borrow.Author.Needs.{needs}
-use Rattle.narrowing.specs.Scan.{lowestFrom}
-use Rattle.narrowing.proofs.SearchSteps.{lowest-skip, lowest-hit, lowest-miss, lowest-end, has-of, lacks-of}
+use Rattle.narrowing.specs.Code.{lowestFrom}
+use Rattle.narrowing.proofs.SearchCode.{lowest-skip, lowest-hit, lowest-miss, lowest-end, has-of, lacks-of}
 use Rattle.narrowing.proofs.search.lowest.Statement.{statement}
 use Rattle.narrowing.proofs.search.lowest.Tie as tie
 

@@ -4,12 +4,13 @@ use mathlib.Core.Bool.{true}
 use lib.Dec.{leb, ltb}
 use borrow.Author.Tests.{lt-ltb, le-ltb, le-leb, lt-leb, not-true, not-false}
 use borrow.Author.Needs.{needs}
+use Rattle.resource.specs.Identifier.{faySize, terminalSize}
 use Rattle.octets.specs.Bytes.{part, same}
 use Rattle.steps.specs.Laws.{ends, passes, fails}
 use Rattle.request.specs.declared.search.Matched.{Matched}
 use Rattle.request.specs.declared.search.Matched.the-variants.{IsAt, Nothing}
 use Rattle.request.specs.Decision.{descriptorSteps, matchedOn}
-use Rattle.request.proofs.DecideLaws.{lent-same, on-descriptor}
+use Rattle.request.proofs.DecideCode.{lent-same, on-descriptor}
 use Rattle.request.proofs.decide.check_descriptor.Statement.{statement}
 use Rattle.request.proofs.decide.check_descriptor.Tie as tie
 
@@ -24,22 +25,26 @@ abbrev at4 : tie.Else4 → tie.Start
 at4 c = at3 (c .before .before .before)
 
 -- it is not too early, and not too late
-early : (c : tie.Else1) → leb (c .before .before .before .before .before .before .args .fields .before) (c .before .before .before .before .before .before .args .clock) ≡ true
+early : (c : tie.Else1)
+    → leb (c .before .before .before .before .before .before .args .fields .«not_before»)
+    (c .before .before .before .before .before .before .args .clock) ≡ true
 early c = le-leb _ _ (c .if1 .left)
 
-late : (c : tie.Else2) → ltb (at2 c .args .clock) (at2 c .args .fields .after) ≡ true
+late : (c : tie.Else2) → ltb (at2 c .args .clock) (at2 c .args .fields .«not_after») ≡ true
 late c = lt-ltb _ _ (c .if2 .left)
 
 -- the subject is the fay, and the terminal the terminal
-subject : (c : tie.Else3) → same (part (at3 c .args .body .now) (at3 c .args .fields .fay) 40) (at3 c .args .fay .now) ≡ true
-subject c = lent-same _ _ (at3 c .args .fields .fay) 40 (c .before .same-bytes .ensures) ∙ not-false _ (c .if3 .left)
+subject : (c : tie.Else3) → same (part (at3 c .args .body .now) (at3 c .args .fields .fay) faySize) (at3 c .args .fay .now) ≡ true
+subject c = lent-same _ _ (at3 c .args .fields .fay) faySize (c .before .same-bytes .ensures) ∙ not-false _ (c .if3 .left)
 
-terminal : (c : tie.Else4) → same (part (at4 c .args .body .now) (at4 c .args .fields .terminal) 45) (at4 c .args .terminal .now) ≡ true
-terminal c = lent-same _ _ (at4 c .args .fields .terminal) 45 (c .before .same-bytes2 .ensures) ∙ not-false _ (c .if4 .left)
+terminal : (c : tie.Else4) → same (part (at4 c .args .body .now) (at4 c .args .fields .terminal) terminalSize) (at4 c .args .terminal .now)
+    ≡ true
+terminal c = lent-same _ _ (at4 c .args .fields .terminal) terminalSize (c .before .same-bytes2 .ensures) ∙ not-false _ (c .if4 .left)
 
 -- what the search answered is the first grant that serves
 found : (c : tie.After-match-grant) (m : Matched) → c .match-grant .result ≡ m
-    → m ≡ matchedOn (at4 (c .before) .args .body .now) (at4 (c .before) .args .fields) (at4 (c .before) .args .resource .now) (at4 (c .before) .args .mode)
+    → m ≡ matchedOn (at4 (c .before) .args .body .now) (at4 (c .before) .args .fields) (at4 (c .before) .args .resource .now)
+    (at4 (c .before) .args .mode)
 found c m e = sym e ∙ c .match-grant .ensures
 
 returns : tie.Need-returns
@@ -56,7 +61,7 @@ returns-3 c =
     let l = c .before .before .before in
     on-descriptor _ _ _ _ _ _ _ _ refl
     (passes (early (l .before .before)) (passes (late l)
-    (fails (lent-same _ _ (at2 l .args .fields .fay) 40 (c .before .same-bytes .ensures) ∙ not-true _ (c .if3 .taken)))))
+    (fails (lent-same _ _ (at2 l .args .fields .fay) faySize (c .before .same-bytes .ensures) ∙ not-true _ (c .if3 .taken)))))
 
 returns-4 : tie.Need-returns-4
 unfolding descriptorSteps
@@ -65,7 +70,7 @@ returns-4 c =
     let l = s .before .before .before in
     on-descriptor _ _ _ _ _ _ _ _ refl
     (passes (early (l .before .before)) (passes (late l) (passes (subject s)
-    (fails (lent-same _ _ (at3 s .args .fields .terminal) 45 (c .before .same-bytes2 .ensures) ∙ not-true _ (c .if4 .taken))))))
+    (fails (lent-same _ _ (at3 s .args .fields .terminal) terminalSize (c .before .same-bytes2 .ensures) ∙ not-true _ (c .if4 .taken))))))
 
 match-grant-requires : tie.Need-match-grant-requires
 match-grant-requires c κs = let p = at4 c .pre in (p .0, p .1, p .2 .terminal)

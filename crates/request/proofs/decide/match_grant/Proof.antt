@@ -4,15 +4,16 @@ use native.Mathlib.Omega.{arith}
 use lib.Seq.{length-take-le}
 use borrow.Author.Tests.{not-true, not-false}
 use borrow.Author.Needs.{needs}
+use Rattle.resource.specs.Identifier.{terminalSize}
 use Rattle.resource.proofs.Laws.{resource-short}
-use Rattle.request.proofs.DecideLaws.{matched-other, matched-first}
+use Rattle.request.proofs.DecideCode.{matched-other, matched-first}
 use Rattle.request.proofs.decide.match_grant.Statement.{statement}
 use Rattle.request.proofs.decide.match_grant.Tie as tie
 
 slice-aggregate-same-bytes : tie.Need-slice-aggregate-same-bytes
 slice-aggregate-same-bytes c =
     let s = c .before .before .before .before in
-    sym (length-take-le 45 (s .args .resource .now) (omega (arith, resource-short _ (s .pre .0) .0)))
+    sym (length-take-le terminalSize (s .args .resource .now) (omega (arith, resource-short _ (s .pre .0) .0)))
 
 returns : tie.Need-returns
 returns c = matched-other _ _ _ _ (c .before .same-bytes .ensures) (not-true _ (c .if1 .taken))

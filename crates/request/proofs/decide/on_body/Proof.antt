@@ -1,8 +1,8 @@
 -- `on_body` meets its contract: the revocation list, then the stages. Assumes nothing.
 use mathlib.Core.Path.{sym, _∙_}
 use borrow.Author.Needs.{needs}
-use Rattle.request.specs.Stages.{signedBy}
-use Rattle.request.proofs.DecideLaws.{on-revoked, on-applies, on-refused}
+use Rattle.request.specs.Code.{signedBy}
+use Rattle.request.proofs.DecideCode.{on-revoked, on-applies, on-refused}
 use Rattle.request.proofs.decide.on_body.Statement.{statement}
 use Rattle.request.proofs.decide.on_body.Tie as tie
 
@@ -15,13 +15,15 @@ returns-2 c =
     let g = c .before .before in
     let k = g .before .before in
     let e = k .before in
-    on-applies _ _ _ (sym (e .before .is-listed .ensures) ∙ e .if1 .left) _ _ (sym (g .grant .given .1) ∙ k .check-descriptor .ensures) (c .signed .ensures)
+    on-applies _ _ _ (sym (e .before .is-listed .ensures) ∙ e .if1 .left) _ _ (sym (g .grant .given .1) ∙ k .check-descriptor .ensures)
+    (c .signed .ensures)
 
 returns-3 : tie.Need-returns-3
 returns-3 c =
     let k = c .before .before .before in
     let e = k .before in
-    on-refused _ _ _ (sym (e .before .is-listed .ensures) ∙ e .if1 .left) _ (sym (c .before .refusal .given .1) ∙ k .check-descriptor .ensures)
+    on-refused _ _ _ (sym (e .before .is-listed .ensures) ∙ e .if1 .left) _
+    (sym (c .before .refusal .given .1) ∙ k .check-descriptor .ensures)
 
 pub on-body-spec : {M : Type 1} → statement M
 on-body-spec =

@@ -2,7 +2,7 @@
 use mathlib.Core.Path.{sym, _∙_}
 use borrow.Author.Tests.{not-true, not-false}
 use borrow.Author.Needs.{needs}
-use Rattle.request.proofs.DecideLaws.{signed-none, signed-shut, signed-bad, signed-good}
+use Rattle.request.proofs.DecideCode.{signed-none, signed-shut, signed-bad, signed-good}
 use Rattle.request.proofs.decide.signed.Statement.{statement}
 use Rattle.request.proofs.decide.signed.Tie as tie
 

@@ -4,12 +4,13 @@ use mathlib.Core.Bool.{true}
 use borrow.Author.Tests.{not-true, not-false}
 use borrow.Author.Needs.{needs}
 use Rattle.resource.specs.Identifier.{isFay, isTerminal}
-use Rattle.request.proofs.ArgumentLaws.{no-verdict, no-mode, no-id, no-fay, no-terminal, no-resource, list-left}
+use Rattle.request.proofs.ArgumentCode.{no-verdict, no-mode, no-id, no-fay, no-terminal, no-resource, list-left}
 use Rattle.request.proofs.decide.well_formed.Statement.{statement}
 use Rattle.request.proofs.decide.well_formed.Tie as tie
 
 -- what the tests on the way say
-well-fay : (e : tie.Else4) → isFay (e .before .before .before .before .before .before .before .before .before .before .before .args .fay .now)
+well-fay : (e : tie.Else4)
+    → isFay (e .before .before .before .before .before .before .before .before .before .before .before .args .fay .now)
     ≡ true
 well-fay e = sym (e .before .is-fay .ensures) ∙ not-false _ (e .if4 .left)
 

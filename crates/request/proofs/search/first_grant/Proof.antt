@@ -8,17 +8,18 @@ use Prim.Native.Nat.{_+_, _-_, _^_, _≤_, _<_}
 use native.Mathlib.Omega.{arith}
 use lib.ListN.{length}
 use borrow.Author.Needs.{needs}
+use Rattle.resource.specs.Identifier.{levelsPlace}
 use Rattle.resource.specs.Text.{levelsMatch}
 use Rattle.octets.proofs.PartLaws.{part-shorter}
 use Rattle.resource.specs.Laws.{Goes, Stepped}
 use Rattle.resource.proofs.Laws.{step-decides, deep-matches, next-same}
 use Rattle.descriptor.specs.declared.GrantRead.the-variants.{IsGrant}
-use Rattle.descriptor.specs.Answer.{grantRead}
+use Rattle.descriptor.specs.Code.{grantRead}
 use Rattle.descriptor.specs.Reader.{grantAt}
 use Rattle.descriptor.proofs.GrantBounds.{pattern-room}
 use Rattle.request.specs.declared.search.Matched.the-variants.{IsAt}
 use Rattle.request.specs.Decision.{firstFrom}
-use Rattle.request.proofs.SearchLaws.{first-begin, first-done, first-stop, first-not, first-miss, first-hit, differ-told}
+use Rattle.request.proofs.SearchCode.{first-begin, first-done, first-stop, first-not, first-miss, first-hit, differ-told}
 use Rattle.request.proofs.search.first_grant.Statement.{statement}
 use Rattle.request.proofs.search.first_grant.Tie as tie
 
@@ -52,7 +53,7 @@ seen k = sym (ap grantRead (k .fields .given .1)) ∙ k .before .before .read-gr
 
 -- its pattern lies within the bytes
 inside : (k : tie.After-fields Inv-levels μ-levels Inv-grants μ-grants)
-    → (46 ≤ k .fields .given .0 .0 .len)
+    → (levelsPlace ≤ k .fields .given .0 .0 .len)
     × (k .fields .given .0 .0 .pattern + k .fields .given .0 .0 .len ≤ length (turn k .before .before .before .args .s .now))
 inside k = pattern-room _ _ (seen k)
 
@@ -70,7 +71,9 @@ hit l h =
     let t = l .before .before .before in
     let k = grantIn l in
     let g = turn k in
-    sym (g .grants .inv .1 ∙ first-hit _ _ _ _ _ _ (k .before .before .before .if1 .left) (seen k) (t .before .is-eligible .ensures) (t .if2 .taken) (l .levels .inv .2 ∙ h))
+    sym (g .grants .inv .1
+    ∙ first-hit _ _ _ _ _ _ (k .before .before .before .if1 .left) (seen k) (t .before .is-eligible .ensures) (t .if2 .taken)
+    (l .levels .inv .2 ∙ h))
 
 -- what the step of the first levels says
 stepped : (x : tie.After-step-levels Inv-levels μ-levels Inv-grants μ-grants)
@@ -83,7 +86,8 @@ stepped x =
 
 -- where both have levels after the first
 goes : (x : tie.After-a Inv-levels μ-levels Inv-grants μ-grants)
-    → let l = x .before .before .before .before .before in Goes (l .levels .p .now) (l .levels .q .now) (x .a .given .0 .0) (x .a .given .0 .1 .0)
+    → let l = x .before .before .before .before .before in
+    Goes (l .levels .p .now) (l .levels .q .now) (x .a .given .0 .0) (x .a .given .0 .1 .0)
 goes x = subst (Stepped _ _) (x .a .given .1) (stepped (x .before .before))
 
 -- the search from a grant on answers what the search from the next one on does
@@ -177,7 +181,8 @@ returns-2 : tie.Need-returns-2 Inv-levels μ-levels Inv-grants μ-grants
 returns-2 c =
     let k = c .before .before in
     let g = k .before .before in
-    sym (g .grants .inv .1 ∙ first-stop _ _ _ _ _ _ (k .before .if1 .left) (sym (ap grantRead (c .enum-told .given .1)) ∙ k .read-grant .ensures))
+    sym (g .grants .inv .1
+    ∙ first-stop _ _ _ _ _ _ (k .before .if1 .left) (sym (ap grantRead (c .enum-told .given .1)) ∙ k .read-grant .ensures))
 
 returns-3 : tie.Need-returns-3 Inv-levels μ-levels Inv-grants μ-grants
 returns-3 c = hit (c .before .before) (deep-matches _ _ (sym (c .before .is-deep .ensures) ∙ c .if3 .taken))

@@ -2,7 +2,7 @@
 use mathlib.Core.Path.{_≡_, refl}
 use Prim.Native.Nat.{ℕ, zero, suc, _/_, _≤_}
 use native.Mathlib.Omega.{arith}
-use Rattle.request.proofs.SearchLaws.{eligible-pairs, eligible-mode}
+use Rattle.request.proofs.SearchCode.{eligible-pairs, eligible-mode}
 use Rattle.request.proofs.search.is_eligible.Statement.{statement}
 use Rattle.request.proofs.search.is_eligible.Tie as tie
 

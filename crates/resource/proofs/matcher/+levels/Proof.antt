@@ -8,7 +8,7 @@ use borrow.Fn.Kinds.{In}
 use borrow.Fn.PlainCycle.{Measures, is, falls, and}
 use Rattle.resource.specs.Level.{levels as levelsIn}
 use Rattle.resource.specs.Laws.{Goes, Stepped}
-use Rattle.resource.proofs.StepLaws.{step-tells, next-fewer, next-decides, deep-tells}
+use Rattle.resource.proofs.FirstLevelLaws.{step-tells, next-fewer, next-decides, deep-tells}
 use Rattle.resource.proofs.matcher.levels.Reads as levels
 use Rattle.resource.proofs.matcher.levels.Kinds as levels-kinds
 use Rattle.resource.proofs.matcher.+levels.Lts-levels as levels-lts

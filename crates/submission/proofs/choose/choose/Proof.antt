@@ -2,10 +2,10 @@
 use mathlib.Core.Path.{sym, subst}
 use native.Mathlib.Omega.{arith}
 use Rattle.octets.specs.Bytes.{AreBytes}
-use Rattle.image.specs.Laws.{SurveyFits}
-use Rattle.image.proofs.Laws.{survey-inside}
+use Rattle.image.specs.Laws.{CheckFits}
+use Rattle.image.proofs.Laws.{check-inside}
 use Rattle.octets.proofs.BytesLaws.{are-bytes}
-use Rattle.submission.proofs.CodeLaws.{id-room, choice-malformed, choice-read, choice-structure, choice-validity}
+use Rattle.submission.proofs.SubmitCode.{id-room, choice-malformed, choice-read, choice-structure, choice-validity}
 use borrow.Author.Needs.{needs}
 use Rattle.submission.proofs.choose.choose.Statement.{statement}
 use Rattle.submission.proofs.choose.choose.Tie as tie
@@ -26,8 +26,8 @@ part-check-end c = omega (arith, id-room _ _ _ (c .before .before .before .read-
 choose-read-requires : tie.Need-choose-read-requires
 choose-read-requires c κs =
     let o = c .before .before .before .before .before in
-    subst (SurveyFits (o .before .before .before .before .args .image .now)) (sym (c .check .ensures))
-    (survey-inside _ _ (bytes (o .before .before .before)))
+    subst (CheckFits (o .before .before .before .before .args .image .now)) (sym (c .check .ensures))
+    (check-inside _ _ (bytes (o .before .before .before)))
 
 returns-2 : tie.Need-returns-2
 returns-2 c =

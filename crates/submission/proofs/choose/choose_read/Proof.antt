@@ -1,7 +1,7 @@
 -- `choose_read` meets its contract. Assumes nothing.
 use mathlib.Core.Path.{subst}
-use Rattle.image.specs.Laws.{SurveyFits}
-use Rattle.submission.proofs.CodeLaws.{read-unsound, read-refused, read-placed}
+use Rattle.image.specs.Laws.{CheckFits}
+use Rattle.submission.proofs.SubmitCode.{read-unsound, read-refused, read-placed}
 use borrow.Author.Needs.{needs}
 use Rattle.submission.proofs.choose.choose_read.Statement.{statement}
 use Rattle.submission.proofs.choose.choose_read.Tie as tie
@@ -10,7 +10,7 @@ place-requires : tie.Need-place-requires
 place-requires c κs =
     let x = c .before .before .before .before in
     let s = x .before .before .before .before in
-    subst (SurveyFits (s .args .image .now)) (x .found .given .1) (s .pre) .1
+    subst (CheckFits (s .args .image .now)) (x .found .given .1) (s .pre) .1
 
 returns : tie.Need-returns
 returns c =

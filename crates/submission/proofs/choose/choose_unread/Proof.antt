@@ -1,5 +1,5 @@
 -- `choose_unread` meets its contract. Assumes nothing.
-use Rattle.submission.proofs.CodeLaws.{unread-sound, unread-unsound}
+use Rattle.submission.proofs.SubmitCode.{unread-sound, unread-unsound}
 use borrow.Author.Needs.{needs}
 use Rattle.submission.proofs.choose.choose_unread.Statement.{statement}
 use Rattle.submission.proofs.choose.choose_unread.Tie as tie

@@ -1,6 +1,6 @@
 -- `place` meets its contract. Assumes nothing.
 use native.Mathlib.Omega.{arith}
-use Rattle.submission.proofs.CodeLaws.{held-room, place-same, place-other, place-store}
+use Rattle.submission.proofs.SubmitCode.{held-room, place-same, place-other, place-store}
 use borrow.Author.Needs.{needs}
 use Rattle.submission.proofs.choose.place.Statement.{statement}
 use Rattle.submission.proofs.choose.place.Tie as tie

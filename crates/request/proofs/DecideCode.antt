@@ -1,10 +1,11 @@
--- Laws of the steps of a request (specs/Decision.antt, specs/Stages.antt), in the code's own form. Assumes nothing.
+-- Laws of the steps of a request (specs/Decision.antt, specs/Code.antt), in the code's own form. Assumes nothing.
 use mathlib.Core.Path.{_≡_, refl, sym, ap, _∙_}
 use mathlib.Core.Bool.{Bool, true, false, false≢true}
 use mathlib.Core.List.{List}
 use Prim.Native.Nat.{ℕ, _+_, _-_, min}
 use lib.ListN.{length, take, drop}
 use borrow.Author.Tests.{eq-eqb, ne-eqb}
+use Rattle.resource.specs.Identifier.{levelsPlace, terminalSize}
 use Rattle.octets.specs.Bytes.{part, same}
 use Rattle.octets.proofs.PartLaws.{part-to-end, lent-part}
 use Rattle.descriptor.specs.declared.Fields.{Fields}
@@ -13,10 +14,10 @@ use Rattle.steps.specs.Key.{bad, noKey, isThat, keyOpen}
 use Rattle.steps.specs.Laws.{Decides, passes, fails, mapped}
 use Rattle.steps.proofs.Laws.{decided, same-end, order-append, order-staged, passed-by}
 use Rattle.image.specs.declared.Held.the-variants.{Missing, Body}
-use Rattle.image.specs.declared.Survey.{Survey}
-use Rattle.image.specs.declared.Survey.the-variants.{Sound, Unsound}
+use Rattle.image.specs.declared.ImageCheck.{ImageCheck}
+use Rattle.image.specs.declared.ImageCheck.the-variants.{Sound, Unsound}
 use Rattle.image.specs.Check.{isSound, isHeld}
-use Rattle.image.specs.Edition1.{surveyOf}
+use Rattle.image.specs.Edition1.{checkOf}
 use Rattle.request.specs.declared.Decision.{Decision}
 use Rattle.request.specs.declared.Decision.the-variants as answers
 use Rattle.request.specs.declared.Environment.{Environment}
@@ -27,7 +28,7 @@ use Rattle.request.specs.declared.search.Matched.the-variants.{IsAt, Not
 use Rattle.request.specs.Request.{Request, wellFormed, isListed}
 use Rattle.request.specs.Decision.{revocationSteps, descriptorSteps, keySteps, laterSteps, stepsBy, grantedBy, factsOf, firstFrom}
 use Rattle.request.specs.Decision.{matchedOn, decidedOn, factsIn, matchedIn, stepsOf, decisionOf, numbersOf}
-use Rattle.request.specs.Stages.{appliesWith, applicabilityOf, signedBy}
+use Rattle.request.specs.Code.{appliesWith, applicabilityOf, signedBy}
 
 -- The code compares a part that it lends.
 pub lent-same : (s t : List ℕ) (at n : ℕ) {b : Bool} → b ≡ same (take (at + n - at) (drop at s)) t → same (part s at n) t ≡ b
@@ -36,21 +37,22 @@ lent-same s t at n e = ap (λ (x : List ℕ). same x t) (sym (lent-part s at n))
 -- ---- the first grant that serves
 
 module _ (b : List ℕ) (f : Fields) (resource : List ℕ) (mode : ℕ) {t : Bool}
-    (e : t ≡ same (take (f .terminal + 45 - f .terminal) (drop (f .terminal) b)) (take 45 resource)) where
+    (e : t ≡ same (take (f .terminal + terminalSize - f .terminal) (drop (f .terminal) b)) (take terminalSize resource)) where
   -- None serves where the resource is another terminal's.
   pub matched-other : t ≡ false → Nothing ≡ matchedOn b f resource mode
   unfolding matchedOn
-  matched-other g = sym (rw (lent-same b (take 45 resource) (f .terminal) 45 e ∙ g))
+  matched-other g = sym (rw (lent-same b (take terminalSize resource) (f .terminal) terminalSize e ∙ g))
 
   -- Else the search tells.
-  pub matched-first : t ≡ true → {m : Matched} → m ≡ firstFrom b (take (length resource - 46) (drop 46 resource)) mode (f .grants)
+  pub matched-first : t ≡ true → {m : Matched} → m
+      ≡ firstFrom b (take (length resource - levelsPlace) (drop levelsPlace resource)) mode (f .grants)
       (f .first) 0
       → m ≡ matchedOn b f resource mode
   unfolding matchedOn
   matched-first g h =
       h
-      ∙ ap (λ (r : List ℕ). firstFrom b r mode (f .grants) (f .first) 0) (part-to-end resource 46)
-      ∙ sym (rw (lent-same b (take 45 resource) (f .terminal) 45 e ∙ g))
+      ∙ ap (λ (r : List ℕ). firstFrom b r mode (f .grants) (f .first) 0) (part-to-end resource levelsPlace)
+      ∙ sym (rw (lent-same b (take terminalSize resource) (f .terminal) terminalSize e ∙ g))
 
 -- ---- the stages
 
@@ -77,7 +79,7 @@ module _ (q : Request) (b : List ℕ) (f : Fields) where
   -- What is decided with a grant that serves, by the key and the signature.
   abbrev signedWith : ℕ → ℕ → Decision
   signedWith grant mask =
-      inOrder (keySteps (q .verdict) (q .window) (q .clock)) (answers.Granted grant mask (min (f .after) (q .clock + q .session)))
+      inOrder (keySteps (q .verdict) (q .window) (q .clock)) (answers.Granted grant mask (min (f .«not_after») (q .clock + q .session)))
 
   -- The steps 9 to 13 and what follows them, by the first grant that serves.
   descriptor-steps : (m : Matched) (k : ℕ → ℕ → Decision) (r : Decision) → ((grant mask : ℕ) → m ≡ IsAt grant mask → r ≡ k grant mask)
@@ -85,10 +87,12 @@ module _ (q : Request) (b : List ℕ) (f : Fields) where
       ≡ inOrder (descriptorSteps (factsOf b f) (q .fay) (q .terminal) (q .clock) m) r
   unfolding descriptorSteps
   descriptor-steps (IsAt grant mask) k r h =
-      order-staged Refused (afterStage k) (λ x. refl) (descriptorSteps (factsOf b f) (q .fay) (q .terminal) (q .clock) (IsAt grant mask)) (Applies grant mask)
+      order-staged Refused (afterStage k) (λ x. refl) (descriptorSteps (factsOf b f) (q .fay) (q .terminal) (q .clock) (IsAt grant mask))
+      (Applies grant mask)
       ∙ ap (inOrder (descriptorSteps (factsOf b f) (q .fay) (q .terminal) (q .clock) (IsAt grant mask))) (sym (h grant mask refl))
   descriptor-steps Nothing k r h =
-      order-staged Refused (afterStage k) (λ x. refl) (descriptorSteps (factsOf b f) (q .fay) (q .terminal) (q .clock) Nothing) (Refused answers.Insufficient)
+      order-staged Refused (afterStage k) (λ x. refl) (descriptorSteps (factsOf b f) (q .fay) (q .terminal) (q .clock) Nothing)
+      (Refused answers.Insufficient)
       ∙ same-end (descriptorSteps (factsOf b f) (q .fay) (q .terminal) (q .clock) Nothing) answers.Insufficient r
       (λ a. absurd (false≢true (passed-by answerOf 13 (descriptorSteps (factsOf b f) (q .fay) (q .terminal) (q .clock) Nothing) a)))
 
@@ -99,17 +103,20 @@ module _ (q : Request) (b : List ℕ) (f : Fields) where
   on-stage e =
       let m = matchedOn b f (q .resource) (q .mode) in
       let ks = keySteps (q .verdict) (q .window) (q .clock) in
-      descriptor-steps m signedWith (inOrder ks (grantedBy q (factsOf b f) m)) (λ grant mask i. ap (λ (n : Matched). inOrder ks (grantedBy q (factsOf b f) n)) i)
+      descriptor-steps m signedWith (inOrder ks (grantedBy q (factsOf b f) m))
+      (λ grant mask i. ap (λ (n : Matched). inOrder ks (grantedBy q (factsOf b f) n)) i)
       ∙ sym (rw e (order-append (descriptorSteps (factsOf b f) (q .fay) (q .terminal) (q .clock) m) ks (grantedBy q (factsOf b f) m)))
 
   module _ (e : isListed (q .revoked) (q .id) ≡ false) where
     -- Where a grant serves, what the key and the signature come to is decided.
-    pub on-applies : (grant mask : ℕ) {x : Decision} → Applies grant mask ≡ applicabilityOf b f (q .fay) (q .terminal) (q .resource) (q .mode) (q .clock)
+    pub on-applies : (grant mask : ℕ) {x : Decision} → Applies grant mask
+        ≡ applicabilityOf b f (q .fay) (q .terminal) (q .resource) (q .mode) (q .clock)
         → x ≡ signedWith grant mask → x ≡ decidedOn q b f
     on-applies grant mask a h = h ∙ ap (afterStage signedWith) a ∙ on-stage e
 
     -- Else the refusal is.
-    pub on-refused : (x : Decision) → Refused x ≡ applicabilityOf b f (q .fay) (q .terminal) (q .resource) (q .mode) (q .clock) → x ≡ decidedOn q b f
+    pub on-refused : (x : Decision) → Refused x ≡ applicabilityOf b f (q .fay) (q .terminal) (q .resource) (q .mode) (q .clock) → x
+        ≡ decidedOn q b f
     on-refused x a = ap (afterStage signedWith) a ∙ on-stage e
 
   -- What is decided on a body that is revoked.
@@ -146,31 +153,31 @@ module _ (grant mask after : ℕ) (e : Environment) where
 -- ---- all steps
 
 module _ (s : List ℕ) (q : Request) where
-  -- the decision by a survey
-  abbrev decisionBy : Survey → Decision
+  -- the decision by a check
+  abbrev decisionBy : ImageCheck → Decision
   decisionBy v = inOrder (stepsBy q (isSound v) (isHeld v) (factsIn s v) (matchedIn s q v)) (grantedBy q (factsIn s v) (matchedIn s q v))
 
-  -- What the steps come to, by the image's survey, is the decision.
-  by-survey : {v : Survey} → v ≡ surveyOf s (q .id) → decisionBy v ≡ decisionOf s q
+  -- What the steps come to, by the image's check, is the decision.
+  by-check : {v : ImageCheck} → v ≡ checkOf s (q .id) → decisionBy v ≡ decisionOf s q
   unfolding decisionOf stepsOf
-  by-survey e = ap decisionBy e
+  by-check e = ap decisionBy e
 
   -- Malformed arguments are refused first.
   pub decide-malformed : wellFormed q ≡ false
       → answers.Malformed ≡ decisionOf s q
   unfolding stepsBy
-  decide-malformed w = decided (fails w) ∙ by-survey refl
+  decide-malformed w = decided (fails w) ∙ by-check refl
 
   module _ (w : wellFormed q ≡ true) where
     -- Then an image that is not sound.
-    pub decide-unsound : Unsound ≡ surveyOf s (q .id) → answers.BadImage ≡ decisionOf s q
+    pub decide-unsound : Unsound ≡ checkOf s (q .id) → answers.BadImage ≡ decisionOf s q
     unfolding stepsBy
-    decide-unsound e = decided (passes w (fails refl)) ∙ by-survey e
+    decide-unsound e = decided (passes w (fails refl)) ∙ by-check e
 
     -- Then an id that is not held.
-    pub decide-missing : {n end : ℕ} → Sound n end Missing ≡ surveyOf s (q .id) → answers.NotFound ≡ decisionOf s q
+    pub decide-missing : {n end : ℕ} → Sound n end Missing ≡ checkOf s (q .id) → answers.NotFound ≡ decisionOf s q
     unfolding stepsBy
-    decide-missing e = decided (passes w (passes refl (fails refl))) ∙ by-survey e
+    decide-missing e = decided (passes w (passes refl (fails refl))) ∙ by-check e
 
     -- Where the id is held, the steps on its body are left.
     held-steps : (n end at len : ℕ) (f : Fields) → decisionBy (Sound n end (Body at len f)) ≡ decidedOn q (part s at len) f
@@ -178,7 +185,7 @@ module _ (s : List ℕ) (q : Request) where
     held-steps n end at len f = rw w
 
     -- They decide.
-    pub decide-body : {n end at len : ℕ} {f : Fields} {x : Decision} → Sound n end (Body at len f) ≡ surveyOf s (q .id)
+    pub decide-body : {n end at len : ℕ} {f : Fields} {x : Decision} → Sound n end (Body at len f) ≡ checkOf s (q .id)
         → x ≡ decidedOn q (take (at + len - at) (drop at s)) f → x ≡ decisionOf s q
     decide-body {n} {end} {at} {len} {f} e h =
-        h ∙ ap (λ (b : List ℕ). decidedOn q b f) (lent-part s at len) ∙ sym (held-steps n end at len f) ∙ by-survey e
+        h ∙ ap (λ (b : List ℕ). decidedOn q b f) (lent-part s at len) ∙ sym (held-steps n end at len f) ∙ by-check e

@@ -1,4 +1,4 @@
--- Laws of one step of the search (specs/Scan.antt), as the code's loops take them. Assumes nothing.
+-- Laws of one step of the search (specs/Code.antt), as the code's loops take them. Assumes nothing.
 use mathlib.Core.Path.{_≡_, refl, sym, ap, _∙_}
 use mathlib.Core.Bool.{Bool, true, false, not}
 use mathlib.Core.List.{List}
@@ -13,7 +13,7 @@ use Rattle.descriptor.specs.Reader.{hasMode, GrantSeen, grantAt}
 use Rattle.narrowing.specs.declared.search.Found.the-variants.{At, Nothing}
 use Rattle.narrowing.specs.Escape.{least, orLimit}
 use Rattle.narrowing.specs.Range.{textRange, marked}
-use Rattle.narrowing.specs.Scan.{below, markedAt, lacksAt, lowestFrom}
+use Rattle.narrowing.specs.Code.{below, markedAt, lacksAt, lowestFrom}
 use Rattle.narrowing.proofs.LeastLaws.{least-some}
 
 -- ---- one mode

@@ -8,7 +8,7 @@ use Rattle.exact.specs.Reads.{Got, got, refused}
 use Rattle.descriptor.specs.declared.Reading.the-variants.{Read, Structure, Validity}
 use Rattle.descriptor.specs.Allowed.{longest, longestPeriod}
 use Rattle.descriptor.specs.Reader.{Seen, descriptorAt, whole, readOf}
-use Rattle.descriptor.specs.Answer.{fieldsOf, readingOf}
+use Rattle.descriptor.specs.Code.{fieldsOf, readingOf}
 
 module _ (s : List ℕ) where
   -- too many bytes

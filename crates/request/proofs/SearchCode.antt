@@ -7,20 +7,21 @@ use native.Mathlib.Omega.{arith}
 use lib.ListN.{take, drop}
 use lib.Dec.{eqb}
 use borrow.Author.Tests.{eq-eqb, ne-eqb}
+use Rattle.resource.specs.Identifier.{levelsPlace}
 use Rattle.octets.specs.Bytes.{part}
 use Rattle.exact.specs.Reads.{got, refused}
 use Rattle.resource.specs.declared.LevelStep.{LevelStep}
 use Rattle.resource.specs.declared.LevelStep.the-variants.{Differ}
 use Rattle.resource.specs.Level.{isDeep}
-use Rattle.resource.specs.Scan.{stepOf}
+use Rattle.resource.specs.Code.{stepOf}
 use Rattle.resource.specs.Text.{levelsMatch}
 use Rattle.resource.specs.Laws.{Stepped}
 use Rattle.resource.proofs.Laws.{step-decides}
 use Rattle.descriptor.specs.Reader.{hasMode, GrantSeen, grantAt}
-use Rattle.entries.proofs.ValueSteps.{lent-levels}
+use Rattle.entries.proofs.ValueCode.{lent-levels}
 use Rattle.request.specs.declared.search.Matched.the-variants.{IsAt, Nothing}
 use Rattle.request.specs.Decision.{serves, orNext, firstFrom}
-use Rattle.request.specs.Stages.{eligible}
+use Rattle.request.specs.Code.{eligible}
 
 -- ---- the mode and the constraint pairs
 
@@ -38,13 +39,15 @@ eligible-mode mask pairs mode n h e = rw (e, eq-eqb pairs 0 h) (sym (and-true (e
 
 -- A grant serves when it is eligible and its levels, as the code lends them, match.
 serves-both : (s r : List ℕ) (mode : ℕ) (g : GrantSeen) (b t : Bool) → b ≡ eligible (g .mask) (g .pairs) mode
-    → levelsMatch (take ((g .pattern .start + g .pattern .len) - (g .pattern .start + 46)) (drop (g .pattern .start + 46) s)) r ≡ t
+    → levelsMatch (take ((g .pattern .start + g .pattern .len) - (g .pattern .start + levelsPlace))
+    (drop (g .pattern .start + levelsPlace) s)) r ≡ t
     → serves s r mode g ≡ (b && t)
 unfolding serves eligible
 serves-both s r mode g b t e m =
-    let l : List ℕ = part s (g .pattern .start + 46) (g .pattern .len - 46) in
+    let l : List ℕ = part s (g .pattern .start + levelsPlace) (g .pattern .len - levelsPlace) in
     sym (and-assoc (hasMode (g .mask) mode) (eqb (g .pairs) 0) (levelsMatch l r))
-    ∙ ap₂ (λ (x y : Bool). x && y) (sym e) (ap (λ (p : List ℕ). levelsMatch p r) (sym (lent-levels s (g .pattern .start) (g .pattern .len))) ∙ m)
+    ∙ ap₂ (λ (x y : Bool). x && y) (sym e)
+    (ap (λ (p : List ℕ). levelsMatch p r) (sym (lent-levels s (g .pattern .start) (g .pattern .len))) ∙ m)
 
 -- ---- the levels of a grant, one after the other
 
@@ -86,11 +89,15 @@ module _ (s r : List ℕ) (mode count at i : ℕ) where
       first-not k = first-read false (serves-both s r mode g b _ f refl ∙ rw k)
 
       -- So does one of which the levels do not match.
-      pub first-miss : b ≡ true → levelsMatch (take ((g .pattern .start + g .pattern .len) - (g .pattern .start + 46)) (drop (g .pattern .start + 46) s)) r ≡ false
+      pub first-miss : b ≡ true
+          → levelsMatch (take ((g .pattern .start + g .pattern .len) - (g .pattern .start + levelsPlace))
+          (drop (g .pattern .start + levelsPlace) s)) r ≡ false
           → firstFrom s r mode (count - i) at i ≡ firstFrom s r mode (count - (i + 1)) next (i + 1)
       first-miss k m = first-read false (serves-both s r mode g b false f m ∙ rw k)
 
       -- One that is eligible and of which the levels match is the answer.
-      pub first-hit : b ≡ true → levelsMatch (take ((g .pattern .start + g .pattern .len) - (g .pattern .start + 46)) (drop (g .pattern .start + 46) s)) r ≡ true
+      pub first-hit : b ≡ true
+          → levelsMatch (take ((g .pattern .start + g .pattern .len) - (g .pattern .start + levelsPlace))
+          (drop (g .pattern .start + levelsPlace) s)) r ≡ true
           → firstFrom s r mode (count - i) at i ≡ IsAt i (g .mask)
       first-hit k m = first-read true (serves-both s r mode g b true f m ∙ rw k)

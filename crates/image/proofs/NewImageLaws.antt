@@ -1,4 +1,4 @@
--- A new image is the image of no bodies (specs/Fresh.antt). Assumes nothing.
+-- A new image is the image of no bodies (specs/NewImage.antt). Assumes nothing.
 use mathlib.Core.Path.{_≡_, ap, _∙_}
 use mathlib.Core.List.{List, _++_}
 use Prim.Native.Nat.{ℕ, _+_, _≤_}
@@ -12,14 +12,14 @@ use Rattle.octets.proofs.OverLaws.{over-has, over-after, has-front}
 use Rattle.image.specs.declared.layout.Layout.{Layout}
 use Rattle.image.specs.Layout.{modeEdition, headerSize, headerWidth, modesPlace, countPlace, headerZero, edition1}
 use Rattle.image.specs.Image.{header, rowsOf, joined, imageOf}
-use Rattle.image.specs.Fresh.{fresh, madeOf, afterNew}
+use Rattle.image.specs.NewImage.{newBytes, creationOf, afterNew}
 use Rattle.image.specs.Promises.{NewImage}
 use Rattle.image.proofs.RaiseLaws.{put-four}
 use Rattle.image.proofs.RowLaws.{header-length}
 
 -- The four numbers of a header written one after the other are the header of no rows, and no other byte is changed.
-fresh-header : (l : Layout) (d : List ℕ) → headerSize ≤ length d → fresh l d ≡ header l 0 ++ drop headerSize d
-unfolding fresh header
+fresh-header : (l : Layout) (d : List ℕ) → headerSize ≤ length d → newBytes l d ≡ header l 0 ++ drop headerSize d
+unfolding newBytes header
 fresh-header l d h =
     let w : (m : ℕ) → length (bigEndian headerWidth m) ≡ headerWidth = length-bigEndian headerWidth in
     let fit : 0 + length (header l 0) ≤ length d = omega (arith, header-length l 0) in
@@ -32,7 +32,7 @@ fresh-header l d h =
 
 -- `NewImage`.
 pub new-image : NewImage
-unfolding madeOf afterNew imageOf header rowsOf joined bigEndian
+unfolding creationOf afterNew imageOf header rowsOf joined bigEndian
 new-image = (
   λ d h. let e = le-ltb (length d) headerSize h in (rw e, rw e (fresh-header edition1 d h), rw e (fresh-header edition1 d h)),
   λ d h. let e = lt-ltb (length d) headerSize h in (rw e, rw e),

@@ -1,4 +1,4 @@
--- Laws of matching the first level of a pattern against the first level of a path (specs/Scan.antt), and what it says of all levels
+-- Laws of matching the first level of a pattern against the first level of a path (specs/Code.antt), and what it says of all levels
 -- (specs/Text.antt). Assumes nothing.
 use mathlib.Core.Path.{_≡_, refl, sym, ap, subst, _∙_}
 use mathlib.Core.Bool.{Bool, true, false, cond, _&&_, _||_, and-true, and-false}
@@ -18,7 +18,7 @@ use Rattle.octets.specs.Scan.{bytesBefore, without}
 use Rattle.resource.specs.Level.{isStar, isDeep, levels}
 use Rattle.resource.specs.Pattern.{Levels, done, deep, matches}
 use Rattle.resource.specs.Text.{withLevel, levelsOf, levelsMatch}
-use Rattle.resource.specs.Scan.{levelLength, nameStep, starFirst, starStep, stepOf}
+use Rattle.resource.specs.Code.{levelLength, nameStep, starFirst, starStep, stepOf}
 use Rattle.resource.specs.Laws.{alike, Firsts, FirstLevels, Goes, Stepped, StepLevels, FirstStar, StepDecides, DeepMatches}
 use Rattle.octets.proofs.Tests.{by-cond, no-flag}
 use Rattle.octets.proofs.SameLaws.{same-equal}

@@ -17,6 +17,7 @@ use Rattle.resource.specs.Pattern.{endsDeep}
 use Rattle.resource.specs.Text.{levelsOf}
 use Rattle.descriptor.specs.declared.Fields.{Fields}
 use Rattle.descriptor.specs.Reader.{hasMode, grantAt}
+use Rattle.descriptor.specs.Modes.{modeCount}
 use Rattle.narrowing.specs.declared.Narrowing.{Narrowing}
 use Rattle.narrowing.specs.declared.Narrowing.the-variants.{Accepted, Constrained, Period, NotCovered}
 use Rattle.narrowing.specs.declared.range.Range.{Range}
@@ -84,7 +85,7 @@ lowestFrom d mask from to m (suc n) =
 
 -- the first of all modes, with each number of names that can be taken: from 1 on where the levels end with "**", which `deep` says, else 0
 unfoldable pub lowestIn : Bool → List ℕ → ℕ → Found
-lowestIn deep d mask = cond deep (lowestFrom d mask 1 most 0 4) (lowestFrom d mask 0 1 0 4)
+lowestIn deep d mask = cond deep (lowestFrom d mask 1 most 0 modeCount) (lowestFrom d mask 0 1 0 modeCount)
 
 -- no mode is marked
 abbrev pub zeros : List ℕ
@@ -151,6 +152,7 @@ unfoldable pub comparedIn : List ℕ → Fields → List ℕ → Fields → Narr
 comparedIn s v t w =
     cond (not (eqb (v .constraints) 0)) Constrained
     (cond (not (eqb (w .constraints) 0)) Constrained
-    (cond (ltb (w .before) (v .before)) Period
-    (cond (ltb (v .after) (w .after)) Period
-    (firstIn s (v .first) (v .grants) (same (part s (v .terminal) terminalSize) (part t (w .terminal) terminalSize)) t 0 (w .grants) (w .first)))))
+    (cond (ltb (w .«not_before») (v .«not_before»)) Period
+    (cond (ltb (v .«not_after») (w .«not_after»)) Period
+    (firstIn s (v .first) (v .grants) (same (part s (v .terminal) terminalSize) (part t (w .terminal) terminalSize)) t 0 (w .grants)
+    (w .first)))))

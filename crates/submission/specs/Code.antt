@@ -12,12 +12,12 @@ use Rattle.steps.specs.declared.Window.{Window}
 use Rattle.steps.specs.Key.{bad, noKey, isVerdict, isThat, keyOpen}
 use Rattle.image.specs.declared.Held.{Held}
 use Rattle.image.specs.declared.Held.the-variants.{Missing, Body}
-use Rattle.image.specs.declared.Survey.{Survey}
-use Rattle.image.specs.declared.Survey.the-variants.{Sound, Unsound}
+use Rattle.image.specs.declared.ImageCheck.{ImageCheck}
+use Rattle.image.specs.declared.ImageCheck.the-variants.{Sound, Unsound}
 use Rattle.image.specs.declared.Added.{Added}
 use Rattle.image.specs.declared.Added.the-variants.{Done, Full}
 use Rattle.image.specs.Image.{reading, idOf}
-use Rattle.image.specs.Edition1.{surveyOf}
+use Rattle.image.specs.Edition1.{checkOf}
 use Rattle.submission.specs.declared.Submission.{Submission}
 use Rattle.submission.specs.declared.Submission.the-variants as answers
 use Rattle.submission.specs.declared.choose.Choice.{Choice}
@@ -46,18 +46,19 @@ abbrev pub whenAdmitted : Admission → Choice → Choice
 whenAdmitted (Refused a) c = Answer a
 whenAdmitted Admitted c = c
 
--- a body that reads, by the survey of the image
-unfoldable pub chosenRead : List ℕ → List ℕ → ℕ → ℕ → Window → Fields → Survey → Choice
-chosenRead d b clock verdict window f (Sound n end h) = whenAdmitted (admitted (f .before) clock verdict window) (placed d b n end h f)
+-- a body that reads, by the check of the image
+unfoldable pub chosenRead : List ℕ → List ℕ → ℕ → ℕ → Window → Fields → ImageCheck → Choice
+chosenRead d b clock verdict window f (Sound n end h) =
+    whenAdmitted (admitted (f .«not_before») clock verdict window) (placed d b n end h f)
 chosenRead d b clock verdict window f Unsound = Answer answers.BadImage
 
--- a body that does not read, by the survey of the image
-unfoldable pub chosenUnread : Submission → Survey → Choice
+-- a body that does not read, by the check of the image
+unfoldable pub chosenUnread : Submission → ImageCheck → Choice
 chosenUnread a (Sound n end h) = Answer a
 chosenUnread a Unsound = Answer answers.BadImage
 
 -- by what reading the body answers
-abbrev pub chosenBy : List ℕ → List ℕ → ℕ → ℕ → Window → Reading → Survey → Choice
+abbrev pub chosenBy : List ℕ → List ℕ → ℕ → ℕ → Window → Reading → ImageCheck → Choice
 chosenBy d b clock verdict window (Read f) v = chosenRead d b clock verdict window f v
 chosenBy d b clock verdict window Structure v = chosenUnread answers.Structure v
 chosenBy d b clock verdict window Validity v = chosenUnread answers.Validity v
@@ -65,7 +66,7 @@ chosenBy d b clock verdict window Validity v = chosenUnread answers.Validity v
 -- what is to be done
 unfoldable pub choiceOf : List ℕ → List ℕ → ℕ → ℕ → Window → Choice
 choiceOf d b clock verdict window =
-    cond (isVerdict verdict) (chosenBy d b clock verdict window (reading b) (surveyOf d (idOf b))) (Answer answers.Malformed)
+    cond (isVerdict verdict) (chosenBy d b clock verdict window (reading b) (checkOf d (idOf b))) (Answer answers.Malformed)
 
 -- ---- the stage that writes
 

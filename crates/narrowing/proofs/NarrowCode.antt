@@ -18,17 +18,17 @@ use Rattle.descriptor.specs.declared.Reading.the-variants as reading
 use Rattle.descriptor.specs.Model.{Descriptor}
 use Rattle.descriptor.specs.Allowed.{Allowed}
 use Rattle.descriptor.specs.Reader.{GrantSeen, grantAt, Seen, Answer, read, structure, validity, readOf}
-use Rattle.descriptor.specs.Answer.{fieldsOf, readingOf}
+use Rattle.descriptor.specs.Code.{fieldsOf, readingOf}
 use Rattle.descriptor.specs.Numbers.{numbersOf, numberOf}
 use Rattle.descriptor_laws.specs.Promises.{DescriptorHanded}
 use Rattle.descriptor_laws.proofs.Promises.{answered-exactly, hands-back}
 use Rattle.resource.proofs.Laws.{terminal-length}
-use Rattle.entries.proofs.ValueSteps.{lent-levels}
+use Rattle.entries.proofs.ValueCode.{lent-levels}
 use Rattle.narrowing.specs.declared.Narrowing.{Narrowing}
 use Rattle.narrowing.specs.declared.Narrowing.the-variants.{Accepted, NoParent, Structure, Validity, Constrained, Period, NotCovered}
 use Rattle.narrowing.specs.declared.search.Found.{Found}
 use Rattle.narrowing.specs.declared.search.Found.the-variants.{At, Nothing}
-use Rattle.narrowing.specs.Scan.{below, escapeIn, orNext, comparedIn, firstIn}
+use Rattle.narrowing.specs.Code.{below, escapeIn, orNext, comparedIn, firstIn}
 use Rattle.narrowing.specs.Narrow.{compared, withParent, underParent, narrow}
 use Rattle.narrowing.proofs.AgreeLaws.{scan-agrees}
 
@@ -170,15 +170,17 @@ module _ (s : List ℕ) (v : Fields) (t : List ℕ) (w : Fields) where
   unfolding comparedIn
   child-constrained a b = rw (eq-eqb _ _ a, ne-eqb _ _ b)
 
-  pub begins-early : v .constraints ≡ 0 → w .constraints ≡ 0 → w .before < v .before → Period ≡ comparedIn s v t w
+  pub begins-early : v .constraints ≡ 0 → w .constraints ≡ 0 → w .«not_before» < v .«not_before» → Period ≡ comparedIn s v t w
   unfolding comparedIn
   begins-early a b c = rw (eq-eqb _ _ a, eq-eqb _ _ b, lt-ltb _ _ c)
 
-  pub ends-late : v .constraints ≡ 0 → w .constraints ≡ 0 → v .before ≤ w .before → v .after < w .after → Period ≡ comparedIn s v t w
+  pub ends-late : v .constraints ≡ 0 → w .constraints ≡ 0 → v .«not_before» ≤ w .«not_before» → v .«not_after» < w .«not_after» → Period
+      ≡ comparedIn s v t w
   unfolding comparedIn
   ends-late a b c d = rw (eq-eqb _ _ a, eq-eqb _ _ b, le-ltb _ _ c, lt-ltb _ _ d)
 
-  pub compared-first : {shared : Bool} → v .constraints ≡ 0 → w .constraints ≡ 0 → v .before ≤ w .before → w .after ≤ v .after
+  pub compared-first : {shared : Bool} → v .constraints ≡ 0 → w .constraints ≡ 0 → v .«not_before» ≤ w .«not_before»
+      → w .«not_after» ≤ v .«not_after»
       → shared ≡ cbor.same (part s (v .terminal) terminalSize) (part t (w .terminal) terminalSize)
       → firstIn s (v .first) (v .grants) shared t 0 (w .grants) (w .first) ≡ comparedIn s v t w
   unfolding comparedIn

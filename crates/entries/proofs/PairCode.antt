@@ -3,7 +3,6 @@ use mathlib.Core.Path.{_≡_, refl, sym, ap, _∙_}
 use mathlib.Core.Bool.{Bool, true, false, not}
 use mathlib.Core.List.{List}
 use Prim.Native.Nat.{ℕ, _+_, _-_, _<_}
-use native.Mathlib.Omega.{arith}
 use lib.ListN.{take, drop}
 use Rattle.octets.specs.Bytes.{part}
 use Rattle.octets.specs.Order.{before}
@@ -15,7 +14,7 @@ use Rattle.exact.proofs.CountedLaws.{many-zero, many-refused}
 use Rattle.entries.specs.declared.value.Kind.the-variants.{Text}
 use Rattle.entries.specs.Value.{countAt, kindAt}
 use Rattle.entries.specs.Reader.{pairAt, pairsAt}
-use Rattle.entries.proofs.ValueSteps.{lent}
+use Rattle.entries.proofs.ValueCode.{lent}
 
 -- ---- one pair
 
@@ -57,4 +56,5 @@ module _ (s : List ℕ) (most at value next left last len here : ℕ) (e : got v
     pub pairs-yes : left ≡ 0 → got value here ≡ pairsAt s most at
     unfolding pairsAt
     pairs-yes l =
-        took _ e (took _ (sym (ap (λ (n : ℕ). many (pairAt s) n (spanOf last len) here) l ∙ many-zero (pairAt s) (spanOf last len) here) ∙ i) refl)
+        took _ e (took _ (sym (ap (λ (n : ℕ). many (pairAt s) n (spanOf last len) here) l ∙ many-zero (pairAt s) (spanOf last len) here)
+        ∙ i) refl)

@@ -18,7 +18,7 @@ use Rattle.entries.specs.Value.{countAt, oneOf, keyedAt}
 use Rattle.entries.proofs.ValueBounds.{key-fits, CountTo, keyed-count-bounds}
 use Rattle.descriptor.specs.Model.{modeNames}
 use Rattle.descriptor.specs.Reader.{hasMode, modeAt, modesAt}
-use Rattle.descriptor.specs.Answer.{withMode}
+use Rattle.descriptor.specs.Code.{withMode}
 use Rattle.octets.proofs.TruthLaws.{T-false}
 use Rattle.exact.specs.Holds.{Holds}
 use Rattle.exact.proofs.HoldsLaws.{held, holds-of, holds-bind, holds-guard, holds-many}
@@ -110,7 +110,8 @@ unfolding modesAt kModes
 modes-room s at e =
     held (λ m n. at + 6 ≤ length s)
     (holds-bind (λ c n. at + 6 ≤ length s) (λ m n. at + 6 ≤ length s) _ _
-    (holds-guard (λ c n. at + 6 ≤ length s) _ _ (λ t. holds-of (λ c n. at + 6 ≤ length s) (countAt s (at + length kModes) 4 1 4) (λ c n f. key-fits s at kModes (lit< tt) t)))
+    (holds-guard (λ c n. at + 6 ≤ length s) _ _
+    (λ t. holds-of (λ c n. at + 6 ≤ length s) (countAt s (at + length kModes) 4 1 4) (λ c n f. key-fits s at kModes (lit< tt) t)))
     (λ c n i. holds-of (λ m n. at + 6 ≤ length s) (many (modeAt s) c 0 n) (λ m k f. i)))
     e
 

@@ -7,16 +7,16 @@ use Rattle.octets.specs.Bytes.{AreBytes, part}
 use Rattle.octets.proofs.PartLaws.{lent-part}
 use Rattle.descriptor.specs.declared.Fields.{Fields}
 use Rattle.image.specs.declared.Held.the-variants.{Body}
-use Rattle.image.specs.declared.Survey.the-variants.{Sound}
-use Rattle.image.specs.Edition1.{surveyOf}
-use Rattle.image.specs.Laws.{HeldFits, SurveyFits}
-use Rattle.image.proofs.Laws.{read-in, survey-inside}
-use Rattle.request.specs.Stages.{BodyFits}
+use Rattle.image.specs.declared.ImageCheck.the-variants.{Sound}
+use Rattle.image.specs.Edition1.{checkOf}
+use Rattle.image.specs.Laws.{HeldFits, CheckFits}
+use Rattle.image.proofs.Laws.{read-in, check-inside}
+use Rattle.request.specs.Code.{BodyFits}
 
-module _ (s id : List ℕ) (n end at len : ℕ) (f : Fields) (bytes : AreBytes s) (e : Sound n end (Body at len f) ≡ surveyOf s id) where
+module _ (s id : List ℕ) (n end at len : ℕ) (f : Fields) (bytes : AreBytes s) (e : Sound n end (Body at len f) ≡ checkOf s id) where
   -- What is known of the body.
   known : HeldFits s (Body at len f)
-  known = subst (SurveyFits s) (sym e) (survey-inside s id bytes) .1
+  known = subst (CheckFits s) (sym e) (check-inside s id bytes) .1
 
   -- It lies in the image.
   pub held-inside : at + len ≤ length s

@@ -12,9 +12,10 @@ use Rattle.octets.proofs.Tests.{and-left, and-right}
 use Rattle.resource.specs.Identifier.{isFay, isTerminal}
 use Rattle.resource.specs.Text.{resourceOk}
 use Rattle.steps.specs.Key.{isVerdict}
-use Rattle.image.specs.Layout.{idSize}
+use Rattle.descriptor.specs.Allowed.{idSize}
 use Rattle.octets.proofs.PartLaws.{lent-part}
-use Rattle.request.specs.Request.{Request, highestMode, wellFormed, listedAmong, isListed}
+use Rattle.descriptor.specs.Modes.{highestMode}
+use Rattle.request.specs.Request.{Request, wellFormed, listedAmong, isListed}
 
 -- ---- the arguments
 
@@ -55,7 +56,8 @@ module _ (q : Request) where
       no-resource f g = sym (texts-left ∙ rw (e, f, g))
 
       -- Else the length of the list tells.
-      pub list-left : isTerminal (q .terminal) ≡ true → resourceOk (q .resource) ≡ true → eqb (length (q .revoked) % idSize) 0 ≡ wellFormed q
+      pub list-left : isTerminal (q .terminal) ≡ true → resourceOk (q .resource) ≡ true → eqb (length (q .revoked) % idSize) 0
+          ≡ wellFormed q
       list-left f g = sym (texts-left ∙ rw (e, f, g))
 
   module _ (w : wellFormed q ≡ true) where

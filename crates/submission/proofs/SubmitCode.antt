@@ -1,4 +1,4 @@
--- Laws that the proofs of the code apply: what the tests and calls of the code say of the definitions of specs/Stages.antt.
+-- Laws that the proofs of the code apply: what the tests and calls of the code say of the definitions of specs/Code.antt.
 -- Assumes nothing.
 use mathlib.Core.Path.{_≡_, sym, ap, _∙_, subst}
 use mathlib.Core.Bool.{Bool, true, false, not}
@@ -11,18 +11,18 @@ use Rattle.descriptor.specs.declared.Fields.{Fields}
 use Rattle.descriptor.specs.declared.Reading.{Reading}
 use Rattle.descriptor.specs.declared.Reading.the-variants.{Read, Structure, Validity}
 use Rattle.descriptor.specs.Reader.{readOf}
-use Rattle.descriptor.specs.Answer.{readingOf}
+use Rattle.descriptor.specs.Code.{readingOf}
 use Rattle.steps.specs.declared.Window.{Window}
 use Rattle.steps.specs.Key.{isVerdict, isThat, keyOpen}
 use Rattle.image.specs.declared.Held.{Held}
 use Rattle.image.specs.declared.Held.the-variants.{Missing, Body}
-use Rattle.image.specs.declared.Survey.{Survey}
-use Rattle.image.specs.declared.Survey.the-variants.{Sound, Unsound}
+use Rattle.image.specs.declared.ImageCheck.{ImageCheck}
+use Rattle.image.specs.declared.ImageCheck.the-variants.{Sound, Unsound}
 use Rattle.image.specs.Image.{reading, idIn, idOf}
-use Rattle.image.specs.Edition1.{surveyOf}
+use Rattle.image.specs.Edition1.{checkOf}
 use Rattle.image.specs.Laws.{HeldFits}
 use Rattle.image.proofs.Laws.{read-in}
-use Rattle.image.specs.Layout.{idSize}
+use Rattle.descriptor.specs.Allowed.{idSize}
 use Rattle.octets.proofs.PartLaws.{lent-part}
 use Rattle.submission.specs.declared.Submission.{Submission}
 use Rattle.submission.specs.declared.Submission.the-variants as answers
@@ -31,7 +31,7 @@ use Rattle.submission.specs.declared.choose.Choice.the-variants.{Answer,
 use Rattle.submission.specs.declared.choose.Admission.{Admission}
 use Rattle.submission.specs.declared.choose.Admission.the-variants.{Refused, Admitted}
 use Rattle.submission.specs.Submission.{longestLead}
-use Rattle.submission.specs.Stages.{admitted, placed, whenAdmitted, chosenRead, chosenUnread, chosenBy, choiceOf}
+use Rattle.submission.specs.Code.{admitted, placed, whenAdmitted, chosenRead, chosenUnread, chosenBy, choiceOf}
 
 -- ---- the beginning, the issuer, the key and the signature
 
@@ -90,15 +90,15 @@ module _ (d b : List ℕ) (n end : ℕ) (h : Held) (f : Fields) where
   unfolding placed
   place-store e = sym (ap (λ (x : Held). placed d b n end x f) e)
 
--- ---- by the survey of the image
+-- ---- by the check of the image
 
-module _ (d b : List ℕ) (clock verdict : ℕ) (window : Window) (f : Fields) (v : Survey) where
+module _ (d b : List ℕ) (clock verdict : ℕ) (window : Window) (f : Fields) (v : ImageCheck) where
   -- An image that is not sound is refused.
   pub read-unsound : v ≡ Unsound → Answer answers.BadImage ≡ chosenRead d b clock verdict window f v
   unfolding chosenRead
   read-unsound e = sym (ap (chosenRead d b clock verdict window f) e)
 
-  module _ (n end : ℕ) (h : Held) (e : v ≡ Sound n end h) (a : Admission) (k : a ≡ admitted (f .before) clock verdict window) where
+  module _ (n end : ℕ) (h : Held) (e : v ≡ Sound n end h) (a : Admission) (k : a ≡ admitted (f .«not_before») clock verdict window) where
     -- In a sound image it is placed, if it is admitted.
     read-sound : chosenRead d b clock verdict window f v ≡ whenAdmitted a (placed d b n end h f)
     unfolding chosenRead
@@ -114,14 +114,14 @@ module _ (d b : List ℕ) (clock verdict : ℕ) (window : Window) (f : Fields) (
     pub read-placed : (r : Choice) → a ≡ Admitted → r ≡ placed d b n end h f → r ≡ chosenRead d b clock verdict window f v
     read-placed r u p = p ∙ sym (read-sound ∙ ap (λ (y : Admission). whenAdmitted y (placed d b n end h f)) u)
 
-module _ (d id : List ℕ) (a : Submission) (v : Survey) (e : v ≡ surveyOf d id) where
+module _ (d id : List ℕ) (a : Submission) (v : ImageCheck) (e : v ≡ checkOf d id) where
   -- What is answered of a body that does not read, in a sound image.
-  pub unread-sound : (n end : ℕ) (h : Held) → v ≡ Sound n end h → Answer a ≡ chosenUnread a (surveyOf d id)
+  pub unread-sound : (n end : ℕ) (h : Held) → v ≡ Sound n end h → Answer a ≡ chosenUnread a (checkOf d id)
   unfolding chosenUnread
   unread-sound n end h u = ap (chosenUnread a) (sym u ∙ e)
 
   -- In an image that is not sound that comes first.
-  pub unread-unsound : v ≡ Unsound → Answer answers.BadImage ≡ chosenUnread a (surveyOf d id)
+  pub unread-unsound : v ≡ Unsound → Answer answers.BadImage ≡ chosenUnread a (checkOf d id)
   unfolding chosenUnread
   unread-unsound u = ap (chosenUnread a) (sym u ∙ e)
 
@@ -144,26 +144,26 @@ choice-malformed d b clock verdict window h = rw (lt-leb verdict 2 h)
 
 module _ (d b : List ℕ) (clock verdict : ℕ) (window : Window) (h : verdict ≤ 2) (o : Reading) (k : o ≡ readingOf (readOf b)) where
   -- What is to be done, by what was read.
-  choice-by : (x : Reading) → o ≡ x → chosenBy d b clock verdict window x (surveyOf d (idIn b x)) ≡ choiceOf d b clock verdict window
+  choice-by : (x : Reading) → o ≡ x → chosenBy d b clock verdict window x (checkOf d (idIn b x)) ≡ choiceOf d b clock verdict window
   unfolding choiceOf isVerdict idOf
   choice-by x e =
-      ap (λ (y : Reading). chosenBy d b clock verdict window y (surveyOf d (idIn b y))) (sym (reading-is b o x k e))
+      ap (λ (y : Reading). chosenBy d b clock verdict window y (checkOf d (idIn b y))) (sym (reading-is b o x k e))
       ∙ rw (le-leb verdict 2 h)
 
   -- A body that reads.
-  pub choice-read : (f : Fields) (v : Survey) (r : Choice) → o ≡ Read f → v ≡ surveyOf d (take (f .id + idSize - f .id) (drop (f .id) b))
+  pub choice-read : (f : Fields) (v : ImageCheck) (r : Choice) → o ≡ Read f → v ≡ checkOf d (take (f .id + idSize - f .id) (drop (f .id) b))
       → r ≡ chosenRead d b clock verdict window f v → r ≡ choiceOf d b clock verdict window
   choice-read f v r e s p =
       p
-      ∙ ap (chosenRead d b clock verdict window f) (s ∙ ap (surveyOf d) (lent-part b (f .id) idSize))
+      ∙ ap (chosenRead d b clock verdict window f) (s ∙ ap (checkOf d) (lent-part b (f .id) idSize))
       ∙ choice-by (Read f) e
 
   -- A body with a fault of structure.
-  pub choice-structure : (r : Choice) → o ≡ Structure → r ≡ chosenUnread answers.Structure (surveyOf d (replicate idSize 0))
+  pub choice-structure : (r : Choice) → o ≡ Structure → r ≡ chosenUnread answers.Structure (checkOf d (replicate idSize 0))
       → r ≡ choiceOf d b clock verdict window
   choice-structure r e p = p ∙ choice-by Structure e
 
   -- A body with a period that is not valid.
-  pub choice-validity : (r : Choice) → o ≡ Validity → r ≡ chosenUnread answers.Validity (surveyOf d (replicate idSize 0))
+  pub choice-validity : (r : Choice) → o ≡ Validity → r ≡ chosenUnread answers.Validity (checkOf d (replicate idSize 0))
       → r ≡ choiceOf d b clock verdict window
   choice-validity r e p = p ∙ choice-by Validity e

@@ -6,7 +6,7 @@ use Prim.Native.Nat.{ℕ, suc, _+_, _-_, _≤_}
 use native.Mathlib.Nat.{add-sub-cancel-left}
 use native.Mathlib.Omega.{arith}
 use lib.ListN.{length, take, drop}
-use lib.Dec.{T}
+use Rattle.resource.specs.Identifier.{levelsPlace}
 use Rattle.octets.specs.Bytes.{part, hasAt}
 use Rattle.octets.specs.Span.{spanOf}
 use Rattle.octets.proofs.Tests.{no-flag}
@@ -50,9 +50,11 @@ unfolding part
 lent s start len = rw add-sub-cancel-left
 
 -- what the code lends of a pattern below its terminal id is its part there
-pub lent-levels : (s : List ℕ) (start len : ℕ) → take ((start + len) - (start + 46)) (drop (start + 46) s) ≡ part s (start + 46) (len - 46)
+pub lent-levels : (s : List ℕ) (start len : ℕ) → take ((start + len) - (start + levelsPlace)) (drop (start + levelsPlace) s)
+    ≡ part s (start + levelsPlace) (len - levelsPlace)
 unfolding part
-lent-levels s start len = let e : (start + len) - (start + 46) ≡ len - 46 = omega arith in ap (λ (k : ℕ). take k (drop (start + 46) s)) e
+lent-levels s start len = let e : (start + len) - (start + levelsPlace) ≡ len - levelsPlace =
+    omega arith in ap (λ (k : ℕ). take k (drop (start + levelsPlace) s)) e
 
 -- the string of a major type at a place lies in s
 pub span-bound : (s : List ℕ) (at major start len : ℕ) → got (spanOf start len) (start + len) ≡ spanAt s at major → start + len ≤ length s

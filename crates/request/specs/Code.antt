@@ -4,6 +4,7 @@ use mathlib.Core.List.{List}
 use Prim.Native.Nat.{ℕ, _+_, _≤_, min}
 use lib.ListN.{length}
 use lib.Dec.{eqb}
+use Rattle.resource.specs.Identifier.{faySize, terminalSize}
 use Rattle.descriptor.specs.declared.Fields.{Fields}
 use Rattle.descriptor.specs.Reader.{hasMode}
 use Rattle.steps.specs.Order.{inOrder}
@@ -19,8 +20,8 @@ use Rattle.request.specs.Decision.{descriptorSteps, keySteps, factsOf, m
 
 -- the identifiers that the steps look at lie in the body
 pub record BodyFits (b : List ℕ) (f : Fields) : Type 0 where
-  pub fay : f .fay + 40 ≤ length b
-  pub terminal : f .terminal + 45 ≤ length b
+  pub fay : f .fay + faySize ≤ length b
+  pub terminal : f .terminal + terminalSize ≤ length b
 
 -- a grant has the mode and no constraint pair
 unfoldable pub eligible : ℕ → ℕ → ℕ → Bool
@@ -41,5 +42,5 @@ applicabilityOf b f fay terminal resource mode clock =
 
 -- the steps 14 and 4, where a grant serves
 unfoldable pub signedBy : ℕ → ℕ → ℕ → Environment → Decision
-signedBy grant mask after e =
-    inOrder (keySteps (e .verdict) (e .window) (e .clock)) (answers.Granted grant mask (min after (e .clock + e .session)))
+signedBy grant mask notAfter e =
+    inOrder (keySteps (e .verdict) (e .window) (e .clock)) (answers.Granted grant mask (min notAfter (e .clock + e .session)))

@@ -14,7 +14,7 @@ use Rattle.octets.specs.Bytes.{same}
 use Rattle.resource.specs.Level.{isStar, isDeep, levels}
 use Rattle.resource.specs.Pattern.{Levels, done, deep, name, star}
 use Rattle.resource.specs.Text.{withLevel, levelsOf}
-use Rattle.resource.specs.Scan.{starFirst, stepOf}
+use Rattle.resource.specs.Code.{starFirst, stepOf}
 use Rattle.octets.proofs.Tests.{no-flag}
 use Rattle.octets.proofs.SameLaws.{same-equal}
 use Rattle.resource.specs.Laws.{alike, Firsts, FirstLevels}

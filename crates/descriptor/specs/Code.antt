@@ -6,7 +6,7 @@ use lib.Dec.{eqb}
 use Rattle.octets.specs.Span.{Span, spanOf}
 use Rattle.exact.specs.Reads.{Got, got, refused, guard}
 use Rattle.entries.specs.declared.signature.SignatureFields.{SignatureFields}
-use Rattle.entries.specs.Answer.{signatureOf}
+use Rattle.entries.specs.Code.{signatureOf}
 use Rattle.descriptor.specs.declared.GrantFields.{GrantFields}
 use Rattle.descriptor.specs.declared.GrantRead.{GrantRead}
 use Rattle.descriptor.specs.declared.GrantRead.the-variants.{IsGrant, NoGrant}
@@ -45,7 +45,14 @@ withMode mask bit next = guard (not (eqb (mask / bit % 2) 1)) (got (mask + bit) 
 
 -- what is seen of a grant
 abbrev pub grantOf : GrantFields → GrantSeen
-grantOf f = record { mask = f .mask; modes = f .modes; constraints = f .constraints; pairs = f .pairs; pattern = spanOf (f .pattern) (f .len) }
+grantOf f = record {
+  mask = f .mask;
+  modes = f .modes;
+  constraints = f .constraints;
+  pairs = f .pairs;
+  pattern =
+      spanOf (f .pattern) (f .len);
+}
 
 abbrev pub grantRead : GrantRead → Got GrantSeen
 grantRead (IsGrant f next) = got (grantOf f) next
@@ -71,7 +78,13 @@ grantsRead NoGrants = refused
 
 -- metadata, issued_at, issuer_id and not_after
 abbrev pub issueOf : IssueFields → Issue
-issueOf f = record { metadata = f .metadata; issuedAt = f .issued; issuer = spanOf (f .issuer .at) (f .issuer .len); notAfter = f .after }
+issueOf f = record {
+  metadata = f .metadata;
+  issuedAt = f .«issued_at»;
+  issuer = spanOf (f .issuer .at) (f .issuer .len);
+  notAfter =
+      f .«not_after»;
+}
 
 abbrev pub issueRead : IssueRead → Got Issue
 issueRead (IsIssue f next) = got (issueOf f) next
@@ -79,7 +92,7 @@ issueRead NoIssue = refused
 
 -- grantor_id and not_before
 abbrev pub grantorOf : GrantorFields → Grantor
-grantorOf f = record { grantor = f .grantor; notBefore = f .before }
+grantorOf f = record { grantor = f .grantor; notBefore = f .«not_before» }
 
 abbrev pub grantorRead : GrantorRead → Got Grantor
 grantorRead (IsGrantor f next) = got (grantorOf f) next
@@ -116,9 +129,9 @@ abbrev pub fieldsOf : Seen → Fields
 fieldsOf v =
     record {
       payload = partOf (v .covered);
-      issued = v .payload .issuedAt;
-      before = v .payload .notBefore;
-      after = v .payload .notAfter;
+      «issued_at» = v .payload .issuedAt;
+      «not_before» = v .payload .notBefore;
+      «not_after» = v .payload .notAfter;
       id = v .payload .id;
       issuer = partOf (v .payload .issuer);
       grantor = record { at = v .payload .grantor .at; len = v .payload .grantor .size };

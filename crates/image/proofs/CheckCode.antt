@@ -24,23 +24,24 @@ use Rattle.descriptor.specs.declared.Fields.{Fields}
 use Rattle.descriptor.specs.declared.Reading.{Reading}
 use Rattle.descriptor.specs.declared.Reading.the-variants.{Read, Structure, Validity}
 use Rattle.descriptor.specs.Reader.{readOf}
-use Rattle.descriptor.specs.Answer.{readingOf}
+use Rattle.descriptor.specs.Code.{readingOf}
 use Rattle.image.specs.declared.Held.{Held}
 use Rattle.image.specs.declared.Held.the-variants.{Missing}
-use Rattle.image.specs.declared.Survey.{Survey}
-use Rattle.image.specs.declared.Survey.the-variants.{Unsound}
-use Rattle.image.specs.declared.Finding.the-variants.{BadId}
-use Rattle.image.specs.declared.Made.the-variants.{Done, TooShort}
+use Rattle.image.specs.declared.ImageCheck.{ImageCheck}
+use Rattle.image.specs.declared.ImageCheck.the-variants.{Unsound}
+use Rattle.image.specs.declared.Finding.the-variants.{Malformed}
+use Rattle.image.specs.declared.Creation.the-variants.{Done, TooShort}
 use Rattle.image.specs.declared.layout.Layout.{Layout}
-use Rattle.image.specs.Layout.{modeEdition, headerSize, headerWidth, editionPlace, modesPlace, countPlace, headerZero, idSize}
+use Rattle.descriptor.specs.Allowed.{idSize}
+use Rattle.image.specs.Layout.{modeEdition, headerSize, headerWidth, editionPlace, modesPlace, countPlace, headerZero}
 use Rattle.image.specs.Layout.{bodyWidth, maskWidth, offsetPlace, lengthPlace, maskPlace, zeroPlace, rowSize, mostRows, zeroSize}
 use Rattle.image.specs.Layout.{rowPlace, LayoutOk}
 use Rattle.image.specs.Image.{reading}
-use Rattle.image.specs.Check.{rowCount, rowId, rowLength, headerFits, idAmong, rowFits, onRead, rowAt, noted, rowsFrom, checked}
-use Rattle.image.specs.Check.{surveyed, surveyOf, foundIn, findOf}
-use Rattle.image.specs.Fresh.{fresh, madeOf, afterNew}
+use Rattle.image.specs.Check.{rowCount, rowId, rowLength, headerFits, idAmong, rowFits, onRead, rowAt, heldAfter, rowsFrom, checked}
+use Rattle.image.specs.Check.{checkAnswer, checkOf, foundIn, findOf}
+use Rattle.image.specs.NewImage.{newBytes, creationOf, afterNew}
 use Rattle.image.proofs.BodyLaws.{read-in}
-use Rattle.image.proofs.StepLaws.{row-next-is, rows-next}
+use Rattle.image.proofs.RowsCode.{row-next-is, rows-next}
 
 -- ---- bytes that are zero
 
@@ -104,15 +105,15 @@ module _ (l : Layout) where
   -- ---- a new image
 
   -- A buffer that is shorter than a header is too short, and stays.
-  pub new-short : (d : List ℕ) → length d < headerSize → (TooShort ≡ madeOf d) × (d ≡ afterNew l d)
-  unfolding madeOf afterNew
+  pub new-short : (d : List ℕ) → length d < headerSize → (TooShort ≡ creationOf d) × (d ≡ afterNew l d)
+  unfolding creationOf afterNew
   new-short d h = let e = lt-ltb (length d) headerSize h in (rw e, rw e)
 
   -- Another one has the header's four numbers first.
   pub new-done : (d d₁ d₂ d₃ d₄ : List ℕ) → headerSize ≤ length d → d₁ ≡ putAt d editionPlace (bigEndian headerWidth (l .edition))
       → d₂ ≡ putAt d₁ modesPlace (bigEndian headerWidth modeEdition) → d₃ ≡ putAt d₂ countPlace (bigEndian headerWidth 0)
-      → d₄ ≡ putAt d₃ headerZero (bigEndian headerWidth 0) → (Done ≡ madeOf d) × (d₄ ≡ afterNew l d)
-  unfolding madeOf afterNew fresh
+      → d₄ ≡ putAt d₃ headerZero (bigEndian headerWidth 0) → (Done ≡ creationOf d) × (d₄ ≡ afterNew l d)
+  unfolding creationOf afterNew newBytes
   new-done d d₁ d₂ d₃ d₄ h e₁ e₂ e₃ e₄ = let t = le-ltb (length d) headerSize h in (rw t, rw (e₄, e₃, e₂, e₁, t))
 
   -- ---- the header
@@ -227,22 +228,22 @@ module _ (l : Layout) where
 
   -- ---- all rows
 
-  -- A row that passes leaves the rows after it, with what the code noted.
+  -- A row that passes leaves the rows after it, with what the code heldAfter.
   pub rows-noted : (s id : List ℕ) (n i r at : ℕ) (h h′ : Held) (f : Fields) (next : ℕ) (hit : Bool) → i < n → got f next ≡ rowAt l s i at
-      → r ≡ rowPlace l i → hit ≡ same (take (r + idSize - r) (drop r s)) id → h′ ≡ noted hit h at (next - at) f
+      → r ≡ rowPlace l i → hit ≡ same (take (r + idSize - r) (drop r s)) id → h′ ≡ heldAfter hit h at (next - at) f
       → rowsFrom l s id (n - i) i at h ≡ rowsFrom l s id (n - (i + 1)) (i + 1) next h′
   rows-noted s id n i r at h h′ f next hit m e place p q =
       let len : rowLength s (rowPlace l i) ≡ next - at = omega (arith, row-next-is l s i at f next e .0) in
       rows-next l s id n i at h f next m e
       ∙ ap (rowsFrom l s id (n - (i + 1)) (i + 1) next)
-      (ap₂ (λ (b : Bool) (k : ℕ). noted b h at k f) (sym (id-is s id i r hit place p)) len ∙ sym q)
+      (ap₂ (λ (b : Bool) (k : ℕ). heldAfter b h at k f) (sym (id-is s id i r hit place p)) len ∙ sym q)
 
   -- ---- the whole image
 
   -- A check that refuses is answered with `Unsound`.
-  unsound : (s id : List ℕ) → refused ≡ checked l s id → Unsound ≡ surveyOf l s id
-  unfolding surveyOf
-  unsound s id e = ap (surveyed (rowCount s)) e
+  unsound : (s id : List ℕ) → refused ≡ checked l s id → Unsound ≡ checkOf l s id
+  unfolding checkOf
+  unsound s id e = ap (checkAnswer (rowCount s)) e
 
   -- A header that fits has no more rows than the most.
   pub header-few : (s : List ℕ) (n : ℕ) (b : Bool) → headerSize ≤ length s → b ≡ headerFits l s → not b ≡ false
@@ -261,41 +262,41 @@ module _ (l : Layout) where
       )
 
   -- Bytes under a header are not sound.
-  pub survey-short : (s id : List ℕ) → length s < headerSize → Unsound ≡ surveyOf l s id
+  pub check-short : (s id : List ℕ) → length s < headerSize → Unsound ≡ checkOf l s id
   unfolding checked
-  survey-short s id h = unsound s id (failed-leb headerSize (length s) _ h)
+  check-short s id h = unsound s id (failed-leb headerSize (length s) _ h)
 
   module _ (s id : List ℕ) (h : headerSize ≤ length s) (b : Bool) (p : b ≡ headerFits l s) where
     -- Another header is not sound.
-    pub survey-header : not b ≡ true → Unsound ≡ surveyOf l s id
+    pub check-header : not b ≡ true → Unsound ≡ checkOf l s id
     unfolding checked
-    survey-header t = unsound s id (passed-leb headerSize (length s) h (failed (headerFits l s) _ (not-T-of b p t)))
+    check-header t = unsound s id (passed-leb headerSize (length s) h (failed (headerFits l s) _ (not-T-of b p t)))
 
     -- Rows that would end after the bytes are not sound.
-    pub survey-long : not b ≡ false → (n : ℕ) → n ≡ numberIn s countPlace headerWidth → length s < rowPlace l n → Unsound ≡ surveyOf l s id
+    pub check-long : not b ≡ false → (n : ℕ) → n ≡ numberIn s countPlace headerWidth → length s < rowPlace l n → Unsound ≡ checkOf l s id
     unfolding checked
-    survey-long t n e m =
+    check-long t n e m =
         unsound s id (passed-leb headerSize (length s) h (passed (headerFits l s) (T-of-not b p t)
         (failed-leb (rowPlace l (rowCount s)) (length s) _ (omega (arith, ap (rowPlace l) (count-is s n h e))))))
 
     -- Else the rows tell.
-    pub survey-rows : not b ≡ false → (n : ℕ) → n ≡ numberIn s countPlace headerWidth → rowPlace l n ≤ length s → (r : Survey)
-        → r ≡ surveyed n (rowsFrom l s id n 0 (rowPlace l n) Missing) → r ≡ surveyOf l s id
-    unfolding checked surveyOf
-    survey-rows t n e k r q =
+    pub check-rows : not b ≡ false → (n : ℕ) → n ≡ numberIn s countPlace headerWidth → rowPlace l n ≤ length s → (r : ImageCheck)
+        → r ≡ checkAnswer n (rowsFrom l s id n 0 (rowPlace l n) Missing) → r ≡ checkOf l s id
+    unfolding checked checkOf
+    check-rows t n e k r q =
         q
-        ∙ ap (λ (m : ℕ). surveyed m (rowsFrom l s id m 0 (rowPlace l m) Missing)) (count-is s n h e)
-        ∙ ap (surveyed (rowCount s)) (passed-leb headerSize (length s) h (passed (headerFits l s) (T-of-not b p t)
+        ∙ ap (λ (m : ℕ). checkAnswer m (rowsFrom l s id m 0 (rowPlace l m) Missing)) (count-is s n h e)
+        ∙ ap (checkAnswer (rowCount s)) (passed-leb headerSize (length s) h (passed (headerFits l s) (T-of-not b p t)
         (passed-leb (rowPlace l (rowCount s)) (length s) (omega (arith, ap (rowPlace l) (count-is s n h e))) refl)))
 
   -- ---- a lookup
 
   -- An id that is not 16 bytes is refused.
-  pub find-bad : (s id : List ℕ) → (length id ≡ idSize → ⊥) → BadId ≡ findOf l s id
+  pub find-bad : (s id : List ℕ) → (length id ≡ idSize → ⊥) → Malformed ≡ findOf l s id
   unfolding findOf
   find-bad s id h = rw (ne-eqb (length id) idSize h, findOf)
 
-  -- Else the survey tells.
-  pub find-in : (s id : List ℕ) (v : Survey) → length id ≡ idSize → v ≡ surveyOf l s id → foundIn v ≡ findOf l s id
+  -- Else the check tells.
+  pub find-in : (s id : List ℕ) (v : ImageCheck) → length id ≡ idSize → v ≡ checkOf l s id → foundIn v ≡ findOf l s id
   unfolding findOf
   find-in s id v h e = ap foundIn e ∙ rw (eq-eqb (length id) idSize h, findOf)

@@ -37,7 +37,7 @@ use Rattle.image.specs.Layout.{modeEdition, headerSize, headerWidth, edi
 use Rattle.image.specs.Layout.{bodyWidth, maskWidth, offsetPlace, lengthPlace, maskPlace, zeroPlace, rowSize, mostRows, zeroSize}
 use Rattle.image.specs.Layout.{rowPlace, LayoutOk}
 use Rattle.image.specs.Image.{reading}
-use Rattle.image.specs.Check.{rowCount, rowId, rowLength, headerFits, idAmong, rowFits, onRead, rowAt, heldAfter, rowsFrom, checked}
+use Rattle.image.specs.Check.{rowCount, rowId, rowLength, headerFits, idAmong, rowFits, onRead, rowAt, heldWith, rowsFrom, checked}
 use Rattle.image.specs.Check.{checkAnswer, checkOf, foundIn, findOf}
 use Rattle.image.specs.NewImage.{newBytes, creationOf, afterNew}
 use Rattle.image.proofs.BodyLaws.{read-in}
@@ -228,15 +228,15 @@ module _ (l : Layout) where
 
   -- ---- all rows
 
-  -- A row that passes leaves the rows after it, with what the code heldAfter.
-  pub rows-noted : (s id : List ℕ) (n i r at : ℕ) (h h′ : Held) (f : Fields) (next : ℕ) (hit : Bool) → i < n → got f next ≡ rowAt l s i at
-      → r ≡ rowPlace l i → hit ≡ same (take (r + idSize - r) (drop r s)) id → h′ ≡ heldAfter hit h at (next - at) f
+  -- A row that passes leaves the rows after it, with what the code keeps.
+  pub rows-kept : (s id : List ℕ) (n i r at : ℕ) (h h′ : Held) (f : Fields) (next : ℕ) (hit : Bool) → i < n → got f next ≡ rowAt l s i at
+      → r ≡ rowPlace l i → hit ≡ same (take (r + idSize - r) (drop r s)) id → h′ ≡ heldWith hit h at (next - at) f
       → rowsFrom l s id (n - i) i at h ≡ rowsFrom l s id (n - (i + 1)) (i + 1) next h′
-  rows-noted s id n i r at h h′ f next hit m e place p q =
+  rows-kept s id n i r at h h′ f next hit m e place p q =
       let len : rowLength s (rowPlace l i) ≡ next - at = omega (arith, row-next-is l s i at f next e .0) in
       rows-next l s id n i at h f next m e
       ∙ ap (rowsFrom l s id (n - (i + 1)) (i + 1) next)
-      (ap₂ (λ (b : Bool) (k : ℕ). heldAfter b h at k f) (sym (id-is s id i r hit place p)) len ∙ sym q)
+      (ap₂ (λ (b : Bool) (k : ℕ). heldWith b h at k f) (sym (id-is s id i r hit place p)) len ∙ sym q)
 
   -- ---- the whole image
 

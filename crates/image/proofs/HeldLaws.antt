@@ -16,7 +16,7 @@ use Rattle.image.specs.declared.Held.the-variants.{Missing, Body}
 use Rattle.image.specs.declared.layout.Layout.{Layout}
 use Rattle.image.specs.Layout.{rowPlace}
 use Rattle.image.specs.Image.{Row, reading, idOf, joined, hasId, BodyOk, seenWith, bodyWith}
-use Rattle.image.specs.Check.{heldAfter}
+use Rattle.image.specs.Check.{heldWith}
 use Rattle.image.specs.Laws.{HeldBody, HeldIs}
 use Rattle.image.proofs.BodyLaws.{read-in}
 use Rattle.octets.proofs.Tests.{or-true, or-no-left, or-no-right}
@@ -26,7 +26,7 @@ use Rattle.image.proofs.ListLaws.{read-is, has-snoc, rest-new, with-fir
 
 -- What is held after a body of n bytes at a place, of which reading says so.
 abbrev pub heldAfter : Bool → Held → ℕ → ℕ → Reading → Held
-heldAfter hit h at n (Read f) = heldAfter hit h at n f
+heldAfter hit h at n (Read f) = heldWith hit h at n f
 heldAfter hit h at n Structure = h
 heldAfter hit h at n Validity = h
 
@@ -45,7 +45,7 @@ heldIn l id bs = heldFrom id (rowPlace l (length bs)) Missing bs
 -- After a body that reads, with the id or not.
 held-hit : (id : List ℕ) (at : ℕ) (h : Held) (b : Row) (bs : List Row) (f : Fields) (t : Bool) → reading (b .body) ≡ Read f
     → same (idOf (b .body)) id ≡ t
-    → heldFrom id at h (b ∷ bs) ≡ heldFrom id (at + length (b .body)) (heldAfter t h at (length (b .body)) f) bs
+    → heldFrom id at h (b ∷ bs) ≡ heldFrom id (at + length (b .body)) (heldWith t h at (length (b .body)) f) bs
 unfolding heldFrom
 held-hit id at h b bs f t e i = rw (e, i)
 

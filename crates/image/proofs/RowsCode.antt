@@ -16,7 +16,7 @@ use Rattle.image.specs.declared.Held.{Held}
 use Rattle.image.specs.declared.layout.Layout.{Layout}
 use Rattle.image.specs.Layout.{rowPlace}
 use Rattle.image.specs.Image.{reading}
-use Rattle.image.specs.Check.{rowId, rowLength, idAmong, rowFits, onRead, rowAt, heldAfter, rowsFrom}
+use Rattle.image.specs.Check.{rowId, rowLength, idAmong, rowFits, onRead, rowAt, heldWith, rowsFrom}
 
 -- ---- an answer of a test and then a reader
 
@@ -79,7 +79,7 @@ module _ (l : Layout) where
   -- A row that passes leaves the rows after it.
   pub rows-next : (s id : List ℕ) (n i at : ℕ) (h : Held) (f : Fields) (next : ℕ) → i < n → got f next ≡ rowAt l s i at
       → rowsFrom l s id (n - i) i at h
-      ≡ rowsFrom l s id (n - (i + 1)) (i + 1) next (heldAfter (same (rowId s (rowPlace l i)) id) h at (rowLength s (rowPlace l i)) f)
+      ≡ rowsFrom l s id (n - (i + 1)) (i + 1) next (heldWith (same (rowId s (rowPlace l i)) id) h at (rowLength s (rowPlace l i)) f)
   unfolding rowsFrom
   rows-next s id n i at h f next q e =
       let k : n - i ≡ suc (n - (i + 1)) = omega arith in

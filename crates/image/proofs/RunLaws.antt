@@ -14,7 +14,7 @@ use Rattle.image.specs.declared.Held.{Held}
 use Rattle.image.specs.declared.layout.Layout.{Layout}
 use Rattle.image.specs.Layout.{rowSize, rowPlace, LayoutOk}
 use Rattle.image.specs.Image.{Row, rowOf, reading, idOf, row, rowsOf, joined, BodyOk, seenWith}
-use Rattle.image.specs.Check.{rowId, rowOffset, rowLength, rowAt, heldAfter, rowsFrom, rowsHeldFrom}
+use Rattle.image.specs.Check.{rowId, rowOffset, rowLength, rowAt, heldWith, rowsFrom, rowsHeldFrom}
 use Rattle.image.proofs.BodyLaws.{read-in}
 use Rattle.image.proofs.RowPlaceLaws.{place-next, place-order}
 use Rattle.image.proofs.RowLaws.{id-length, row-length, row-parts, RowSays}
@@ -131,10 +131,10 @@ module _ (l : Layout) (ok : LayoutOk l) where
       let q : RowSays l ok s (rowPlace l i) at b = stands-says l ok s seen i at b f (omega arith) w in
       let short : length (b .body) ≤ 32768 = read-in (b .body) f (w .reads) .short in
       let next : ℕ = at + length (b .body) in
-      let held : heldAfter (same (rowId s (rowPlace l i)) id) h at (rowLength s (rowPlace l i)) f
+      let held : heldWith (same (rowId s (rowPlace l i)) id) h at (rowLength s (rowPlace l i)) f
       ≡ heldAfter (same (idOf (b .body)) id) h at
       (length (b .body)) (reading (b .body))
-      = ap₂ (λ (y : List ℕ) (n : ℕ). heldAfter (same y id) h at n f) (q .id) (q .size)
+      = ap₂ (λ (y : List ℕ) (n : ℕ). heldWith (same y id) h at n f) (q .id) (q .size)
       ∙ ap (heldAfter (same (idOf (b .body)) id) h at (length (b .body))) (sym (w .reads)) in
       let end : next + length (joined bs) ≡ at + length (b .body ++ joined bs) = omega (arith, length-append (b .body) (joined bs)) in
       bind-got (rowAt l s i at) _ f next (row-complete l ok s seen i at b f (omega arith) p w)

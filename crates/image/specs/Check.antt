@@ -84,16 +84,16 @@ rowAt l s i at =
 -- ---- all rows
 
 -- the body at a place is the one looked for, or what was held before stays
-abbrev pub heldAfter : Bool → Held → ℕ → ℕ → Fields → Held
-heldAfter true h at n f = Body at n f
-heldAfter false h at n f = h
+abbrev pub heldWith : Bool → Held → ℕ → ℕ → Fields → Held
+heldWith true h at n f = Body at n f
+heldWith false h at n f = h
 
 -- k rows from row i on, whose bodies begin at `at`: the body with the id, and the place after the last
 unfoldable pub rowsFrom : Layout → List ℕ → List ℕ → ℕ → ℕ → ℕ → Held → Got Held
 rowsFrom l s id zero i at h = got h at
 rowsFrom l s id (suc k) i at h =
     let r = rowPlace l i in
-    bind (rowAt l s i at) (λ f next. rowsFrom l s id k (i + 1) next (heldAfter (same (rowId s r) id) h at (rowLength s r) f))
+    bind (rowAt l s i at) (λ f next. rowsFrom l s id k (i + 1) next (heldWith (same (rowId s r) id) h at (rowLength s r) f))
 
 -- the check of the image that s begins with: the body with the id, and where the image ends
 unfoldable pub checked : Layout → List ℕ → List ℕ → Got Held

@@ -29,7 +29,7 @@ ghost use lib.Dec.{eqb};
 ghost use Rattle.octets.specs.Number.{numberAt};
 ghost use Rattle.descriptor.specs.Allowed.{idSize};
 ghost use Rattle.image.specs.Layout.{headerSize, rowSize, mostRows, rowPlace, LayoutOk};
-ghost use Rattle.image.specs.Check.{headerFits, idAmong, rowFits, rowAt, rowRead, heldAfter, rowCount, rowsFrom, checkAnswer, checkOf, heldAt, findOf};
+ghost use Rattle.image.specs.Check.{headerFits, idAmong, rowFits, rowAt, rowRead, heldWith, rowCount, rowsFrom, checkAnswer, checkOf, heldAt, findOf};
 
 // What was read of a row's body, and the place after it.
 pub(crate) enum RowRead {
@@ -123,7 +123,7 @@ fn row_at(layout: Layout, s: &[u8], i: usize, at: usize) -> RowRead
 
 // The body at a place is the one looked for, or what was held before stays.
 fn keep(hit: bool, held: Held, at: usize, len: usize, fields: Fields) -> Held
-    ensures { λ r. ⌜ r ≡ heldAfter hit held at len fields ⌝ }
+    ensures { λ r. ⌜ r ≡ heldWith hit held at len fields ⌝ }
 {
     if hit {
         return Held::Body { at, len, fields };

@@ -42,7 +42,7 @@ first-place : (p c : Descriptor) (i m k : ℕ) → First (rulesOf (p .payload .g
     → i < length (c .payload .grants)
 first-place p c i m k f = omega (arith, f .place, rules-length (c .payload .grants))
 
--- and the lowest mode by the grant's sameTerminal rule
+-- and the lowest mode by the grant's own rule
 first-lowest : (p c : Descriptor) (i m k : ℕ) → First (rulesOf (p .payload .grants)) (rulesOf (c .payload .grants)) i m k
     → Lowest (rulesOf (p .payload .grants)) (ruleFor (grantOf c i)) m k
 first-lowest p c i m k f =

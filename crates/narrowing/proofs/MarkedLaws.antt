@@ -41,7 +41,7 @@ pub pattern-seen : {s t : List ℕ} {g : Grant} {v : GrantSeen} → SeenAs s t g
 unfolding patternOf
 pattern-seen {g = g} f =
     ap patternIn (pattern-levels (g .pattern) (f .allowed .pattern))
-    ∙ ap₂ (λ (u p : List ℕ). patternWith u p) (f .sameTerminal) (sym (f .below))
+    ∙ ap₂ (λ (u p : List ℕ). patternWith u p) (f .own) (sym (f .below))
 
 -- a name has a character
 name-some : (n : List ℕ) → isName n ≡ true → 1 ≤ length n

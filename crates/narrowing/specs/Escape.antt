@@ -8,6 +8,7 @@ use lib.ListN.{length, getD}
 use Rattle.octets.specs.Bytes.{same}
 use Rattle.resource.specs.Pattern.{Path, Levels, done, Pattern, levelsBefore, endsDeep}
 use Rattle.resource.specs.Cover.{covers, witness, longestName, zs}
+use Rattle.descriptor.specs.Modes.{modeCount}
 use Rattle.descriptor.specs.Reader.{hasMode}
 
 -- a grant: the mask of its modes, and its pattern

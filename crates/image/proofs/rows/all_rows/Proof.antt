@@ -9,7 +9,7 @@ use Rattle.image.specs.Layout.{rowPlace}
 use Rattle.image.specs.Check.{rowRead, rowsFrom, checkAnswer}
 use Rattle.image.proofs.RowPlaceLaws.{place-order, row-inside}
 use Rattle.image.proofs.RowsCode.{row-next-is, rows-stop, rows-done, rows-begin}
-use Rattle.image.proofs.CheckCode.{rows-noted}
+use Rattle.image.proofs.CheckCode.{rows-kept}
 use borrow.Author.Needs.{needs}
 use Rattle.image.proofs.rows.all_rows.Statement.{statement}
 use Rattle.image.proofs.rows.all_rows.Tie as tie
@@ -48,8 +48,8 @@ add-same-bytes c = omega (arith, inside c)
 part-same-bytes-end : tie.Need-part-same-bytes-end Inv-loop μ-loop
 part-same-bytes-end c = omega (arith, inside c)
 
-sub-note : tie.Need-sub-note Inv-loop μ-loop
-sub-note c =
+sub-keep : tie.Need-sub-keep Inv-loop μ-loop
+sub-keep c =
     let f = c .before .before .before .before in
     omega (arith, row-next-is _ _ _ _ _ _ (sym (ap rowRead (f .fields .given .1)) ∙ f .before .before .row-at .ensures) .0)
 
@@ -71,7 +71,7 @@ loop-again c =
     let e = sym (ap rowRead (f .fields .given .1)) ∙ r .row-at .ensures in (
       omega arith,
       row-next-is _ _ _ _ _ _ e .1,
-      l .inv .2 ∙ rows-noted _ _ _ _ _ _ _ _ _ _ _ _ (t .loop-test .taken) e
+      l .inv .2 ∙ rows-kept _ _ _ _ _ _ _ _ _ _ _ _ (t .loop-test .taken) e
           (k .row-place2 .ensures .0) (c .before .same-bytes .ensures) (c .keep .ensures),
     )
 
@@ -85,5 +85,5 @@ all-rows-spec =
     tie.close
     (tie.spec Inv-loop μ-loop (λ c κs. search needs) loop-holds row-at-requires (λ c. search needs)
     (λ c κs. search needs) add-same-bytes (λ c. search needs) (λ c. search needs) part-same-bytes-end
-    (λ c κs. search needs) sub-note (λ c κs. search needs) (λ c. search needs) returns (λ c. search needs)
+    (λ c κs. search needs) sub-keep (λ c κs. search needs) (λ c. search needs) returns (λ c. search needs)
     (λ c. search needs) loop-again returns-2)

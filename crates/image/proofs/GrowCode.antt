@@ -1,13 +1,13 @@
 -- Laws that the proofs of growing apply: what the tests, calls and writes of the code say of the definitions of specs/Grow.antt.
 -- Assumes nothing.
-use mathlib.Core.Path.{_≡_, sym, ap, ap₂, _∙_}
+use mathlib.Core.Path.{_≡_, refl, sym, ap, ap₂, _∙_}
 use mathlib.Core.Bool.{Bool, true, false, not, _&&_}
 use mathlib.Core.List.{List}
 use Prim.Native.Nat.{ℕ, suc, _+_, _-_, _≤_, _<_}
 use native.Mathlib.Omega.{arith}
 use lib.ListN.{length, take, drop}
 use lib.Dec.{leb, ltb}
-use borrow.Author.Tests.{lt-ltb, le-ltb, le-leb, lt-leb, ltb-true, leb-true, not-true, not-false}
+use borrow.Author.Tests.{lt-ltb, le-leb, ltb-true, leb-true, not-true, not-false}
 use Rattle.octets.specs.Number.{bigEndian, numberIn}
 use Rattle.octets.specs.Write.{putAt, movedUp}
 use Rattle.octets.proofs.Tests.{and-left, and-right}
@@ -64,55 +64,14 @@ module _ (l : Layout) where
 
   -- ---- whether it fits
 
-  module _ (d : List ℕ) (n end : ℕ) (b : List ℕ) (id : ℕ) where
-    -- There are the most rows already.
-    pub fits-full : mostRows l ≤ n → false ≡ fits l d n end b id
-    unfolding fits
-    fits-full h = rw (le-ltb n (mostRows l) h)
+  -- Fewer rows are held than there may be, whose bodies begin after them; the larger image has room; and the id lies in the body.
+  abbrev Fits : List ℕ → ℕ → ℕ → List ℕ → ℕ → Type 0
+  Fits d n end b id = (n < mostRows l) × (rowPlace l n ≤ end) × (end + rowSize l + length b ≤ length d) × (id + idSize ≤ length b)
 
-    module _ (few : n < mostRows l) where
-      -- The bodies would end before they begin.
-      pub fits-early : end < rowPlace l n → false ≡ fits l d n end b id
-      unfolding fits
-      fits-early h = rw (lt-ltb n (mostRows l) few, lt-leb (rowPlace l n) end h)
-
-      module _ (after : rowPlace l n ≤ end) where
-        -- The larger image would exceed the buffer.
-        pub fits-long : length d < end + rowSize l + length b → false ≡ fits l d n end b id
-        unfolding fits
-        fits-long h = rw (lt-ltb n (mostRows l) few, le-leb (rowPlace l n) end after, lt-leb (end + rowSize l + length b) (length d) h)
-
-        module _ (room : end + rowSize l + length b ≤ length d) where
-          -- The id would not lie in the body.
-          pub fits-outside : length b < id + idSize → false ≡ fits l d n end b id
-          unfolding fits
-          fits-outside h =
-              rw (
-                lt-ltb n (mostRows l) few,
-                le-leb (rowPlace l n) end after,
-                le-leb (end + rowSize l + length b) (length d) room,
-                lt-leb
-                    (id + idSize) (length b) h,
-              )
-
-          -- Else it fits.
-          pub fits-all : id + idSize ≤ length b → true ≡ fits l d n end b id
-          unfolding fits
-          fits-all h =
-              rw (
-                lt-ltb n (mostRows l) few,
-                le-leb (rowPlace l n) end after,
-                le-leb (end + rowSize l + length b) (length d) room,
-                le-leb
-                    (id + idSize) (length b) h,
-              )
-
-  -- What fits has fewer rows than the most, begins after them, has room, and its id lies in the body.
-  pub fits-says : (d : List ℕ) (n end : ℕ) (b : List ℕ) (id : ℕ) (t : Bool) → t ≡ fits l d n end b id → not t ≡ false
-      → (n < mostRows l) × (rowPlace l n ≤ end) × (end + rowSize l + length b ≤ length d) × (id + idSize ≤ length b)
+  -- What fits is so.
+  pub fits-says : (d : List ℕ) (n end : ℕ) (b : List ℕ) (id : ℕ) → fits l d n end b id ≡ true → Fits d n end b id
   unfolding fits
-  fits-says d n end b id t i f =
-      let e : fits l d n end b id ≡ true = sym i ∙ not-false t f in
+  fits-says d n end b id e =
       let t₀ : Bool = ltb n (mostRows l) in
       let t₁ : Bool = leb (rowPlace l n) end in
       let t₂ : Bool = leb (end + rowSize l + length b) (length d) in
@@ -125,7 +84,30 @@ module _ (l : Layout) where
         leb-true (id + idSize) (length b) (and-right t₂ t₃ e₂),
       )
 
+  -- What is not so does not fit.
+  pub fits-not : (d : List ℕ) (n end : ℕ) (b : List ℕ) (id : ℕ) → (Fits d n end b id → ⊥) → false ≡ fits l d n end b id
+  fits-not d n end b id o = go (fits l d n end b id) refl
+    where
+      go : (t : Bool) → fits l d n end b id ≡ t → false ≡ t
+      go true e = absurd (o (fits-says d n end b id e))
+      go false e = refl
+
+  -- What is so fits.
+  pub fits-all : (d : List ℕ) (n end : ℕ) (b : List ℕ) (id : ℕ) → Fits d n end b id → true ≡ fits l d n end b id
+  unfolding fits
+  fits-all d n end b id k =
+      rw (
+        lt-ltb n (mostRows l) (k .0),
+        le-leb (rowPlace l n) end (k .1),
+        le-leb (end + rowSize l + length b) (length d) (k .2),
+        le-leb (id + idSize) (length b) (k .3),
+      )
+
   -- ---- the body added
+
+  -- What the code's test says.
+  pub add-fits : (d : List ℕ) (n end : ℕ) (b : List ℕ) (id : ℕ) (t : Bool) → t ≡ fits l d n end b id → not t ≡ false → Fits d n end b id
+  add-fits d n end b id t e f = fits-says d n end b id (sym e ∙ not-false t f)
 
   module _ (d : List ℕ) (n end : ℕ) (b : List ℕ) (id mask : ℕ) (t : Bool) (e : t ≡ fits l d n end b id) where
     -- What does not fit is not added.

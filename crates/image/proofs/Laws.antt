@@ -1,6 +1,6 @@
 -- The statements of specs/Laws.antt, each from its law. Assumes nothing.
 use Rattle.image.specs.Layout.{edition1}
-use Rattle.image.specs.Laws.{ReadIn, ReadNamed, BodyRead, EncodingRead, BodyWithExactly, RowsNamed, CheckTells, CheckSays}
+use Rattle.image.specs.Laws.{ReadIn, BodyRead, EncodingRead, BodyWithExactly, RowsNamed, CheckTells, CheckSays}
 use Rattle.image.specs.Laws.{CheckUnsound, EditionsChecked, CheckInside, BodyAdded, OneMore}
 use Rattle.image.proofs.RowPlaceLaws.{edition1-ok}
 use Rattle.image.proofs.BodyLaws as body
@@ -14,9 +14,6 @@ use Rattle.image.proofs.GrowLaws as grow
 
 pub read-in : ReadIn
 read-in = body.read-in
-
-pub read-named : ReadNamed
-read-named b f e = (row.id-read b f e, row.modes-read b f e)
 
 pub body-read : BodyRead
 body-read = read.body-read

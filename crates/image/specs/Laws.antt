@@ -41,10 +41,6 @@ pub record BodyIn (b : List ℕ) (f : Fields) : Type 0 where
 abbrev pub ReadIn : Type 0
 ReadIn = (b : List ℕ) (f : Fields) → reading b ≡ Read f → BodyIn b f
 
--- its id and its modes are those that were read
-abbrev pub ReadNamed : Type 0
-ReadNamed = (b : List ℕ) (f : Fields) → reading b ≡ Read f → (idOf b ≡ part b (f .id) idSize) × (modesOf b ≡ f .mask)
-
 -- such a body is the encoding of an allowed descriptor, and has its id and modes
 abbrev pub BodyRead : Type 0
 BodyRead = (b : List ℕ) → AreBytes b → isRead (reading b) ≡ true

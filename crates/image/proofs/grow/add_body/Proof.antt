@@ -1,5 +1,5 @@
 -- `add_body` meets its contract. Assumes nothing.
-use Rattle.image.proofs.GrowCode.{fits-says, add-full, add-done}
+use Rattle.image.proofs.GrowCode.{add-full, add-fits, add-done}
 use borrow.Author.Needs.{needs}
 use Rattle.image.proofs.grow.add_body.Statement.{statement}
 use Rattle.image.proofs.grow.add_body.Tie as tie
@@ -10,7 +10,7 @@ returns c = add-full _ _ _ _ _ _ _ _ (c .before .can-grow .ensures) (c .if1 .tak
 grow-requires : tie.Need-grow-requires
 grow-requires c κs =
     let k = c .before in
-    let f = fits-says _ _ _ _ _ _ _ (k .before .can-grow .ensures) (k .if1 .left) in
+    let f = add-fits _ _ _ _ _ _ _ (k .before .can-grow .ensures) (k .if1 .left) in
     (k .before .before .before .before .before .pre, f .0, f .1, f .2, f .3)
 
 returns-2 : tie.Need-returns-2

@@ -9,7 +9,7 @@ use Rattle.submission.proofs.choose.admit.Statement.{statement}
 use Rattle.submission.proofs.choose.admit.Tie as tie
 
 -- past the first test the descriptor begins at most a day ahead
-lead : (j : tie.Joined1) → j .before .args .before ≤ j .before .args .clock + longestLead
+lead : (j : tie.Joined1) → j .before .args .not-before ≤ j .before .args .clock + longestLead
 lead j = ⊎-elim (λ w. omega (arith, w .0 .taken, w .1 .left)) (λ w. omega (arith, w .left)) (j .if1 .came)
 
 returns : tie.Need-returns

@@ -130,12 +130,9 @@ pub(crate) fn grants_at(s: &[u8], at: usize) -> GrantsRead
     let mut here = next;
     while 0 < left {
         match more_at(s, first, sum, here) {
-            SumRead::IsSum {
-                sum: more,
-                next: after,
-            } => {
+            SumRead::IsSum { sum: more, next } => {
                 sum = more;
-                here = after;
+                here = next;
             }
             SumRead::NoSum => return GrantsRead::NoGrants,
         }

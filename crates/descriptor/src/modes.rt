@@ -5,7 +5,7 @@ use entries::value::CountRead;
 use entries::value::keyed_count;
 use octets::has_at;
 ghost use mathlib.Core.Path.{_≡_};
-ghost use Prim.Native.Nat.{_<_, _^_};
+ghost use Prim.Native.Nat.{_<_};
 ghost use Rattle.descriptor.specs.Reader.{modeAt, modesAt};
 ghost use Rattle.descriptor.specs.Code.{withMode};
 ghost use Rattle.entries.specs.Code.{countRead};

@@ -10,12 +10,11 @@ use entries::keys;
 use entries::pairs::opt_pairs;
 use entries::value::CountRead;
 use entries::value::Kind;
-use entries::value::LAST_TIME;
 use entries::value::Optional;
 use entries::value::OptionalRead;
 use entries::value::count_at;
 use entries::value::keyed;
-use entries::value::keyed_count;
+use entries::value::keyed_time;
 use entries::value::keys_of;
 use entries::value::opt_keyed;
 ghost use mathlib.Core.Path.{_≡_};
@@ -87,7 +86,7 @@ fn issue_at(s: &[u8], at: usize) -> IssueRead
     let CountRead::IsCount {
         value: issued,
         next,
-    } = keyed_count(s, next, &keys::ISSUED_AT, 0, 0, LAST_TIME)
+    } = keyed_time(s, next, &keys::ISSUED_AT)
     else {
         return IssueRead::NoIssue;
     };
@@ -99,14 +98,8 @@ fn issue_at(s: &[u8], at: usize) -> IssueRead
     ) else {
         return IssueRead::NoIssue;
     };
-    let CountRead::IsCount { value: after, next } = keyed_count(
-        s,
-        start + len,
-        &keys::NOT_AFTER,
-        0,
-        0,
-        LAST_TIME,
-    ) else {
+    let CountRead::IsCount { value: after, next } = keyed_time(s, start + len, &keys::NOT_AFTER)
+    else {
         return IssueRead::NoIssue;
     };
     let issue = IssueFields {
@@ -133,7 +126,7 @@ fn grantor_at(s: &[u8], at: usize) -> GrantorRead
     let CountRead::IsCount {
         value: before,
         next,
-    } = keyed_count(s, next, &keys::NOT_BEFORE, 0, 0, LAST_TIME)
+    } = keyed_time(s, next, &keys::NOT_BEFORE)
     else {
         return GrantorRead::NoGrantor;
     };

@@ -9,11 +9,11 @@ ghost use lib.ListN.{length};
 ghost use Rattle.cbor_item.specs.Utf8.{isUtf8};
 ghost use Rattle.cbor_item.specs.Head.{spanRead};
 ghost use Rattle.entries.specs.Kinds.{within, majorOf, isKind};
-ghost use Rattle.entries.specs.Value.{countAt, kindAt, keyedAt, flag, optKindAt};
+ghost use Rattle.entries.specs.Value.{countAt, timeAt, kindAt, keyedAt, flag, optKindAt};
 ghost use Rattle.entries.specs.Code.{countRead, optionalRead};
 
 // The last moment: a time is any unsigned integer.
-pub const LAST_TIME: u64 = 18446744073709551615;
+const LAST_TIME: u64 = 18446744073709551615;
 
 // A number, length or count, and the place after it.
 pub enum CountRead {
@@ -80,6 +80,13 @@ pub fn keyed_count(s: &[u8], at: usize, key: &[u8], major: u8, lo: u64, hi: u64)
         return count_at(s, at + key.len(), major, lo, hi);
     }
     CountRead::NoCount
+}
+
+// A time after its key.
+pub fn keyed_time(s: &[u8], at: usize, key: &[u8]) -> CountRead
+    ensures { λ r. ⌜ countRead r ≡ keyedAt (now (s .entry)) at (now (key .entry)) (timeAt (now (s .entry))) ⌝ }
+{
+    keyed_count(s, at, key, 0, 0, LAST_TIME)
 }
 
 // The major type of a kind.

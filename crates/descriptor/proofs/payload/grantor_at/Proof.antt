@@ -17,7 +17,7 @@ unfolding grantorAt kGrantorId kNotBefore
 returns-2 c =
     let v = c .before .before .before .before .before in
     took _ (sym (ap optionalRead (v .value .given .1)) ∙ v .before .before .opt-keyed .ensures)
-    (stopped _ (sym (ap countRead (c .enum-told2 .given .1)) ∙ c .before .before .keyed-count .ensures))
+    (stopped _ (sym (ap countRead (c .enum-told2 .given .1)) ∙ c .before .before .keyed-time .ensures))
 
 returns-3 : tie.Need-returns-3
 unfolding grantorAt kGrantorId kNotBefore
@@ -25,7 +25,7 @@ returns-3 c =
     let t = c .before in
     let v = t .before .before .before .before .before in
     took _ (sym (ap optionalRead (v .value .given .1)) ∙ v .before .before .opt-keyed .ensures)
-    (took _ (sym (ap countRead (t .before2 .given .1)) ∙ t .before .before .keyed-count .ensures) refl)
+    (took _ (sym (ap countRead (t .before2 .given .1)) ∙ t .before .before .keyed-time .ensures) refl)
 
 pub grantor-at-spec : {M : Type 1} → statement M
 grantor-at-spec =

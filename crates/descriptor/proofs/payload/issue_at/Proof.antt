@@ -20,7 +20,7 @@ unfolding issueAt kMetadata kIssuedAt
 returns-2 c =
     let v = c .before .before .before .before .before in
     took _ (sym (ap optionalRead (v .value .given .1)) ∙ v .before .before .opt-pairs .ensures)
-    (stopped _ (sym (ap countRead (c .enum-told2 .given .1)) ∙ c .before .before .keyed-count .ensures))
+    (stopped _ (sym (ap countRead (c .enum-told2 .given .1)) ∙ c .before .before .keyed-time .ensures))
 
 returns-3 : tie.Need-returns-3
 unfolding issueAt kMetadata kIssuedAt kIssuerId
@@ -28,11 +28,11 @@ returns-3 c =
     let i = c .before .before .before .before .before in
     let v = i .before .before .before .before .before in
     took _ (sym (ap optionalRead (v .value .given .1)) ∙ v .before .before .opt-pairs .ensures)
-    (took _ (sym (ap countRead (i .issued .given .1)) ∙ i .before .before .keyed-count .ensures)
+    (took _ (sym (ap countRead (i .issued .given .1)) ∙ i .before .before .keyed-time .ensures)
     (stopped _ (sym (ap spanRead (c .enum-told3 .given .1)) ∙ c .before .before .keyed .ensures)))
 
-add-keyed-count : tie.Need-add-keyed-count
-add-keyed-count c =
+add-keyed-time : tie.Need-add-keyed-time
+add-keyed-time c =
     let k = c .before in
     let h = k .before .before .before .before .before .before .before .before .before .before .before .before .before .before .before in
     omega (
@@ -49,9 +49,9 @@ returns-4 c =
     let i = k .before .before .before .before .before in
     let v = i .before .before .before .before .before in
     took _ (sym (ap optionalRead (v .value .given .1)) ∙ v .before .before .opt-pairs .ensures)
-    (took _ (sym (ap countRead (i .issued .given .1)) ∙ i .before .before .keyed-count .ensures)
+    (took _ (sym (ap countRead (i .issued .given .1)) ∙ i .before .before .keyed-time .ensures)
     (took _ (sym (ap spanRead (k .start .given .1)) ∙ k .before .before .keyed .ensures)
-    (stopped _ (sym (ap countRead (c .enum-told4 .given .1)) ∙ c .before .before .keyed-count2 .ensures))))
+    (stopped _ (sym (ap countRead (c .enum-told4 .given .1)) ∙ c .before .before .keyed-time2 .ensures))))
 
 returns-5 : tie.Need-returns-5
 unfolding issueAt kMetadata kIssuedAt kIssuerId kNotAfter
@@ -61,14 +61,14 @@ returns-5 c =
     let i = k .before .before .before .before .before in
     let v = i .before .before .before .before .before in
     took _ (sym (ap optionalRead (v .value .given .1)) ∙ v .before .before .opt-pairs .ensures)
-    (took _ (sym (ap countRead (i .issued .given .1)) ∙ i .before .before .keyed-count .ensures)
+    (took _ (sym (ap countRead (i .issued .given .1)) ∙ i .before .before .keyed-time .ensures)
     (took _ (sym (ap spanRead (k .start .given .1)) ∙ k .before .before .keyed .ensures)
-    (took _ (sym (ap countRead (a .after .given .1)) ∙ a .before .before .keyed-count2 .ensures) refl)))
+    (took _ (sym (ap countRead (a .after .given .1)) ∙ a .before .before .keyed-time2 .ensures) refl)))
 
 pub issue-at-spec : {M : Type 1} → statement M
 issue-at-spec =
     tie.close
     (tie.spec (λ c. search needs) (λ c κs. search needs) (λ c. search needs) (λ c. search needs) returns
     (λ c. search needs) (λ c κs. search needs) (λ c. search needs) (λ c. search needs) returns-2 (λ c. search needs)
-    (λ c κs. search needs) (λ c. search needs) (λ c. search needs) returns-3 add-keyed-count (λ c. search needs)
+    (λ c κs. search needs) (λ c. search needs) (λ c. search needs) returns-3 add-keyed-time (λ c. search needs)
     (λ c κs. search needs) (λ c. search needs) (λ c. search needs) returns-4 returns-5)

@@ -1,7 +1,7 @@
 -- A reader of the promises does not need this page.
 -- The reader of descriptors as a function of bytes and a place, in one pass. These definitions compute: the code answers what they say.
 use mathlib.Core.Bool.{Bool, not, _&&_, cond}
-use mathlib.Core.List.{List, _∷_, _++_}
+use mathlib.Core.List.{List, [], _∷_, _++_}
 use Prim.Native.Nat.{ℕ, _+_, _-_, _^_, _/_, _%_}
 use lib.ListN.{length}
 use lib.Dec.{leb, ltb, eqb}

@@ -17,7 +17,8 @@ use Rattle.exact.specs.Holds.{Holds}
 use Rattle.exact.proofs.HoldsLaws.{held, holds-map, holds-bind, holds-then, holds-guard}
 use Rattle.resource.proofs.Laws.{terminal-length, fay-length}
 use Rattle.entries.specs.declared.value.Kind.the-variants.{Text, Bytes, Terminal, Fay}
-use Rattle.entries.specs.Keys.{kMetadata, kIssuedAt, kIssuerId, kNotAfter, kGrantorId, kNotBefore, kTerminalId, kDescriptorId, kSubjectFayId}
+use Rattle.entries.specs.Keys.{kMetadata, kIssuedAt, kIssuerId, kNotAfter, kGrantorId, kNotBefore, kTerminalId, kDescriptorId}
+use Rattle.entries.specs.Keys.{kSubjectFayId}
 use Rattle.entries.specs.Kinds.{isKind}
 use Rattle.entries.specs.Value.{timeAt, keyedAt, flag}
 use Rattle.entries.proofs.ValueBounds.{CountTo, count-bounds, keyed-count-bounds, StringTo, keyed-kind-bounds, opt-kind-on, opt-pairs-on}

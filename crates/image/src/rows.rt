@@ -29,7 +29,8 @@ ghost use lib.Dec.{eqb};
 ghost use Rattle.octets.specs.Number.{numberAt};
 ghost use Rattle.descriptor.specs.Allowed.{idSize};
 ghost use Rattle.image.specs.Layout.{headerSize, rowSize, mostRows, rowPlace, LayoutOk};
-ghost use Rattle.image.specs.Check.{headerFits, idAmong, rowFits, rowAt, rowRead, heldWith, rowCount, rowsFrom, checkAnswer, checkOf, heldAt, findOf};
+ghost use Rattle.image.specs.Check.{headerFits, idAmong, rowFits, rowAt, rowRead, heldWith, rowCount, rowsFrom, checkAnswer};
+ghost use Rattle.image.specs.Check.{checkOf, heldAt, findOf};
 
 // What was read of a row's body, and the place after it.
 pub(crate) enum RowRead {

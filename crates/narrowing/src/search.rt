@@ -17,7 +17,8 @@ ghost use Rattle.descriptor.specs.Modes.{modeCount};
 ghost use Rattle.descriptor.specs.Reader.{hasMode};
 ghost use Rattle.narrowing.specs.Escape.{least, orLimit};
 ghost use Rattle.narrowing.specs.Range.{range, most};
-ghost use Rattle.narrowing.specs.Code.{rowStart, rowEnd, InPlace, Filled, lacksAt, lowestFrom, EscapeOf, fullRange, rowCovers, AloneOf, fullModes, rowMarked, CoveredOf, MarkedOf, FirstOf};
+ghost use Rattle.narrowing.specs.Code.{rowStart, rowEnd, InPlace, Filled, lacksAt, lowestFrom, EscapeOf, fullRange, rowCovers};
+ghost use Rattle.narrowing.specs.Code.{AloneOf, fullModes, rowMarked, CoveredOf, MarkedOf, FirstOf};
 
 // A mode and a number of names.
 pub(crate) enum Found {

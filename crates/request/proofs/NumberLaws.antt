@@ -24,7 +24,8 @@ use Rattle.request.specs.declared.DecisionNumbers.{DecisionNumbers}
 use Rattle.request.specs.declared.search.Matched.{Matched}
 use Rattle.request.specs.declared.search.Matched.the-variants.{IsAt, Nothing}
 use Rattle.request.specs.Request.{Request, wellFormed}
-use Rattle.request.specs.Decision.{Facts, revocationSteps, descriptorSteps, keySteps, laterSteps, stepsBy, grantedBy, factsIn, decisionOf}
+use Rattle.request.specs.Decision.{Facts, revocationSteps, descriptorSteps, keySteps, laterSteps, stepsBy, grantedBy, factsIn}
+use Rattle.request.specs.Decision.{decisionOf}
 use Rattle.request.specs.Decision.{numbersOf}
 use Rattle.request.specs.Meaning.{firstServing, factsOfDescriptor, decidedFor}
 use Rattle.request.specs.Promises.{Stored, badImage, notHeld, held, Among, refusal, someServes, firstPlace, firstMask, stepsFor}

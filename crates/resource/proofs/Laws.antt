@@ -1,6 +1,7 @@
 -- The statements of specs/Laws.antt, each from its law. Assumes nothing.
 use Rattle.resource.specs.Laws.{TerminalLength, FayLength, PatternShort, ResourceShort, PatternTerminal, PatternLevels, AdmitsText}
-use Rattle.resource.specs.Laws.{PatternSpaceless, FirstStar, SpelledFirst, StepLevels, StepDecides, DeepMatches, NextSame, CoversExact, TakenCan}
+use Rattle.resource.specs.Laws.{PatternSpaceless, FirstStar, SpelledFirst, StepLevels, StepDecides, DeepMatches, NextSame}
+use Rattle.resource.specs.Laws.{CoversExact, TakenCan}
 use Rattle.resource.specs.Laws.{CoversStay, WitnessMatched, WitnessDecides, WitnessNames, ZsFresh}
 use Rattle.resource.proofs.CoverLaws.{covers-exactly, taken-can-be, covers-stays, witness-is-matched, witness-covers}
 use Rattle.resource.proofs.CoverLaws.{witness-has-names, zs-are-fresh}

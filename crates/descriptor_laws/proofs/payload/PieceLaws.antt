@@ -13,7 +13,8 @@ use Rattle.exact.proofs.ReadsLaws.{seq, keyed, mapped}
 use Rattle.cbor_item.specs.Encoding.{head}
 use Rattle.resource.specs.Identifier.{isFay, isTerminal}
 use Rattle.entries.specs.declared.value.Kind.the-variants.{Text, Bytes, Terminal, Fay}
-use Rattle.entries.specs.Keys.{kMetadata, kIssuedAt, kIssuerId, kNotAfter, kGrantorId, kNotBefore, kTerminalId, kDescriptorId, kSubjectFayId}
+use Rattle.entries.specs.Keys.{kMetadata, kIssuedAt, kIssuerId, kNotAfter, kGrantorId, kNotBefore, kTerminalId, kDescriptorId}
+use Rattle.entries.specs.Keys.{kSubjectFayId}
 use Rattle.entries.specs.Model.{Pair}
 use Rattle.entries.specs.Allowed.{TimeOk, TextOk, PairsOk}
 use Rattle.entries.proofs.ValueLaws.{time-exact, string-exact}

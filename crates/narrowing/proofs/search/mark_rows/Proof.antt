@@ -6,7 +6,8 @@ use Prim.Native.Nat.{_+_, _*_, _-_, _≤_, _<_}
 use native.Mathlib.Omega.{arith}
 use borrow.Author.Needs.{needs}
 use lib.ListN.{length}
-use Rattle.narrowing.proofs.MarkingLaws.{Noting, marking-begin, marking-met, marking-skip, marking-next, marking-covered, marking-end}
+use Rattle.narrowing.proofs.MarkingLaws.{Noting, marking-begin, marking-met, marking-skip, marking-next, marking-covered}
+use Rattle.narrowing.proofs.MarkingLaws.{marking-end}
 use Rattle.narrowing.proofs.search.mark_rows.Statement.{statement}
 use Rattle.narrowing.proofs.search.mark_rows.Tie as tie
 

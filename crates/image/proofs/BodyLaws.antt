@@ -42,7 +42,7 @@ answer-in b = by-cond (AnswerIn b) (leb (length b) longest)
 read-same : (f g : Fields) → Read f ≡ Read g → f ≡ g
 read-same f g e = cc
 
--- `ReadIn`.
+-- `ReadIn`
 pub read-in : ReadIn
 unfolding reading
 read-in b f e = go (readOf b) (answer-in b) e

@@ -45,24 +45,24 @@ use Rattle.image.proofs.RowsCode.{row-next-is, rows-next}
 
 -- ---- bytes that are zero
 
--- Where a number is zero, so is that in fewer of its bytes.
+-- where a number is zero, so is that in fewer of its bytes
 zero-back : (s : List ℕ) (at i k : ℕ) → numberAt s at (i + k) ≡ 0 → numberAt s at i ≡ 0
 unfolding numberAt
 zero-back s at i zero e = ap (numberAt s at) (sym (add-zero i)) ∙ e
 zero-back s at i (suc k) e = let f : numberAt s at (suc (i + k)) ≡ 0 = sym (ap (numberAt s at) (add-suc i k)) ∙ e in zero-back s at i k
     (omega arith)
 
--- No byte is zero.
+-- no byte is zero
 pub zero-none : (s : List ℕ) (at : ℕ) → numberAt s at 0 ≡ 0
 unfolding numberAt
 zero-none s at = refl
 
--- One byte more that is zero.
+-- one byte more that is zero
 pub zero-more : (s : List ℕ) (at i : ℕ) → numberAt s at i ≡ 0 → getD s (at + i) 0 ≡ 0 → numberAt s at (i + 1) ≡ 0
 unfolding numberAt
 zero-more s at i e f = rw (add-one i, numberAt) (omega arith)
 
--- A byte that is not.
+-- a byte that is not
 pub zero-not : (s : List ℕ) (at i n : ℕ) → i < n → (getD s (at + i) 0 ≡ 0 → ⊥) → false ≡ eqb (numberAt s at n) 0
 unfolding numberAt
 zero-not s at i n h o =
@@ -70,33 +70,33 @@ zero-not s at i n h o =
     sym (ne-eqb (numberAt s at n) 0
     (λ e. let f : numberAt s at (suc i) ≡ 0 = zero-back s at (suc i) (n - suc i) (sym (ap (numberAt s at) m) ∙ e) in o (omega arith)))
 
--- All bytes are zero.
+-- all bytes are zero
 pub zero-all : (s : List ℕ) (at i n : ℕ) → i ≤ n → n ≤ i → numberAt s at i ≡ 0 → true ≡ eqb (numberAt s at n) 0
 zero-all s at i n h k e = let m : n ≡ i = omega arith in sym (eq-eqb (numberAt s at n) 0 (ap (numberAt s at) m ∙ e))
 
 -- ---- what the code reads
 
--- Four tests in either grouping.
+-- four tests in either grouping
 and-four : (a b c d : Bool) → (((a && b) && c) && d) ≡ (a && (b && (c && d)))
 and-four a b c d = and-assoc (a && b) c d ∙ and-assoc a b (c && d)
 
--- The two ids that the code compares are those of the row and of the body.
+-- the two ids that the code compares are those of the row and of the body
 ids-are : (s : List ℕ) (r id : ℕ) (b : Bool) → b ≡ same (take (r + idSize - r) (drop r s)) (take (id + idSize - id) (drop id s))
     → b ≡ same (part s r idSize) (part s id idSize)
 ids-are s r id b e = e ∙ ap₂ same (lent-part s r idSize) (lent-part s id idSize)
 
--- What the code reads is the reading of the body.
+-- what the code reads is the reading of the body
 reading-is : (s : List ℕ) (at n : ℕ) (o : Reading) → o ≡ readingOf (readOf (take (at + n - at) (drop at s))) → o ≡ reading (part s at n)
 unfolding reading
 reading-is s at n o e = e ∙ ap (λ (b : List ℕ). readingOf (readOf b)) (lent-part s at n)
 
--- The id of a body that was read lies in it.
+-- the id of a body that was read lies in it
 pub id-room : (s : List ℕ) (at n : ℕ) (o : Reading) (f : Fields) → at ≤ length s → n ≤ length s - at
     → o ≡ readingOf (readOf (take (at + n - at) (drop at s))) → o ≡ Read f → at + (f .id + idSize) ≤ length s
 id-room s at n o f m g k e =
     omega (arith, read-in (part s at n) f (sym (reading-is s at n o k) ∙ e) .id, part-has s at n (omega arith) .1)
 
--- The row count is the number that the code reads.
+-- the row count is the number that the code reads
 count-is : (s : List ℕ) (n : ℕ) → headerSize ≤ length s → n ≡ numberIn s countPlace headerWidth → n ≡ rowCount s
 unfolding rowCount
 count-is s n h e = e ∙ number-in s countPlace headerWidth (omega arith) (omega arith)
@@ -104,12 +104,12 @@ count-is s n h e = e ∙ number-in s countPlace headerWidth (omega arith) (omega
 module _ (l : Layout) where
   -- ---- a new image
 
-  -- A buffer that is shorter than a header is too short, and stays.
+  -- a buffer that is shorter than a header is too short, and stays
   pub new-short : (d : List ℕ) → length d < headerSize → (TooShort ≡ creationOf d) × (d ≡ afterNew l d)
   unfolding creationOf afterNew
   new-short d h = let e = lt-ltb (length d) headerSize h in (rw e, rw e)
 
-  -- Another one has the header's four numbers first.
+  -- another one has the header's four numbers first
   pub new-done : (d d₁ d₂ d₃ d₄ : List ℕ) → headerSize ≤ length d → d₁ ≡ putAt d editionPlace (bigEndian headerWidth (l .edition))
       → d₂ ≡ putAt d₁ modesPlace (bigEndian headerWidth modeEdition) → d₃ ≡ putAt d₂ countPlace (bigEndian headerWidth 0)
       → d₄ ≡ putAt d₃ headerZero (bigEndian headerWidth 0) → (Done ≡ creationOf d) × (d₄ ≡ afterNew l d)
@@ -118,7 +118,7 @@ module _ (l : Layout) where
 
   -- ---- the header
 
-  -- The four tests of the code are those of the header.
+  -- the four tests of the code are those of the header
   pub header-is : (s : List ℕ) (a b c d : ℕ) → headerSize ≤ length s → a ≡ numberIn s editionPlace headerWidth
       → b ≡ numberIn s modesPlace headerWidth
       → c ≡ numberIn s countPlace headerWidth → d ≡ numberIn s headerZero headerWidth
@@ -136,14 +136,14 @@ module _ (l : Layout) where
 
   -- ---- one row
 
-  -- A row with another id does not fit.
+  -- a row with another id does not fit
   pub fits-not : (s : List ℕ) (r at : ℕ) (f : Fields) (b : Bool)
       → b ≡ same (take (r + idSize - r) (drop r s)) (take (at + f .id + idSize - (at + f .id)) (drop (at + f .id) s)) → not b ≡ true
       → false ≡ rowFits l s r at f
   unfolding rowFits
   fits-not s r at f b e t = rw (sym (ids-are s r (at + f .id) b e) ∙ not-true b t)
 
-  -- A row with the body's id fits when the three tests of the code hold.
+  -- a row with the body's id fits when the three tests of the code hold
   pub fits-is : (s : List ℕ) (r at : ℕ) (f : Fields) (b : Bool) (x y : ℕ) (t : Bool) → LayoutOk l → r + rowSize l ≤ length s
       → b ≡ same (take (r + idSize - r) (drop r s)) (take (at + f .id + idSize - (at + f .id)) (drop (at + f .id) s)) → not b ≡ false
       → x ≡ numberIn s (r + offsetPlace) bodyWidth → y ≡ numberIn s (r + maskPlace) maskWidth
@@ -158,16 +158,16 @@ module _ (l : Layout) where
       ∙ ap (λ (u : Bool). eqb (numberAt s (r + offsetPlace) bodyWidth) at &&
       (eqb (numberAt s (r + maskPlace) maskWidth) (f .mask) && u)) ez)
 
-  -- The code compares the id of row i with the id.
+  -- the code compares the id of row i with the id
   pub id-is : (s id : List ℕ) (i r : ℕ) (b : Bool) → r ≡ rowPlace l i → b ≡ same (take (r + idSize - r) (drop r s)) id
       → b ≡ same (rowId s (rowPlace l i)) id
   id-is s id i r b p e = e ∙ ap (λ (x : List ℕ). same x id) (lent-part s r idSize) ∙ ap (λ (k : ℕ). same (rowId s k) id) p
 
-  -- What row i answers once its body was read.
+  -- what row i answers once its body was read
   abbrev pub afterRead : List ℕ → ℕ → ℕ → ℕ → Fields → Got Fields
   afterRead s i at n f = guard (rowFits l s (rowPlace l i) at f) (guard (not (idAmong l s (rowId s (rowPlace l i)) i)) (got f (at + n)))
 
-  -- Row i, with the body's length as a number of its own.
+  -- row i, with the body's length as a number of its own
   row-long : (s : List ℕ) (i r at n : ℕ) → LayoutOk l → r ≡ rowPlace l i → r + rowSize l ≤ length s
       → n ≡ numberIn s (r + lengthPlace) bodyWidth
       → rowAt l s i at ≡ guard (leb (at + n) (length s)) (onRead (reading (part s at n)) (afterRead s i at n))
@@ -177,12 +177,12 @@ module _ (l : Layout) where
       = e ∙ number-in s (r + lengthPlace) bodyWidth (omega arith) (omega arith) ∙ ap (rowLength s) p in
       ap (λ (m : ℕ). guard (leb (at + m) (length s)) (onRead (reading (part s at m)) (afterRead s i at m))) (sym k)
 
-  -- A body that would end after the bytes is refused.
+  -- a body that would end after the bytes is refused
   pub row-short : (s : List ℕ) (i r at n : ℕ) → LayoutOk l → r ≡ rowPlace l i → r + rowSize l ≤ length s
       → n ≡ numberIn s (r + lengthPlace) bodyWidth → at ≤ length s → length s - at < n → refused ≡ rowAt l s i at
   row-short s i r at n ok p h e m g = failed-leb (at + n) (length s) _ (omega arith) ∙ sym (row-long s i r at n ok p h e)
 
-  -- A body that ends within the bytes is read.
+  -- a body that ends within the bytes is read
   pub row-read : (s : List ℕ) (i r at n : ℕ) (o : Reading) → LayoutOk l → r ≡ rowPlace l i → r + rowSize l ≤ length s
       → n ≡ numberIn s (r + lengthPlace) bodyWidth
       → at ≤ length s → n ≤ length s - at
@@ -192,23 +192,23 @@ module _ (l : Layout) where
       ∙ guard-leb (at + n) (length s) _ (omega arith)
       ∙ ap (λ (x : Reading). onRead x (afterRead s i at n)) (sym (reading-is s at n o k))
 
-  -- A body that does not read with 0 is refused.
+  -- a body that does not read with 0 is refused
   pub read-not : (s : List ℕ) (i at n : ℕ) (o : Reading) → (o ≡ Structure) ⊎ (o ≡ Validity) → onRead o (afterRead s i at n) ≡ refused
   read-not s i at n o (inl e) = ap (λ (x : Reading). onRead x (afterRead s i at n)) e
   read-not s i at n o (inr e) = ap (λ (x : Reading). onRead x (afterRead s i at n)) e
 
   module _ (s : List ℕ) (i r at n : ℕ) (place : r ≡ rowPlace l i) (o : Reading) (f : Fields) (e : o ≡ Read f) (b : Bool)
       (p : b ≡ rowFits l s r at f) where
-    -- What was read goes on.
+    -- what was read goes on
     goes : onRead o (afterRead s i at n) ≡ guard (rowFits l s r at f) (guard (not (idAmong l s (rowId s r) i)) (got f (at + n)))
     goes = ap (λ (x : Reading). onRead x (afterRead s i at n)) e
         ∙ ap (λ (x : ℕ). guard (rowFits l s x at f) (guard (not (idAmong l s (rowId s x) i)) (got f (at + n)))) (sym place)
 
-    -- A row that is not that of the body is refused.
+    -- a row that is not that of the body is refused
     pub row-other : not b ≡ true → onRead o (afterRead s i at n) ≡ refused
     row-other t = goes ∙ guard-no (rowFits l s r at f) _ (not-T-of b p t)
 
-    -- The code looks for the row's id among those before.
+    -- the code looks for the row's id among those before
     row-among : not b ≡ false → (c t : Bool) → c ≡ idAmong l s (take (r + idSize - r) (drop r s)) i → c ≡ t
         → onRead o (afterRead s i at n) ≡ guard (not t) (got f (at + n))
     row-among u c t q v =
@@ -216,19 +216,19 @@ module _ (l : Layout) where
         ∙ guard-yes (rowFits l s r at f) _ (T-of-not b p u)
         ∙ ap (λ (x : Bool). guard (not x) (got f (at + n))) (ap (λ (x : List ℕ). idAmong l s x i) (sym (lent-part s r idSize)) ∙ sym q ∙ v)
 
-    -- A row whose id a row before has is refused.
+    -- a row whose id a row before has is refused
     pub row-twice : not b ≡ false → (c : Bool) → c ≡ idAmong l s (take (r + idSize - r) (drop r s)) i → c ≡ true
         → onRead o (afterRead s i at n) ≡ refused
     row-twice u c q v = row-among u c true q v ∙ guard-no false (got f (at + n)) tt
 
-    -- Another row is answered with what was read of its body, and the place after the body.
+    -- another row is answered with what was read of its body, and the place after the body
     pub row-good : not b ≡ false → (c : Bool) → c ≡ idAmong l s (take (r + idSize - r) (drop r s)) i → c ≡ false
         → onRead o (afterRead s i at n) ≡ got f (at + n)
     row-good u c q v = row-among u c false q v ∙ guard-yes true (got f (at + n)) tt
 
   -- ---- all rows
 
-  -- A row that passes leaves the rows after it, with what the code keeps.
+  -- a row that passes leaves the rows after it, with what the code keeps
   pub rows-kept : (s id : List ℕ) (n i r at : ℕ) (h h′ : Held) (f : Fields) (next : ℕ) (hit : Bool) → i < n → got f next ≡ rowAt l s i at
       → r ≡ rowPlace l i → hit ≡ same (take (r + idSize - r) (drop r s)) id → h′ ≡ heldWith hit h at (next - at) f
       → rowsFrom l s id (n - i) i at h ≡ rowsFrom l s id (n - (i + 1)) (i + 1) next h′
@@ -240,12 +240,12 @@ module _ (l : Layout) where
 
   -- ---- the whole image
 
-  -- A check that refuses is answered with `Unsound`.
+  -- a check that refuses is answered with `Unsound`
   unsound : (s id : List ℕ) → refused ≡ checked l s id → Unsound ≡ checkOf l s id
   unfolding checkOf
   unsound s id e = ap (checkAnswer (rowCount s)) e
 
-  -- A header that fits has no more rows than the most.
+  -- a header that fits has no more rows than the most
   pub header-few : (s : List ℕ) (n : ℕ) (b : Bool) → headerSize ≤ length s → b ≡ headerFits l s → not b ≡ false
       → n ≡ numberIn s countPlace headerWidth → n ≤ mostRows l
   unfolding headerFits
@@ -261,25 +261,25 @@ module _ (l : Layout) where
         count-is s n h e,
       )
 
-  -- Bytes under a header are not sound.
+  -- bytes under a header are not sound
   pub check-short : (s id : List ℕ) → length s < headerSize → Unsound ≡ checkOf l s id
   unfolding checked
   check-short s id h = unsound s id (failed-leb headerSize (length s) _ h)
 
   module _ (s id : List ℕ) (h : headerSize ≤ length s) (b : Bool) (p : b ≡ headerFits l s) where
-    -- Another header is not sound.
+    -- another header is not sound
     pub check-header : not b ≡ true → Unsound ≡ checkOf l s id
     unfolding checked
     check-header t = unsound s id (passed-leb headerSize (length s) h (failed (headerFits l s) _ (not-T-of b p t)))
 
-    -- Rows that would end after the bytes are not sound.
+    -- rows that would end after the bytes are not sound
     pub check-long : not b ≡ false → (n : ℕ) → n ≡ numberIn s countPlace headerWidth → length s < rowPlace l n → Unsound ≡ checkOf l s id
     unfolding checked
     check-long t n e m =
         unsound s id (passed-leb headerSize (length s) h (passed (headerFits l s) (T-of-not b p t)
         (failed-leb (rowPlace l (rowCount s)) (length s) _ (omega (arith, ap (rowPlace l) (count-is s n h e))))))
 
-    -- Else the rows tell.
+    -- else the rows tell
     pub check-rows : not b ≡ false → (n : ℕ) → n ≡ numberIn s countPlace headerWidth → rowPlace l n ≤ length s → (r : ImageCheck)
         → r ≡ checkAnswer n (rowsFrom l s id n 0 (rowPlace l n) Missing) → r ≡ checkOf l s id
     unfolding checked checkOf
@@ -291,12 +291,12 @@ module _ (l : Layout) where
 
   -- ---- a lookup
 
-  -- An id that is not 16 bytes is refused.
+  -- an id that is not 16 bytes is refused
   pub find-bad : (s id : List ℕ) → (length id ≡ idSize → ⊥) → Malformed ≡ findOf l s id
   unfolding findOf
   find-bad s id h = rw (ne-eqb (length id) idSize h, findOf)
 
-  -- Else the check tells.
+  -- else the check tells
   pub find-in : (s id : List ℕ) (v : ImageCheck) → length id ≡ idSize → v ≡ checkOf l s id → foundIn v ≡ findOf l s id
   unfolding findOf
   find-in s id v h e = ap foundIn e ∙ rw (eq-eqb (length id) idSize h, findOf)

@@ -31,17 +31,17 @@ use Rattle.image.proofs.ListLaws.{has-snoc}
 module _ (l : Layout) (ok : LayoutOk l) where
   -- ---- the bodies before
 
-  -- The bodies of the i rows before: an id is among the ids of the rows exactly where one of them has it.
+  -- the bodies of the i rows before: an id is among the ids of the rows exactly where one of them has it
   pub record Past (s : List ℕ) (seen : List Row) (i : ℕ) : Type 0 where
     pub count : length seen ≡ i
     pub ids : (id : List ℕ) → idAmong l s id i ≡ hasId id seen
 
-  -- There is none before the first.
+  -- there is none before the first
   pub past-none : (s : List ℕ) → Past s [] 0
   unfolding idAmong hasId
   past-none s = record { count = refl; ids = λ id. refl }
 
-  -- A row with a body's id makes one more.
+  -- a row with a body's id makes one more
   pub past-more : (s : List ℕ) (seen : List Row) (i : ℕ) (b : Row) → Past s seen i → rowId s (rowPlace l i) ≡ idOf (b .body)
       → Past s (seen ++ (b ∷ [])) (i + 1)
   past-more s seen i b p e =
@@ -56,14 +56,14 @@ module _ (l : Layout) (ok : LayoutOk l) where
 
   -- ---- one row
 
-  -- What the test of a row says.
+  -- what the test of a row says
   record Fits (s : List ℕ) (r at : ℕ) (f : Fields) : Type 0 where
     id : rowId s r ≡ part s (at + f .id) idSize
     offset : rowOffset s r ≡ at
     mask : numberAt s (r + maskPlace) maskWidth ≡ f .mask
     zeros : numberAt s (r + zeroPlace) (zeroSize l) ≡ 0
 
-  -- It says so where it holds.
+  -- it says so where it holds
   fits-says : (s : List ℕ) (r at : ℕ) (f : Fields) → rowFits l s r at f ≡ true → Fits s r at f
   unfolding rowFits
   fits-says s r at f e =
@@ -80,7 +80,7 @@ module _ (l : Layout) (ok : LayoutOk l) where
         zeros = eqb-true (numberAt s (r + zeroPlace) (zeroSize l)) 0 (and-right c d e₂);
       }
 
-  -- It holds where it says so.
+  -- it holds where it says so
   says-fits : (s : List ℕ) (r at : ℕ) (f : Fields) → Fits s r at f → rowFits l s r at f ≡ true
   unfolding rowFits
   says-fits s r at f q =
@@ -91,14 +91,14 @@ module _ (l : Layout) (ok : LayoutOk l) where
         eq-eqb (numberAt s (r + zeroPlace) (zeroSize l)) 0 (q .zeros),
       )
 
-  -- A body that stands with its row, after those of `seen`.
+  -- a body that stands with its row, after those of `seen`
   pub record Stands (s : List ℕ) (seen : List Row) (i at : ℕ) (b : Row) (f : Fields) : Type 0 where
     pub reads : reading (b .body) ≡ Read f
     pub new : hasId (idOf (b .body)) seen ≡ false
     pub has-row : Has s (rowPlace l i) (row l at b)
     pub has-body : Has s at (b .body)
 
-  -- A row that passes the check stands with its body.
+  -- a row that passes the check stands with its body
   pub row-sound : (s : List ℕ) (seen : List Row) (i at : ℕ) (f : Fields) (next : ℕ) → AreBytes s → rowPlace l i + rowSize l ≤ length s
       → Past s seen i
       → got f next ≡ rowAt l s i at → (b : Row) × Stands s seen i at b f × (next ≡ at + length (b .body))
@@ -129,13 +129,13 @@ module _ (l : Layout) (ok : LayoutOk l) where
         k .end ∙ ap (λ (m : ℕ). at + m) (sym (h .1)),
       )
 
-  -- The row of a body that stands says where it lies.
+  -- the row of a body that stands says where it lies
   pub stands-says : (s : List ℕ) (seen : List Row) (i at : ℕ) (b : Row) (f : Fields) → at < 4294967296 → Stands s seen i at b f
       → RowSays l ok s (rowPlace l i) at b
   stands-says s seen i at b f small h = row-says l ok s (rowPlace l i) at b small (omega (arith, read-in (b .body) f (h .reads) .short))
       (h .has-row)
 
-  -- A body that stands with its row passes the check.
+  -- a body that stands with its row passes the check
   pub row-complete : (s : List ℕ) (seen : List Row) (i at : ℕ) (b : Row) (f : Fields) → at < 4294967296 → Past s seen i
       → Stands s seen i at b f
       → got f (at + length (b .body)) ≡ rowAt l s i at

@@ -25,23 +25,23 @@ use Rattle.image.proofs.SoundLaws.{check-sound, holds-bodies}
 module _ (l : Layout) (ok : LayoutOk l) where
   -- ---- the check
 
-  -- What is held of the bodies of an image that s begins with is the body with the id.
+  -- what is held of the bodies of an image that s begins with is the body with the id
   pub held-in : (s id : List ℕ) (bs : List Row) → Holds l s bs → HeldIs s id bs (heldIn l id bs)
   unfolding heldIn
   held-in s id bs h = let g : Run l ok s [] 0 (rowPlace l (length bs)) bs = holds-run l ok s bs h in held-is s id
       (rowPlace l (length bs)) [] bs
       (g .each) (g .has-bodies)
 
-  -- `CheckTellsFor`.
+  -- `CheckTellsFor`
   pub check-tells : CheckTellsFor l
   unfolding checkOf
   check-tells s id bs h = (heldIn l id bs, rw (check-complete l ok s id bs h, count-of l ok s bs h), held-in s id bs h)
 
-  -- Equal answers hold the same.
+  -- equal answers hold the same
   held-same : (n n′ end end′ : ℕ) (h h′ : Held) → Sound n end h ≡ Sound n′ end′ h′ → h ≡ h′
   held-same n n′ end end′ h h′ e = cc
 
-  -- `CheckSaysFor`.
+  -- `CheckSaysFor`
   pub check-says : CheckSaysFor l
   unfolding checkOf
   check-says s id bytes n end h e = go (checked l s id) refl e
@@ -63,11 +63,11 @@ module _ (l : Layout) (ok : LayoutOk l) where
           }
       go refused c f = absurd (let z : _≡_ {A = ℕ} 0 1 = cc in omega arith)
 
-  -- A check of an image that holds bodies does not call it unsound.
+  -- a check of an image that holds bodies does not call it unsound
   sound-other : (n end : ℕ) (h : Held) → Sound n end h ≡ Unsound → ⊥
   sound-other n end h e = false≢true (sym (ap isSound e))
 
-  -- `CheckUnsoundFor`.
+  -- `CheckUnsoundFor`
   pub check-unsound : CheckUnsoundFor l
   check-unsound s id bytes = (
     λ e bs h. let w = check-tells s id bs h in sound-other (length bs) (length (imageOf l bs)) (w .0) (sym (w .1) ∙ e),
@@ -78,7 +78,7 @@ module _ (l : Layout) (ok : LayoutOk l) where
       go n (Sound k end h) e = absurd (n (rowsHeld l s) (check-says s id bytes k end h e .holds))
       go n Unsound e = refl
 
-  -- `CheckInsideFor`.
+  -- `CheckInsideFor`
   pub check-inside : CheckInsideFor l
   check-inside s id bytes = go (checkOf l s id) refl
     where
@@ -94,15 +94,15 @@ module _ (l : Layout) (ok : LayoutOk l) where
 
   -- ---- which bodies are held
 
-  -- `RowsNamedFor`.
+  -- `RowsNamedFor`
   pub rows-named : RowsNamedFor l
   rows-named s bs h = holds-bodies l ok s bs h
 
-  -- A buffer holds one list of bodies.
+  -- a buffer holds one list of bodies
   pub bodies-once : (s : List ℕ) (bs cs : List Row) → Holds l s bs → Holds l s cs → bs ≡ cs
   bodies-once s bs cs h k = sym (rows-named s bs h) ∙ rows-named s cs k
 
-  -- `EditionsCheckedFor`.
+  -- `EditionsCheckedFor`
   pub editions-checked : EditionsCheckedFor l
   unfolding checkOf
   editions-checked s id other = go (checked l s id) refl

@@ -23,11 +23,11 @@ use Rattle.image.specs.Grow.{raised, withRow, grown, fits, addedOf, afte
 module _ (l : Layout) where
   -- ---- the offsets are raised
 
-  -- Before the first row all rows are left.
+  -- before the first row all rows are left
   pub raise-begin : (d : List ℕ) (n : ℕ) → raised l d n 0 ≡ raised l d (n - 0) 0
   raise-begin d n = let k : n ≡ n - 0 = omega arith in ap (λ (m : ℕ). raised l d m 0) k
 
-  -- A row whose offset was raised leaves the rows after it.
+  -- a row whose offset was raised leaves the rows after it
   pub raise-next : (d d′ : List ℕ) (n i r v : ℕ) → i < n → r ≡ rowPlace l i → v ≡ numberIn d (r + offsetPlace) bodyWidth
       → d′ ≡ putAt d (r + offsetPlace) (bigEndian bodyWidth (v + rowSize l))
       → raised l d (n - i) i ≡ raised l d′ (n - (i + 1)) (i + 1)
@@ -39,14 +39,14 @@ module _ (l : Layout) where
       ∙ ap (λ (x : List ℕ). raised l x (n - (i + 1)) (i + 1))
       (sym (p ∙ ap₂ (λ (x w : ℕ). putAt d (x + offsetPlace) (bigEndian bodyWidth (w + rowSize l))) at f))
 
-  -- After the last row nothing is left.
+  -- after the last row nothing is left
   pub raise-end : (d : List ℕ) (n i : ℕ) → n ≤ i → raised l d (n - i) i ≡ d
   unfolding raised
   raise-end d n i q = let k : n - i ≡ 0 = omega arith in ap (λ (m : ℕ). raised l d m i) k
 
   -- ---- the row and the whole
 
-  -- The five writes of a row.
+  -- the five writes of a row
   pub row-done : (d d₁ d₂ d₃ d₄ d₅ : List ℕ) (r at : ℕ) (b : List ℕ) (id mask : ℕ)
       → d₁ ≡ putAt d r (take (id + idSize - id) (drop id b)) → d₂ ≡ putAt d₁ (r + offsetPlace) (bigEndian bodyWidth at)
       → d₃ ≡ putAt d₂ (r + lengthPlace) (bigEndian bodyWidth (length b))
@@ -55,7 +55,7 @@ module _ (l : Layout) where
   unfolding withRow
   row-done d d₁ d₂ d₃ d₄ d₅ r at b id mask e₁ e₂ e₃ e₄ e₅ = rw (e₅, e₄, e₃, e₂, e₁, lent-part b id idSize)
 
-  -- The five writes of one more row and body.
+  -- the five writes of one more row and body
   pub grow-done : (d d₁ d₂ d₃ d₄ d₅ : List ℕ) (n end start : ℕ) (b : List ℕ) (id mask : ℕ) → start ≡ rowPlace l n
       → d₁ ≡ movedUp d start end (rowSize l) → d₂ ≡ raised l d₁ n 0 → d₃ ≡ withRow l d₂ start (end + rowSize l) b id mask
       → d₄ ≡ putAt d₃ (end + rowSize l) b → d₅ ≡ putAt d₄ countPlace (bigEndian headerWidth (n + 1)) → d₅ ≡ grown l d n end b id mask
@@ -64,11 +64,11 @@ module _ (l : Layout) where
 
   -- ---- whether it fits
 
-  -- Fewer rows are held than there may be, whose bodies begin after them; the larger image has room; and the id lies in the body.
+  -- fewer rows are held than there may be, whose bodies begin after them; the larger image has room; and the id lies in the body
   abbrev Fits : List ℕ → ℕ → ℕ → List ℕ → ℕ → Type 0
   Fits d n end b id = (n < mostRows l) × (rowPlace l n ≤ end) × (end + rowSize l + length b ≤ length d) × (id + idSize ≤ length b)
 
-  -- What fits is so.
+  -- what fits is so
   pub fits-says : (d : List ℕ) (n end : ℕ) (b : List ℕ) (id : ℕ) → fits l d n end b id ≡ true → Fits d n end b id
   unfolding fits
   fits-says d n end b id e =
@@ -84,7 +84,7 @@ module _ (l : Layout) where
         leb-true (id + idSize) (length b) (and-right t₂ t₃ e₂),
       )
 
-  -- What is not so does not fit.
+  -- what is not so does not fit
   pub fits-not : (d : List ℕ) (n end : ℕ) (b : List ℕ) (id : ℕ) → (Fits d n end b id → ⊥) → false ≡ fits l d n end b id
   fits-not d n end b id o = go (fits l d n end b id) refl
     where
@@ -92,7 +92,7 @@ module _ (l : Layout) where
       go true e = absurd (o (fits-says d n end b id e))
       go false e = refl
 
-  -- What is so fits.
+  -- what is so fits
   pub fits-all : (d : List ℕ) (n end : ℕ) (b : List ℕ) (id : ℕ) → Fits d n end b id → true ≡ fits l d n end b id
   unfolding fits
   fits-all d n end b id k =
@@ -105,17 +105,17 @@ module _ (l : Layout) where
 
   -- ---- the body added
 
-  -- What the code's test says.
+  -- what the code's test says
   pub add-fits : (d : List ℕ) (n end : ℕ) (b : List ℕ) (id : ℕ) (t : Bool) → t ≡ fits l d n end b id → not t ≡ false → Fits d n end b id
   add-fits d n end b id t e f = fits-says d n end b id (sym e ∙ not-false t f)
 
   module _ (d : List ℕ) (n end : ℕ) (b : List ℕ) (id mask : ℕ) (t : Bool) (e : t ≡ fits l d n end b id) where
-    -- What does not fit is not added.
+    -- what does not fit is not added
     pub add-full : not t ≡ true → (Full ≡ addedOf l d n end b id) × (d ≡ afterAdd l d n end b id mask)
     unfolding addedOf afterAdd
     add-full f = let k = sym e ∙ not-true t f in (rw k, rw k)
 
-    -- What fits is added.
+    -- what fits is added
     pub add-done : not t ≡ false → (d′ : List ℕ) → d′ ≡ grown l d n end b id mask
         → (Done ≡ addedOf l d n end b id) × (d′ ≡ afterAdd l d n end b id mask)
     unfolding addedOf afterAdd

@@ -33,7 +33,7 @@ use Rattle.image.proofs.MoreLaws.{length-more, pieces, bodies-more}
 use Rattle.image.proofs.RaiseLaws.{rows-raised, with-row, header-counted}
 
 module _ (l : Layout) (ok : LayoutOk l) where
-  -- What is written, from what each write leaves.
+  -- what is written, from what each write leaves
   writes : (d : List ℕ) (n end : ℕ) (b : List ℕ) (id mask : ℕ) (d₁ d₃ d₄ d₅ : List ℕ) → movedUp d (rowPlace l n) end (rowSize l) ≡ d₁
       → withRow l (raised l d₁ n 0) (rowPlace l n) (end + rowSize l) b id mask ≡ d₃ → putAt d₃ (end + rowSize l) b ≡ d₄
       → putAt d₄ countPlace (bigEndian headerWidth (n + 1)) ≡ d₅
@@ -41,8 +41,8 @@ module _ (l : Layout) (ok : LayoutOk l) where
   unfolding grown
   writes d n end b id mask d₁ d₃ d₄ d₅ e₁ e₃ e₄ e₅ = rw (e₁, e₃, e₄) e₅
 
-  -- In the image of the rows bs, with room for a row and its body, the writes leave the image of those rows and the new one, and the old
-  -- bytes beyond its end.
+  -- in the image of the rows bs, with room for a row and its body, the writes leave the image of those rows and the new one, and the old
+  -- bytes beyond its end
   grown-image : (d : List ℕ) (bs : List Row) (b : Row) (f : Fields) → Holds l d bs → reading (b .body) ≡ Read f
       → length (imageOf l bs) + rowSize l + length (b .body) ≤ length d
       → grown l d (length bs) (length (imageOf l bs)) (b .body) (f .id) (f .mask) ≡ withBody l d bs b
@@ -121,7 +121,7 @@ module _ (l : Layout) (ok : LayoutOk l) where
 
   -- ---- over a buffer that holds rows
 
-  -- Where there is room fewer rows are held than there may be, and the larger image does not exceed the buffer.
+  -- where there is room fewer rows are held than there may be, and the larger image does not exceed the buffer
   room-says : (d : List ℕ) (bs : List Row) (b : Row) → hasRoom l d bs b ≡ true
       → (length bs < mostRows l) × (length (imageOf l bs) + rowSize l + length (b .body) ≤ length d)
   unfolding hasRoom
@@ -136,7 +136,7 @@ module _ (l : Layout) (ok : LayoutOk l) where
         ),
       )
 
-  -- A body that reads fits where there is room for it.
+  -- a body that reads fits where there is room for it
   fits-room : (d : List ℕ) (bs : List Row) (b : Row) (f : Fields) → reading (b .body) ≡ Read f
       → fits l d (length bs) (length (imageOf l bs)) (b .body) (f .id) ≡ hasRoom l d bs b
   unfolding fits hasRoom
@@ -149,7 +149,7 @@ module _ (l : Layout) (ok : LayoutOk l) where
       (ap (λ (t : Bool). ltb (length bs) (mostRows l) && t)
       (and-true (leb (length (imageOf l bs) + rowSize l + length (b .body)) (length d))))
 
-  -- `BodyAddedFor`.
+  -- `BodyAddedFor`
   pub body-added : BodyAddedFor l
   unfolding addedOf afterAdd
   body-added d bs b f h e =
@@ -161,7 +161,7 @@ module _ (l : Layout) (ok : LayoutOk l) where
       go true u = grown-image d bs b f h e (room-says d bs b u .1)
       go false u = refl
 
-  -- `OneMoreFor`.
+  -- `OneMoreFor`
   pub one-more : OneMoreFor l
   unfolding withBody
   one-more = record {

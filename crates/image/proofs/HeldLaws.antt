@@ -24,32 +24,32 @@ use Rattle.image.proofs.ListLaws.{read-is, has-snoc, rest-new, with-fir
 
 -- ---- what is held
 
--- What is held after a body of n bytes at a place, of which reading says so.
+-- what is held after a body of n bytes at a place, of which reading says so
 abbrev pub heldAfter : Bool → Held → ℕ → ℕ → Reading → Held
 heldAfter hit h at n (Read f) = heldWith hit h at n f
 heldAfter hit h at n Structure = h
 heldAfter hit h at n Validity = h
 
--- What is held after bodies that lie back to back from a place on.
+-- what is held after bodies that lie back to back from a place on
 unfoldable pub heldFrom : List ℕ → ℕ → Held → List Row → Held
 heldFrom id at h [] = h
 heldFrom id at h (b ∷ bs) = heldFrom id (at + length (b .body))
     (heldAfter (same (idOf (b .body)) id) h at (length (b .body)) (reading (b .body))) bs
 
--- What is held of the bodies of an image.
+-- what is held of the bodies of an image
 unfoldable pub heldIn : Layout → List ℕ → List Row → Held
 heldIn l id bs = heldFrom id (rowPlace l (length bs)) Missing bs
 
 -- ---- it is the body with the id
 
--- After a body that reads, with the id or not.
+-- after a body that reads, with the id or not
 held-hit : (id : List ℕ) (at : ℕ) (h : Held) (b : Row) (bs : List Row) (f : Fields) (t : Bool) → reading (b .body) ≡ Read f
     → same (idOf (b .body)) id ≡ t
     → heldFrom id at h (b ∷ bs) ≡ heldFrom id (at + length (b .body)) (heldWith t h at (length (b .body)) f) bs
 unfolding heldFrom
 held-hit id at h b bs f t e i = rw (e, i)
 
--- Bodies of which none has the id change nothing.
+-- bodies of which none has the id change nothing
 held-none : (id : List ℕ) (at : ℕ) (h : Held) (bs : List Row) → hasId id bs ≡ false → heldFrom id at h bs ≡ h
 unfolding heldFrom hasId
 held-none id at h [] i = refl
@@ -64,13 +64,13 @@ held-none id at h (b ∷ bs) i =
     passed Structure = refl
     passed Validity = refl
 
--- Where the first body has another id, what is held of the rest is held of all.
+-- where the first body has another id, what is held of the rest is held of all
 held-rest : (s id : List ℕ) (b : Row) (bs : List Row) (h : Held) → same (idOf (b .body)) id ≡ false → HeldIs s id bs h
     → HeldIs s id (b ∷ bs) h
 held-rest s id b bs Missing e k = with-rest id b bs e .0 ∙ k
 held-rest s id b bs (Body at len f) e k = record { which = with-rest id b bs e .0 ∙ k .which; inside = k .inside; reads = k .reads }
 
--- A first body with the id is held.
+-- a first body with the id is held
 held-first : (s id : List ℕ) (at : ℕ) (b : Row) (bs : List Row) (f : Fields) → Has s at (b .body) → reading (b .body) ≡ Read f
     → same (idOf (b .body)) id ≡ true
     → HeldBody s id (b ∷ bs) at (length (b .body)) f
@@ -82,7 +82,7 @@ held-first s id at b bs f h e i =
       reads = ap reading p ∙ e;
     }
 
--- What is held of bodies that stand back to back from a place on is the one with the id.
+-- what is held of bodies that stand back to back from a place on is the one with the id
 pub held-is : (s id : List ℕ) (at : ℕ) (seen bs : List Row) → AllFrom BodyOk seenWith seen bs → Has s at (joined bs)
     → HeldIs s id bs (heldFrom id at Missing bs)
 unfolding heldFrom joined bodyWith

@@ -19,21 +19,21 @@ use Rattle.image.proofs.ReadLaws.{read-zero, zero-read}
 
 -- ---- the layout
 
--- Equal heads and tails make equal lists.
+-- equal heads and tails make equal lists
 cons : {x y : ℕ} {xs ys : List ℕ} → x ≡ y → xs ≡ ys → (x ∷ xs) ≡ (y ∷ ys)
 cons e f = ap₂ (λ (a : ℕ) (l : List ℕ). a ∷ l) e f
 
--- A number in 4 bytes.
+-- a number in 4 bytes
 in-four : (n : ℕ) → bigEndian bodyWidth n ≡ four n
 unfolding bigEndian
 in-four n = cons (omega arith) (cons (omega arith) refl)
 
--- A number below 256 in one byte.
+-- a number below 256 in one byte
 in-one : (n : ℕ) → n < 256 → bigEndian maskWidth n ≡ n ∷ []
 unfolding bigEndian
 in-one n h = cons (omega arith) refl
 
--- `LayoutFixed`.
+-- `LayoutFixed`
 pub layout-fixed : LayoutFixed
 unfolding header row rowsOf joined imageOf bigEndian rowPlace
 layout-fixed = (
@@ -53,7 +53,7 @@ layout-fixed = (
 
 -- ---- which bodies a buffer holds
 
--- Bodies of which none has the id have other ids.
+-- bodies of which none has the id have other ids
 has-none : (id : List ℕ) (bs : List Row) → hasId id bs ≡ false → Every (λ c. idOf (c .body) ≡ id → ⊥) bs
 unfolding hasId
 has-none id [] e = tt
@@ -62,12 +62,12 @@ has-none id (b ∷ bs) e = (
   has-none id bs (or-no-right (same (idOf (b .body)) id) (hasId id bs) e),
 )
 
--- Bodies that are allowed one after the other read with 0.
+-- bodies that are allowed one after the other read with 0
 all-read : (seen bs : List Row) → AllFrom BodyOk seenWith seen bs → Every (λ b. answerOf (b .body) ≡ 0) bs
 all-read seen [] a = tt
 all-read seen (b ∷ bs) a = (read-zero (b .body) (a .0 .reads), all-read (seen ++ (b ∷ [])) bs (a .1))
 
--- Their ids differ.
+-- their ids differ
 all-differ : (seen bs : List Row) → AllFrom BodyOk seenWith seen bs → IdsDiffer bs
 all-differ seen [] a = tt
 all-differ seen (b ∷ bs) a =
@@ -75,7 +75,7 @@ all-differ seen (b ∷ bs) a =
     = has-snoc (idOf (b .body)) seen b ∙ rw (equal-same (idOf (b .body)) (idOf (b .body)) refl) (or-true (hasId (idOf (b .body)) seen)) in
     (has-none (idOf (b .body)) bs (rest-new (idOf (b .body)) (seen ++ (b ∷ [])) bs (a .1) m), all-differ (seen ++ (b ∷ [])) bs (a .1))
 
--- Bodies whose ids are new stay so after a body with another id.
+-- bodies whose ids are new stay so after a body with another id
 still-new : (seen : List Row) (b : Row) (bs : List Row) → Every (λ c. hasId (idOf (c .body)) seen ≡ false) bs
     → Every (λ c. idOf (c .body) ≡ idOf (b .body) → ⊥) bs
     → Every (λ c. hasId (idOf (c .body)) (seen ++ (b ∷ [])) ≡ false) bs
@@ -85,7 +85,7 @@ still-new seen b (c ∷ bs) n o = (
   still-new seen b bs (n .1) (o .1),
 )
 
--- Bodies that read with 0, whose ids are new and differ, are allowed one after the other.
+-- bodies that read with 0, whose ids are new and differ, are allowed one after the other
 all-from : (seen bs : List Row) → Every (λ b. answerOf (b .body) ≡ 0) bs → IdsDiffer bs
     → Every (λ c. hasId (idOf (c .body)) seen ≡ false) bs
     → AllFrom BodyOk seenWith seen bs
@@ -96,20 +96,20 @@ all-from seen (b ∷ bs) r o n = (
       (still-new seen b bs (n .1) (o .0)),
 )
 
--- At first every id is new.
+-- at first every id is new
 all-new : (bs : List Row) → Every (λ c. hasId (idOf (c .body)) [] ≡ false) bs
 unfolding hasId
 all-new [] = tt
 all-new (b ∷ bs) = (refl, all-new bs)
 
--- `HoldsExactly`.
+-- `HoldsExactly`
 pub holds-exactly : HoldsExactly
 holds-exactly s bs = (
   λ h. (h .rows .few, all-read [] bs (h .rows .each), all-differ [] bs (h .rows .each), (h .rest, h .whole)),
   λ x. record { rows = record { few = x .0; each = all-from [] bs (x .1) (x .2) (all-new bs) }; rest = x .3 .0; whole = x .3 .1 },
 )
 
--- `BodyOfId`.
+-- `BodyOfId`
 pub body-of-id : BodyOfId
 unfolding bodyWith
 body-of-id id = (

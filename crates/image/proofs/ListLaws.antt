@@ -19,7 +19,7 @@ use Rattle.image.proofs.BodyLaws.{read-in}
 
 -- ---- a body that reads
 
--- Of a body that reads something was read.
+-- of a body that reads something was read
 pub read-is : (b : List ℕ) → isRead (reading b) ≡ true → (f : Fields) × (reading b ≡ Read f)
 read-is b t = go (reading b) t
   where
@@ -28,11 +28,11 @@ read-is b t = go (reading b) t
     go Structure e = absurd (false≢true e)
     go Validity e = absurd (false≢true e)
 
--- A body of which something was read reads.
+-- a body of which something was read reads
 pub is-read : (b : List ℕ) (f : Fields) → reading b ≡ Read f → isRead (reading b) ≡ true
 is-read b f e = ap isRead e
 
--- Bodies that read have at most 32768 bytes each.
+-- bodies that read have at most 32768 bytes each
 pub joined-short : (seen bs : List Row) → AllFrom BodyOk seenWith seen bs → length (joined bs) ≤ 32768 * length bs
 unfolding joined
 joined-short seen [] a = omega arith
@@ -42,14 +42,14 @@ joined-short seen (b ∷ bs) a =
 
 -- ---- ids
 
--- The ids of the bodies and one more.
+-- the ids of the bodies and one more
 pub has-snoc : (id : List ℕ) (bs : List Row) (b : Row) → hasId id (bs ++ (b ∷ [])) ≡ (hasId id bs || same (idOf (b .body)) id)
 unfolding hasId
 has-snoc id [] b = or-false (same (idOf (b .body)) id)
 has-snoc id (x ∷ bs) b = ap (λ (t : Bool). same (idOf (x .body)) id || t) (has-snoc id bs b)
     ∙ or-assoc (same (idOf (x .body)) id) (hasId id bs) (same (idOf (b .body)) id)
 
--- An id that a body before has, none of the bodies has.
+-- an id that a body before has, none of the bodies has
 pub rest-new : (id : List ℕ) (seen bs : List Row) → AllFrom BodyOk seenWith seen bs → hasId id seen ≡ true → hasId id bs ≡ false
 unfolding hasId
 rest-new id seen [] a h = refl
@@ -61,7 +61,7 @@ rest-new id seen (b ∷ bs) a h =
     go true e r = absurd (false≢true (sym (a .0 .new) ∙ ap (λ (x : List ℕ). hasId x seen) (same-equal (idOf (b .body)) id e) ∙ h))
     go false e r = r
 
--- Bodies and one more that is allowed after them are allowed.
+-- bodies and one more that is allowed after them are allowed
 pub each-snoc : (seen bs : List Row) (b : Row) → AllFrom BodyOk seenWith seen bs → BodyOk (seen ++ bs) b
     → AllFrom BodyOk seenWith seen (bs ++ (b ∷ []))
 each-snoc seen [] b a o = (subst (λ (l : List Row). BodyOk l b) (append-nil seen) o, tt)
@@ -70,7 +70,7 @@ each-snoc seen (x ∷ bs) b a o =
 
 -- ---- the body with an id
 
--- After one more body its id finds it, where it found none before.
+-- after one more body its id finds it, where it found none before
 pub with-new : (id : List ℕ) (bs : List Row) (b : Row) → bodyWith id bs ≡ none → same (idOf (b .body)) id ≡ true
     → bodyWith id (bs ++ (b ∷ [])) ≡ some (b .body)
 unfolding bodyWith
@@ -83,7 +83,7 @@ with-new id (x ∷ bs) b h e = go (same (idOf (x .body)) id) h (with-new id bs b
     go true h r = absurd (none-some (x .body) (sym h))
     go false h r = r h e
 
--- Any other id finds what it found before.
+-- any other id finds what it found before
 pub with-other : (id : List ℕ) (bs : List Row) (b : Row) → same (idOf (b .body)) id ≡ false → bodyWith id (bs ++ (b ∷ [])) ≡ bodyWith id bs
 unfolding bodyWith
 with-other id [] b e = rw (e, bodyWith)
@@ -91,13 +91,13 @@ with-other id (x ∷ bs) b e = ap
     (λ (o : Option (List ℕ)). elim (same (idOf (x .body)) id) as (λ t. Option (List ℕ)) [ true ↦ some (x .body) | false ↦ o ])
     (with-other id bs b e)
 
--- The first body is found by its id.
+-- the first body is found by its id
 pub with-first : (id : List ℕ) (b : Row) (bs : List Row) → same (idOf (b .body)) id ≡ true
     → (bodyWith id (b ∷ bs) ≡ some (b .body)) × (hasId id (b ∷ bs) ≡ true)
 unfolding bodyWith hasId
 with-first id b bs e = (rw (e, bodyWith), rw e)
 
--- By another id the rest is searched.
+-- by another id the rest is searched
 pub with-rest : (id : List ℕ) (b : Row) (bs : List Row) → same (idOf (b .body)) id ≡ false
     → (bodyWith id (b ∷ bs) ≡ bodyWith id bs) × (hasId id (b ∷ bs) ≡ hasId id bs)
 unfolding bodyWith hasId

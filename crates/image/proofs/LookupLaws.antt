@@ -29,21 +29,21 @@ use Rattle.image.proofs.Laws.{check-tells, check-says, check-unsound, c
 
 -- ---- what a lookup answers
 
--- An id of 16 bytes is looked for in the check.
+-- an id of 16 bytes is looked for in the check
 pub find-in : (s id : List ℕ) → length id ≡ idSize → findOf s id ≡ foundIn (checkOf s id)
 unfolding find-of
 find-in s id l = rw (eq-eqb (length id) idSize l, find-of)
 
--- Another is refused.
+-- another is refused
 find-bad : (s id : List ℕ) → (length id ≡ idSize → ⊥) → numbersOf (findOf s id) ≡ refusal 15
 unfolding find-of
 find-bad s id l = rw (ne-eqb (length id) idSize l, find-of)
 
--- A check that calls the image unsound is answered 16.
+-- a check that calls the image unsound is answered 16
 unsound-16 : (s id : List ℕ) → length id ≡ idSize → checkOf s id ≡ Unsound → numbersOf (findOf s id) ≡ refusal 16
 unsound-16 s id l e = ap numbersOf (find-in s id l) ∙ ap (λ (v : ImageCheck). numbersOf (foundIn v)) e
 
--- `LookupExactly`.
+-- `LookupExactly`
 pub lookup-exactly : LookupExactly
 lookup-exactly = record {
   bad-id = find-bad;
@@ -67,12 +67,12 @@ lookup-exactly = record {
         let q : part s at len ≡ b = some-same (part s at len) b (sym (k .which) ∙ e) in
         record { answer = refl; bytes = q; len = sym (part-has s at len (k .inside) .1) ∙ ap length q; inside = k .inside }
 
--- A check that calls the image sound is not answered 16.
+-- a check that calls the image sound is not answered 16
 sound-other : (n end : ℕ) (h : Held) → numbersOf (foundIn (Sound n end h)) .answer ≡ 16 → ⊥
 sound-other n end Missing e = omega arith
 sound-other n end (Body at len f) e = omega arith
 
--- `SoundExactly`.
+-- `SoundExactly`
 pub sound-exactly : SoundExactly
 sound-exactly s id bytes l = (
   λ n. go (checkOf s id) refl n,
@@ -85,20 +85,20 @@ sound-exactly s id bytes l = (
     go (Sound k end h) e n = (rowsHeld s, check-says s id bytes k end h e .holds)
     go Unsound e n = absurd (n (ap (λ r. r .answer) (unsound-16 s id l e)))
 
--- `EditionsKnown`.
+-- `EditionsKnown`
 pub editions-known : EditionsKnown
 editions-known s id l other = unsound-16 s id l (editions-checked s id other)
 
 -- ---- the part that is handed back
 
--- A body that was found lies in the image.
+-- a body that was found lies in the image
 abbrev pub FindFits : List ℕ → Finding → Type 0
 FindFits s (Found at n) = at + n ≤ length s
 FindFits s Malformed = Unit {0}
 FindFits s BadImage = Unit {0}
 FindFits s NotFound = Unit {0}
 
--- It does so for every id.
+-- it does so for every id
 pub find-fits : (s id : List ℕ) → AreBytes s → FindFits s (findOf s id)
 unfolding find-of
 find-fits s id bytes = test (eqb (length id) idSize)
@@ -112,7 +112,7 @@ find-fits s id bytes = test (eqb (length id) idSize)
     test true = go (checkOf s id) (check-inside s id bytes)
     test false = tt
 
--- `BodyHanded`.
+-- `BodyHanded`
 pub body-handed : BodyHanded
 body-handed s id bytes = go (findOf s id) refl
   where

@@ -17,7 +17,7 @@ use Rattle.image.proofs.RowLaws.{rows-end, image-length, joined-snoc, r
 use Rattle.image.proofs.ListLaws.{each-snoc}
 use Rattle.image.proofs.SoundLaws.{run-whole}
 
--- An id that has no body is none of the bodies'.
+-- an id that has no body is none of the bodies'
 none-has : (id : List ℕ) (bs : List Row) → bodyWith id bs ≡ none → hasId id bs ≡ false
 unfolding bodyWith hasId
 none-has id [] e = refl
@@ -29,11 +29,11 @@ none-has id (b ∷ bs) e = go (same (idOf (b .body)) id) e (none-has id bs)
     go false e k = k e
 
 module _ (l : Layout) (ok : LayoutOk l) where
-  -- The bodies of one more begin a row later.
+  -- the bodies of one more begin a row later
   place-more : (bs : List Row) (b : Row) → rowPlace l (length bs) + rowSize l ≡ rowPlace l (length (bs ++ (b ∷ [])))
   place-more bs b = sym (ap (rowPlace l) (length-append bs (b ∷ [])) ∙ place-next l (length bs))
 
-  -- The image of one body more is longer by a row and the body.
+  -- the image of one body more is longer by a row and the body
   pub length-more : (bs : List Row) (b : Row) → length (imageOf l (bs ++ (b ∷ []))) ≡ length (imageOf l bs) + rowSize l + length (b .body)
   length-more bs b =
       omega (
@@ -45,7 +45,7 @@ module _ (l : Layout) (ok : LayoutOk l) where
         length-append (joined bs) (b .body),
       )
 
-  -- Where the pieces of the larger image stand, it stands.
+  -- where the pieces of the larger image stand, it stands
   pub pieces : (d : List ℕ) (bs : List Row) (b : Row) → Has d 0 (header l (length bs + 1))
       → Has d (rowPlace l 0) (rowsOf l (rowPlace l (length bs) + rowSize l) bs)
       → Has d (rowPlace l (length bs)) (row l (length (imageOf l bs) + rowSize l) b)
@@ -73,7 +73,7 @@ module _ (l : Layout) (ok : LayoutOk l) where
         has-bodies = subst (λ (k : ℕ). Has d k (joined more)) start bodies;
       })
 
-  -- Fewer bodies than there may be rows and one more that reads, whose id none of them has, are allowed.
+  -- fewer bodies than there may be rows and one more that reads, whose id none of them has, are allowed
   pub bodies-more : (bs : List Row) (b : Row) → RowsOk l bs → length bs < mostRows l → isRead (reading (b .body)) ≡ true
       → bodyWith (idOf (b .body)) bs ≡ none → RowsOk l (bs ++ (b ∷ []))
   bodies-more bs b o few reads new = record {

@@ -17,7 +17,7 @@ use Rattle.image.specs.Promises.{NewImage}
 use Rattle.image.proofs.RaiseLaws.{put-four}
 use Rattle.image.proofs.RowLaws.{header-length}
 
--- The four numbers of a header written one after the other are the header of no rows, and no other byte is changed.
+-- the four numbers of a header written one after the other are the header of no rows, and no other byte is changed
 fresh-header : (l : Layout) (d : List ℕ) → headerSize ≤ length d → newBytes l d ≡ header l 0 ++ drop headerSize d
 unfolding newBytes header
 fresh-header l d h =
@@ -30,7 +30,7 @@ fresh-header l d h =
     ∙ ap (λ (x : List ℕ). header l 0 ++ x)
     (over-after d 0 (header l 0) (length (header l 0)) fit (omega arith) ∙ ap (λ (n : ℕ). drop n d) (header-length l 0))
 
--- `NewImage`.
+-- `NewImage`
 pub new-image : NewImage
 unfolding creationOf afterNew imageOf header rowsOf joined bigEndian
 new-image = (

@@ -16,7 +16,7 @@ use Rattle.image.specs.Image.{Row, rowOf, idOf, hasId, BodyOk, seenWith,
 use Rattle.image.specs.Laws.{BodyWithExactlyFor}
 use Rattle.image.proofs.ListLaws.{has-snoc, rest-new, with-first, with-rest}
 
--- A body at a place of the list is one of those that have its id.
+-- a body at a place of the list is one of those that have its id
 has-place : (bs : List Row) (i : ℕ) (b : List ℕ) → i < length bs → getD bs i (rowOf []) .body ≡ b → hasId (idOf b) bs ≡ true
 unfolding hasId
 has-place [] i b h e = absurd (omega arith)
@@ -24,7 +24,7 @@ has-place (x ∷ bs) zero b h e = ap (λ (t : Bool). t || hasId (idOf b) bs) (eq
 has-place (x ∷ bs) (suc i) b h e = ap (λ (t : Bool). same (idOf (x .body)) (idOf b) || t) (has-place bs i b (omega arith) e)
     ∙ or-true (same (idOf (x .body)) (idOf b))
 
--- Where the ids differ it is the one with its id.
+-- where the ids differ it is the one with its id
 place-with : (seen bs : List Row) (i : ℕ) (b : List ℕ) → AllFrom BodyOk seenWith seen bs → i < length bs → getD bs i (rowOf []) .body ≡ b
     → bodyWith (idOf b) bs ≡ some b
 place-with seen [] i b a h e = absurd (omega arith)
@@ -39,7 +39,7 @@ place-with seen (x ∷ bs) (suc i) b a h e = go (same (idOf (x .body)) (idOf b))
         absurd (false≢true (sym (rest-new (idOf b) (seen ++ (x ∷ [])) bs (a .1) before) ∙ has-place bs i b (omega arith) e))
     go false f k = with-rest (idOf b) x bs f .0 ∙ k
 
--- The body with an id has it, and stands at a place of the list.
+-- the body with an id has it, and stands at a place of the list
 with-place : (id : List ℕ) (bs : List Row) (b : List ℕ) → bodyWith id bs ≡ some b
     → (idOf b ≡ id) × ((i : ℕ) × (i < length bs) × (getD bs i (rowOf []) .body ≡ b))
 unfolding bodyWith
@@ -53,7 +53,7 @@ with-place id (x ∷ bs) b e = go (same (idOf (x .body)) id) refl e (with-place 
     go true t f k = let y = some-same (x .body) b f in (ap idOf (sym y) ∙ same-equal (idOf (x .body)) id t, (0, omega arith, y))
     go false t f k = let w = k f in (w .0, (suc (w .1 .0), omega (arith, w .1 .1), w .1 .2))
 
--- `BodyWithExactlyFor`.
+-- `BodyWithExactlyFor`
 pub body-with-exactly : (l : Layout) → BodyWithExactlyFor l
 body-with-exactly l id bs b o = (
   with-place id bs b,

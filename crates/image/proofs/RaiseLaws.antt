@@ -26,18 +26,18 @@ use Rattle.image.proofs.RowPlaceLaws.{place-next, place-order}
 
 -- ---- offsets
 
--- What is kept but for some bytes is kept but for more.
+-- what is kept but for some bytes is kept but for more
 pub kept-wide : (d d′ : List ℕ) (from to a b : ℕ) → Kept d d′ from to → a ≤ from → to ≤ b → Kept d d′ a b
 kept-wide d d′ from to a b k h m = kept-join d d d′ from to from to a b (kept-self d from to) k h h m m
 
--- A piece written right after another is the two written together.
+-- a piece written right after another is the two written together
 pub put-next : (d : List ℕ) (r : ℕ) (s t : List ℕ) (p : ℕ) → r + length s ≡ p → p + length t ≤ length d
     → putAt (over d r s) p t ≡ over d r (s ++ t)
 put-next d r s t p e h =
     let k : Kept d (over d r s) r (r + length s) = kept-over d r s (omega arith) in
     put-fits (over d r s) p t (omega (arith, k .long)) ∙ ap (λ (q : ℕ). over (over d r s) q t) (sym e) ∙ over-append d r s t (omega arith)
 
--- Four pieces written one right after the other are the four written together.
+-- four pieces written one right after the other are the four written together
 pub put-four : (d : List ℕ) (r p q t : ℕ) (a b c e : List ℕ) → r + length a ≡ p → p + length b ≡ q → q + length c ≡ t
     → t + length e ≤ length d
     → putAt (putAt (putAt (putAt d r a) p b) q c) t e ≡ over d r (a ++ (b ++ (c ++ e)))
@@ -52,7 +52,7 @@ put-four d r p q t a b c e f g h room =
     (ap (over d r) whole)
 
 module _ (l : Layout) (ok : LayoutOk l) where
-  -- The offset of a row raised by a row's size: the row of the body that lies so much higher, and no other byte is changed.
+  -- the offset of a row raised by a row's size: the row of the body that lies so much higher, and no other byte is changed
   pub row-raised : (d : List ℕ) (r at : ℕ) (b : Row) → at < 4294967296 → Has d r (row l at b)
       → Has (putAt d (r + offsetPlace) (bigEndian bodyWidth (numberIn d (r + offsetPlace) bodyWidth + rowSize l))) r
       (row l (at + rowSize l) b)
@@ -84,7 +84,7 @@ module _ (l : Layout) (ok : LayoutOk l) where
             (omega arith) (omega arith),
       )
 
-  -- The offsets of all rows raised: the rows of the bodies that lie so much higher, and no other byte is changed.
+  -- the offsets of all rows raised: the rows of the bodies that lie so much higher, and no other byte is changed
   pub rows-raised : (d : List ℕ) (i at : ℕ) (bs : List Row) → at + length (joined bs) < 4294967296 → Has d (rowPlace l i) (rowsOf l at bs)
       → Has (raised l d (length bs) i) (rowPlace l i) (rowsOf l (at + rowSize l) bs)
       × Kept d (raised l d (length bs) i) (rowPlace l i) (rowPlace l (i + length bs))
@@ -116,7 +116,7 @@ module _ (l : Layout) (ok : LayoutOk l) where
 
   -- ---- a row in pieces
 
-  -- The row of a body, written in its five pieces, is the row written.
+  -- the row of a body, written in its five pieces, is the row written
   pub with-row : (d : List ℕ) (r at : ℕ) (b : Row) (f : Fields) → reading (b .body) ≡ Read f → r + rowSize l ≤ length d
       → withRow l d r at (b .body) (f .id) (f .mask) ≡ over d r (row l at b)
   unfolding withRow row
@@ -144,7 +144,7 @@ module _ (l : Layout) (ok : LayoutOk l) where
 
   -- ---- the row count
 
-  -- Another row count written over a header is the header of so many rows.
+  -- another row count written over a header is the header of so many rows
   pub header-counted : (d : List ℕ) (n m : ℕ) → Has d 0 (header l n) → Has (over d countPlace (bigEndian headerWidth m)) 0 (header l m)
   header-counted d n m h =
       let w = header-parts l ok d n h in

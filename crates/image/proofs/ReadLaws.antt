@@ -20,7 +20,7 @@ use Rattle.image.specs.Promises.{RowOfBody, answerOf}
 use Rattle.image.specs.Laws.{BodyRead, EncodingRead}
 use Rattle.image.proofs.RowLaws.{id-read, modes-read}
 
--- Of a body that reads something was seen.
+-- of a body that reads something was seen
 seen-of : (b : List ℕ) → isRead (reading b) ≡ true → (v : Seen) × (readOf b ≡ read v)
 unfolding reading
 seen-of b t = go (readOf b) t
@@ -30,7 +30,7 @@ seen-of b t = go (readOf b) t
     go structure e = absurd (false≢true e)
     go validity e = absurd (false≢true e)
 
--- The id and the modes of the encoding of an allowed descriptor are the descriptor's.
+-- the id and the modes of the encoding of an allowed descriptor are the descriptor's
 seen-row : (b : List ℕ) (v : Seen) (d : Descriptor) → Formed d → readOf b ≡ read v → b ≡ encode d → v ≡ descriptorView 0 d
     → (idOf b ≡ d .payload .id) × (modesOf b ≡ unionOf (d .payload .grants))
 unfolding reading
@@ -40,7 +40,7 @@ seen-row b v d q e i j =
       modes-read b (fieldsOf v) r ∙ ap (λ (u : Seen). u .payload .grants .sum .mask) j ∙ seen-handed d q .mask,
     )
 
--- `BodyRead`.
+-- `BodyRead`
 pub body-read : BodyRead
 body-read b bytes t =
     let v = seen-of b t in
@@ -48,7 +48,7 @@ body-read b bytes t =
     let y = seen-row b (v .0) (x .0) (x .1 .formed) (v .1) (x .2) (x .3) in
     (x .0, x .1, x .2, y .0, y .1)
 
--- `EncodingRead`.
+-- `EncodingRead`
 pub encoding-read : EncodingRead
 unfolding reading
 encoding-read d bytes a =
@@ -58,7 +58,7 @@ encoding-read d bytes a =
 
 -- ---- by the number of the reading
 
--- A body that is read is read with 0.
+-- a body that is read is read with 0
 pub read-zero : (b : List ℕ) → isRead (reading b) ≡ true → answerOf b ≡ 0
 unfolding reading
 read-zero b t = go (readingOf (readOf b)) t
@@ -68,7 +68,7 @@ read-zero b t = go (readingOf (readOf b)) t
     go Structure e = absurd (false≢true e)
     go Validity e = absurd (false≢true e)
 
--- A body that is read with 0 is read.
+-- a body that is read with 0 is read
 pub zero-read : (b : List ℕ) → answerOf b ≡ 0 → isRead (reading b) ≡ true
 unfolding reading
 zero-read b t = go (readingOf (readOf b)) t
@@ -78,6 +78,6 @@ zero-read b t = go (readingOf (readOf b)) t
     go Structure e = absurd (omega arith)
     go Validity e = absurd (omega arith)
 
--- `RowOfBody`.
+-- `RowOfBody`
 pub row-of-body : RowOfBody
 row-of-body b bytes e = body-read b bytes (zero-read b e)

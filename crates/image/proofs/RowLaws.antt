@@ -27,17 +27,17 @@ use Rattle.image.proofs.BodyLaws.{read-in}
 
 -- ---- what reading says of a body
 
--- The id of a body that reads is the part that was read.
+-- the id of a body that reads is the part that was read
 pub id-read : (b : List ℕ) (f : Fields) → reading b ≡ Read f → idOf b ≡ part b (f .id) idSize
 unfolding idOf
 id-read b f e = ap (idIn b) e
 
--- The modes of a body that reads are the mask that was read.
+-- the modes of a body that reads are the mask that was read
 pub modes-read : (b : List ℕ) (f : Fields) → reading b ≡ Read f → modesOf b ≡ f .mask
 unfolding modesOf
 modes-read b f e = ap maskIn e
 
--- The id of a body has 16 bytes, whatever reading says.
+-- the id of a body has 16 bytes, whatever reading says
 pub id-length : (b : List ℕ) → length (idOf b) ≡ idSize
 unfolding idOf
 id-length b = go (reading b) refl
@@ -47,7 +47,7 @@ id-length b = go (reading b) refl
     go Structure e = refl
     go Validity e = refl
 
--- The mask of a body is below 16, whatever reading says.
+-- the mask of a body is below 16, whatever reading says
 pub modes-small : (b : List ℕ) → modesOf b < 16
 unfolding modesOf
 modes-small b = go (reading b) refl
@@ -57,18 +57,18 @@ modes-small b = go (reading b) refl
     go Structure e = omega arith
     go Validity e = omega arith
 
--- The bodies and one more are joined by the body's bytes.
+-- the bodies and one more are joined by the body's bytes
 pub joined-snoc : (bs : List Row) (b : Row) → joined (bs ++ (b ∷ [])) ≡ joined bs ++ b .body
 unfolding joined
 joined-snoc [] b = append-nil (b .body)
 joined-snoc (x ∷ bs) b = ap (λ (m : List ℕ). x .body ++ m) (joined-snoc bs b) ∙ sym (append-assoc (x .body) (joined bs) (b .body))
 
--- The header has its bytes.
+-- the header has its bytes
 pub header-length : (l : Layout) (n : ℕ) → length (header l n) ≡ headerSize
 unfolding header
 header-length l n = simp (length-append, length-bigEndian)
 
--- Zero fits any bytes.
+-- zero fits any bytes
 zero-fits : (w : ℕ) → 0 < 256 ^ w
 zero-fits zero = lit< tt
 zero-fits (suc w) = rw pow-suc (omega (arith, zero-fits w))
@@ -76,13 +76,13 @@ zero-fits (suc w) = rw pow-suc (omega (arith, zero-fits w))
 module _ (l : Layout) (ok : LayoutOk l) where
   -- ---- lengths
 
-  -- A row has its bytes.
+  -- a row has its bytes
   pub row-length : (at : ℕ) (b : Row) → length (row l at b) ≡ rowSize l
   unfolding row
   row-length at b =
       simp (length-append, id-length, length-bigEndian) (omega arith)
 
-  -- The rows end where the bodies begin.
+  -- the rows end where the bodies begin
   pub rows-end : (at : ℕ) (bs : List Row) → rowPlace l 0 + length (rowsOf l at bs) ≡ rowPlace l (length bs)
   unfolding rowsOf
   rows-end at [] = omega arith
@@ -96,7 +96,7 @@ module _ (l : Layout) (ok : LayoutOk l) where
         ap (rowPlace l) (add-one (length bs)),
       )
 
-  -- An image ends where its last body ends.
+  -- an image ends where its last body ends
   pub image-length : (bs : List Row) → length (imageOf l bs) ≡ rowPlace l (length bs) + length (joined bs)
   unfolding imageOf
   image-length bs =
@@ -112,14 +112,14 @@ module _ (l : Layout) (ok : LayoutOk l) where
 
   -- ---- the numbers of the header
 
-  -- The four numbers of a header stand one after the other.
+  -- the four numbers of a header stand one after the other
   pub record HeaderParts (s : List ℕ) (n : ℕ) : Type 0 where
     pub edition : Has s editionPlace (bigEndian headerWidth (l .edition))
     pub modes : Has s modesPlace (bigEndian headerWidth modeEdition)
     pub count : Has s countPlace (bigEndian headerWidth n)
     pub zeros : Has s headerZero (bigEndian headerWidth 0)
 
-  -- They do so where the header stands, and it lies in the bytes.
+  -- they do so where the header stands, and it lies in the bytes
   pub header-parts : (s : List ℕ) (n : ℕ) → Has s 0 (header l n) → (headerSize ≤ length s) × HeaderParts s n
   unfolding header
   header-parts s n h =
@@ -141,7 +141,7 @@ module _ (l : Layout) (ok : LayoutOk l) where
         },
       )
 
-  -- Where they do so the header stands.
+  -- where they do so the header stands
   pub parts-header : (s : List ℕ) (n : ℕ) → HeaderParts s n → Has s 0 (header l n)
   unfolding header
   parts-header s n p =
@@ -152,7 +152,7 @@ module _ (l : Layout) (ok : LayoutOk l) where
 
   -- ---- one body more
 
-  -- The rows of the bodies and one more are their rows and its row.
+  -- the rows of the bodies and one more are their rows and its row
   pub rows-snoc : (at : ℕ) (bs : List Row) (b : Row) → rowsOf l at (bs ++ (b ∷ [])) ≡ rowsOf l at bs ++ row l (at + length (joined bs)) b
   unfolding rowsOf joined
   rows-snoc at [] b = append-nil (row l at b) ∙ ap (λ (n : ℕ). row l n b) (sym (add-zero at))
@@ -165,7 +165,7 @@ module _ (l : Layout) (ok : LayoutOk l) where
 
   -- ---- the fields of a row
 
-  -- The five fields of a row stand at r one after the other.
+  -- the five fields of a row stand at r one after the other
   pub record RowParts (s : List ℕ) (r at : ℕ) (b : Row) : Type 0 where
     pub id : Has s r (idOf (b .body))
     pub offset : Has s (r + offsetPlace) (bigEndian bodyWidth at)
@@ -173,7 +173,7 @@ module _ (l : Layout) (ok : LayoutOk l) where
     pub mask : Has s (r + maskPlace) (bigEndian maskWidth (modesOf (b .body)))
     pub zeros : Has s (r + zeroPlace) (bigEndian (zeroSize l) 0)
 
-  -- The five fields of a row stand one after the other.
+  -- the five fields of a row stand one after the other
   pub row-parts : (s : List ℕ) (r at : ℕ) (b : Row) → Has s r (row l at b) → RowParts s r at b
   unfolding row
   row-parts s r at b h =
@@ -197,7 +197,7 @@ module _ (l : Layout) (ok : LayoutOk l) where
         zeros = h₄;
       }
 
-  -- Where they stand one after the other the row stands.
+  -- where they stand one after the other the row stands
   pub parts-row : (s : List ℕ) (r at : ℕ) (b : Row) → RowParts s r at b → Has s r (row l at b)
   unfolding row
   parts-row s r at b p =
@@ -209,7 +209,7 @@ module _ (l : Layout) (ok : LayoutOk l) where
       (has-both s (r + maskPlace) maskWidth (r + zeroPlace) (bigEndian maskWidth (modesOf (b .body))) _
       (length-bigEndian maskWidth (modesOf (b .body))) (omega arith) (p .mask) (p .zeros))))
 
-  -- What the numbers of the row at r say.
+  -- what the numbers of the row at r say
   pub record RowSays (s : List ℕ) (r at : ℕ) (b : Row) : Type 0 where
     pub inside : r + rowSize l ≤ length s
     pub id : rowId s r ≡ idOf (b .body)
@@ -218,7 +218,7 @@ module _ (l : Layout) (ok : LayoutOk l) where
     pub mask : numberAt s (r + maskPlace) maskWidth ≡ modesOf (b .body)
     pub zeros : numberAt s (r + zeroPlace) (zeroSize l) ≡ 0
 
-  -- The row of a body that lies below 2 ^ 32 and is shorter than that says where it lies and how long it is.
+  -- the row of a body that lies below 2 ^ 32 and is shorter than that says where it lies and how long it is
   pub row-says : (s : List ℕ) (r at : ℕ) (b : Row) → at < 4294967296 → length (b .body) < 4294967296 → Has s r (row l at b)
       → RowSays s r at b
   row-says s r at b small short h =
@@ -234,7 +234,7 @@ module _ (l : Layout) (ok : LayoutOk l) where
         zeros = number-of-has s (r + zeroPlace) (zeroSize l) 0 (zero-fits (zeroSize l)) (omega arith) (p .zeros);
       }
 
-  -- Bytes of which the numbers say so are the row of the body.
+  -- bytes of which the numbers say so are the row of the body
   pub says-row : (s : List ℕ) (r at : ℕ) (b : Row) → AreBytes s → RowSays s r at b → Has s r (row l at b)
   says-row s r at b bytes q =
       let i : r + rowSize l ≤ length s = q .inside in

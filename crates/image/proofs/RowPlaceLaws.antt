@@ -8,36 +8,36 @@ use Rattle.image.specs.declared.layout.Layout.{Layout}
 use Rattle.descriptor.specs.Allowed.{idSize}
 use Rattle.image.specs.Layout.{headerSize, edition1, rowSize, mostRows, rowPlace, LayoutOk}
 
--- Edition 1 is allowed.
+-- edition 1 is allowed
 pub edition1-ok : LayoutOk edition1
 edition1-ok = record { numbered = omega arith; wide = omega arith; narrow = omega arith; few = omega arith }
 
 module _ (l : Layout) where
-  -- The first row stands after the header.
+  -- the first row stands after the header
   pub place-first : rowPlace l 0 ≡ headerSize
   unfolding rowPlace
   place-first = omega arith
 
-  -- One row more.
+  -- one row more
   pub place-next : (i : ℕ) → rowPlace l (i + 1) ≡ rowPlace l i + rowSize l
   unfolding rowPlace
   place-next i = omega (arith, ap (λ (j : ℕ). rowSize l * j) (add-one i), mul-suc (rowSize l) i)
 
-  -- A row ends before any after it begins.
+  -- a row ends before any after it begins
   pub place-order : (i n : ℕ) → i < n → rowPlace l i + rowSize l ≤ rowPlace l n
   unfolding rowPlace
   place-order i n h = omega (arith, mul-suc (rowSize l) i, mul-le-mul-left (rowSize l) h)
 
-  -- The id of a row ends before a place that is not before the bodies.
+  -- the id of a row ends before a place that is not before the bodies
   pub row-inside : LayoutOk l → (i n r end : ℕ) → i < n → r ≡ rowPlace l i → rowPlace l n ≤ end → r + idSize ≤ end
   row-inside ok i n r end h e room = omega (arith, place-order i n h)
 
-  -- Every row stands after the header.
+  -- every row stands after the header
   pub place-after : (n : ℕ) → headerSize ≤ rowPlace l n
   unfolding rowPlace
   place-after n = omega arith
 
-  -- The offsets of bodies of at most 32768 bytes each fit 4 bytes.
+  -- the offsets of bodies of at most 32768 bytes each fit 4 bytes
   pub place-small : LayoutOk l → (n : ℕ) → n ≤ mostRows l → rowPlace l n + 32768 * n < 4294967296
   unfolding rowPlace
   place-small ok n h = omega (arith, mul-le-mul-right n (ok .narrow))

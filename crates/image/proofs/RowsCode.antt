@@ -20,13 +20,13 @@ use Rattle.image.specs.Check.{rowId, rowLength, idAmong, rowFits, onRead
 
 -- ---- an answer of a test and then a reader
 
--- What is answered after a test was answered without it, and the test holds.
+-- what is answered after a test was answered without it, and the test holds
 pub guard-got : {R : Type 0} (b : Bool) (o : Got R) (r : R) (n : ℕ) → got r n ≡ guard b o → (b ≡ true) × (got r n ≡ o)
 unfolding guard
 guard-got true o r n e = (refl, e)
 guard-got false o r n e = absurd (let z : _≡_ {A = ℕ} 0 1 = cc in omega arith)
 
--- What is answered of a body was answered of what was read.
+-- what is answered of a body was answered of what was read
 pub read-got : {R : Type 0} (x : Reading) (k : Fields → Got R) (r : R) (n : ℕ) → got r n ≡ onRead x k
     → (f : Fields) × (x ≡ Read f) × (got r n ≡ k f)
 read-got (Read f) k r n e = (f, refl, e)
@@ -43,7 +43,7 @@ got-same r r′ n n′ e = (cc, cc)
 module _ (l : Layout) where
   -- ---- one row
 
-  -- What a row that passes the check says.
+  -- what a row that passes the check says
   pub record RowOk (s : List ℕ) (i at : ℕ) (f : Fields) (next : ℕ) : Type 0 where
     pub inside : at + rowLength s (rowPlace l i) ≤ length s
     pub reads : reading (part s at (rowLength s (rowPlace l i))) ≡ Read f
@@ -51,7 +51,7 @@ module _ (l : Layout) where
     pub new : idAmong l s (rowId s (rowPlace l i)) i ≡ false
     pub end : next ≡ at + rowLength s (rowPlace l i)
 
-  -- A row that is answered passes the check.
+  -- a row that is answered passes the check
   pub row-is : (s : List ℕ) (i at : ℕ) (f : Fields) (next : ℕ) → got f next ≡ rowAt l s i at → RowOk s i at f next
   unfolding rowAt
   row-is s i at f next e =
@@ -69,14 +69,14 @@ module _ (l : Layout) where
         end = g .1;
       }
 
-  -- The next body begins after this one, within the bytes.
+  -- the next body begins after this one, within the bytes
   pub row-next-is : (s : List ℕ) (i at : ℕ) (f : Fields) (next : ℕ) → got f next ≡ rowAt l s i at
       → (next ≡ at + rowLength s (rowPlace l i)) × (next ≤ length s)
   row-next-is s i at f next e = let k = row-is s i at f next e in (k .end, omega (arith, k .inside, k .end))
 
   -- ---- all rows
 
-  -- A row that passes leaves the rows after it.
+  -- a row that passes leaves the rows after it
   pub rows-next : (s id : List ℕ) (n i at : ℕ) (h : Held) (f : Fields) (next : ℕ) → i < n → got f next ≡ rowAt l s i at
       → rowsFrom l s id (n - i) i at h
       ≡ rowsFrom l s id (n - (i + 1)) (i + 1) next (heldWith (same (rowId s (rowPlace l i)) id) h at (rowLength s (rowPlace l i)) f)
@@ -85,49 +85,49 @@ module _ (l : Layout) where
       let k : n - i ≡ suc (n - (i + 1)) = omega arith in
       ap (λ (m : ℕ). rowsFrom l s id m i at h) k ∙ bind-got (rowAt l s i at) _ f next e
 
-  -- A row that does not pass refuses them all.
+  -- a row that does not pass refuses them all
   pub rows-stop : (s id : List ℕ) (n i at : ℕ) (h : Held) → i < n → refused ≡ rowAt l s i at → rowsFrom l s id (n - i) i at h ≡ refused
   unfolding rowsFrom
   rows-stop s id n i at h q e =
       let k : n - i ≡ suc (n - (i + 1)) = omega arith in
       ap (λ (m : ℕ). rowsFrom l s id m i at h) k ∙ bind-refused (rowAt l s i at) _ e
 
-  -- After the last row what is held is answered.
+  -- after the last row what is held is answered
   pub rows-done : (s id : List ℕ) (n i at : ℕ) (h : Held) → n ≤ i → rowsFrom l s id (n - i) i at h ≡ got h at
   unfolding rowsFrom
   rows-done s id n i at h q =
       let k : n - i ≡ 0 = omega arith in
       ap (λ (m : ℕ). rowsFrom l s id m i at h) k
 
-  -- Before the first row all rows are left.
+  -- before the first row all rows are left
   pub rows-begin : (s id : List ℕ) (n at at′ : ℕ) (h : Held) → at′ ≡ at → rowsFrom l s id n 0 at h ≡ rowsFrom l s id (n - 0) 0 at′ h
   rows-begin s id n at at′ h e = let k : n ≡ n - 0 = omega arith in ap₂ (λ (m p : ℕ). rowsFrom l s id m 0 p h) k (sym e)
 
   -- ---- the ids of the rows before
 
-  -- No row is before the first.
+  -- no row is before the first
   pub among-none : (s id : List ℕ) → idAmong l s id 0 ≡ false
   unfolding idAmong
   among-none s id = refl
 
-  -- The same as `among-next`, with the count as a successor.
+  -- the same as `among-next`, with the count as a successor
   pub among-suc : (s id : List ℕ) (j : ℕ) → same (rowId s (rowPlace l j)) id ≡ false → idAmong l s id (suc j) ≡ idAmong l s id j
   unfolding idAmong
   among-suc s id j e = rw (e, idAmong)
 
-  -- The same as `among-hit`, with the count as a successor.
+  -- the same as `among-hit`, with the count as a successor
   pub hit-suc : (s id : List ℕ) (j : ℕ) → same (rowId s (rowPlace l j)) id ≡ true → idAmong l s id (suc j) ≡ true
   unfolding idAmong
   hit-suc s id j e = rw (e, idAmong)
 
-  -- Where the last row has another id, the rows before it count.
+  -- where the last row has another id, the rows before it count
   pub among-next : (s id : List ℕ) (i : ℕ) → 0 < i → same (rowId s (rowPlace l (i - 1))) id ≡ false
       → idAmong l s id i ≡ idAmong l s id (i - 1)
   among-next s id i m e =
       let k : i ≡ suc (i - 1) = omega arith in
       ap (idAmong l s id) k ∙ among-suc s id (i - 1) e
 
-  -- Where the last row has the id, it is among them.
+  -- where the last row has the id, it is among them
   pub among-hit : (s id : List ℕ) (i : ℕ) → 0 < i → same (rowId s (rowPlace l (i - 1))) id ≡ true → idAmong l s id i ≡ true
   among-hit s id i m e =
       let k : i ≡ suc (i - 1) = omega arith in

@@ -22,30 +22,30 @@ use Rattle.image.proofs.ListLaws.{read-is, is-read}
 use Rattle.image.proofs.HeldLaws.{heldAfter, heldFrom}
 use Rattle.image.proofs.CheckLaws.{Past, past-more, Stands, row-sound, stands-says, row-complete}
 
--- What is answered after a reader was answered of what it read.
+-- what is answered after a reader was answered of what it read
 bind-is : {R Q : Type 0} (o : Got R) (k : R → ℕ → Got Q) (q : Q) (n : ℕ) → got q n ≡ bind o k
     → (r : R) × (m : ℕ) × (got r m ≡ o) × (got q n ≡ k r m)
 unfolding bind
 bind-is (got r m) k q n e = (r, m, refl, e)
 bind-is refused k q n e = absurd (let z : _≡_ {A = ℕ} 0 1 = cc in omega arith)
 
--- Equal answers have equal places.
+-- equal answers have equal places
 place-same : (h h′ : Held) (n n′ : ℕ) → got h n ≡ got h′ n′ → n ≡ n′
 place-same h h′ n n′ e = cc
 
 module _ (l : Layout) (ok : LayoutOk l) where
-  -- The rows of the bodies stand from row i on, and the bodies from `at` on; they are allowed after those of `seen`.
+  -- the rows of the bodies stand from row i on, and the bodies from `at` on; they are allowed after those of `seen`
   pub record Run (s : List ℕ) (seen : List Row) (i at : ℕ) (bs : List Row) : Type 0 where
     pub each : AllFrom BodyOk seenWith seen bs
     pub has-rows : Has s (rowPlace l i) (rowsOf l at bs)
     pub has-bodies : Has s at (joined bs)
 
-  -- No body stands everywhere.
+  -- no body stands everywhere
   pub run-none : (s : List ℕ) (seen : List Row) (i at : ℕ) → Run s seen i at []
   unfolding rowsOf joined
   run-none s seen i at = record { each = tt; has-rows = has-nil s (rowPlace l i); has-bodies = has-nil s at }
 
-  -- The first body stands with its row.
+  -- the first body stands with its row
   pub run-first : (s : List ℕ) (seen : List Row) (i at : ℕ) (b : Row) (bs : List Row) → Run s seen i at (b ∷ bs)
       → (f : Fields) × (Stands l ok) s seen i at b f
   unfolding rowsOf joined
@@ -60,7 +60,7 @@ module _ (l : Layout) (ok : LayoutOk l) where
         },
       )
 
-  -- The others stand after it.
+  -- the others stand after it
   pub run-rest : (s : List ℕ) (seen : List Row) (i at : ℕ) (b : Row) (bs : List Row) → Run s seen i at (b ∷ bs)
       → Run s (seen ++ (b ∷ [])) (i + 1) (at + length (b .body)) bs
   unfolding rowsOf joined
@@ -72,7 +72,7 @@ module _ (l : Layout) (ok : LayoutOk l) where
     has-bodies = has-right s at (b .body) (joined bs) (g .has-bodies);
   }
 
-  -- A body that stands with its row, and others after it.
+  -- a body that stands with its row, and others after it
   pub run-more : (s : List ℕ) (seen : List Row) (i at : ℕ) (b : Row) (f : Fields) (bs : List Row) → Stands l ok s seen i at b f
       → Run s (seen ++ (b ∷ [])) (i + 1) (at + length (b .body)) bs → Run s seen i at (b ∷ bs)
   unfolding rowsOf joined
@@ -86,14 +86,14 @@ module _ (l : Layout) (ok : LayoutOk l) where
 
   -- ---- from the check to the bodies
 
-  -- The row of a body that stands has its id.
+  -- the row of a body that stands has its id
   row-names : (s : List ℕ) (seen : List Row) (i at : ℕ) (b : Row) (f : Fields) → Stands l ok s seen i at b f
       → rowId s (rowPlace l i) ≡ idOf (b .body)
   row-names s seen i at b f h =
       ap (part s (rowPlace l i)) (sym (id-length (b .body))) ∙ has-part s (rowPlace l i) (idOf (b .body))
       (row-parts l ok s (rowPlace l i) at b (h .has-row) .id)
 
-  -- k rows that pass the check are those of k bodies that stand.
+  -- k rows that pass the check are those of k bodies that stand
   pub rows-sound : (s id : List ℕ) → AreBytes s → (k : ℕ) (seen : List Row) (i at end : ℕ) (h h′ : Held) → Past l ok s seen i
       → (n : ℕ) → i + k ≡ n → rowPlace l n ≤ length s
       → got h′ end ≡ rowsFrom l s id k i at h
@@ -118,7 +118,7 @@ module _ (l : Layout) (ok : LayoutOk l) where
 
   -- ---- from the bodies to the check
 
-  -- The rows of bodies that stand pass the check; what is held is what is held of the bodies.
+  -- the rows of bodies that stand pass the check; what is held is what is held of the bodies
   pub rows-complete : (s id : List ℕ) (bs seen : List Row) (i at : ℕ) (h : Held) → at + 32768 * length bs < 4294967296
       → Past l ok s seen i → Run s seen i at bs
       → rowsFrom l s id (length bs) i at h ≡ got (heldFrom id at h bs) (at + length (joined bs))
@@ -143,7 +143,7 @@ module _ (l : Layout) (ok : LayoutOk l) where
       (run-rest s seen i at b bs g)
       ∙ ap (got (heldFrom id at h (b ∷ bs))) end
 
-  -- The parts that the rows of bodies that stand name are the bodies.
+  -- the parts that the rows of bodies that stand name are the bodies
   pub rows-bodies : (s : List ℕ) (bs seen : List Row) (i at : ℕ) → at + 32768 * length bs < 4294967296 → Run s seen i at bs
       → rowsHeldFrom l s (length bs) i ≡ bs
   unfolding rowsHeldFrom

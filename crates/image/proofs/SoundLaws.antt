@@ -31,7 +31,7 @@ use Rattle.image.proofs.RunLaws.{Run, rows-sound, rows-complete, rows-b
 module _ (l : Layout) (ok : LayoutOk l) where
   -- ---- the header
 
-  -- What the numbers of the header say.
+  -- what the numbers of the header say
   pub record HeaderSays (s : List ℕ) (n : ℕ) : Type 0 where
     pub inside : headerSize ≤ length s
     pub edition : numberAt s editionPlace headerWidth ≡ l .edition
@@ -39,7 +39,7 @@ module _ (l : Layout) (ok : LayoutOk l) where
     pub count : numberAt s countPlace headerWidth ≡ n
     pub zeros : numberAt s headerZero headerWidth ≡ 0
 
-  -- The header of fewer than 65536 rows says how many.
+  -- the header of fewer than 65536 rows says how many
   pub header-says : (s : List ℕ) (n : ℕ) → n < 65536 → Has s 0 (header l n) → HeaderSays s n
   header-says s n small h =
       let w = header-parts l ok s n h in
@@ -52,7 +52,7 @@ module _ (l : Layout) (ok : LayoutOk l) where
         zeros = number-of-has s headerZero headerWidth 0 (omega arith) (omega arith) (w .1 .zeros);
       }
 
-  -- Bytes of which the numbers say so are the header.
+  -- bytes of which the numbers say so are the header
   pub says-header : (s : List ℕ) (n : ℕ) → AreBytes s → HeaderSays s n → Has s 0 (header l n)
   says-header s n bytes q =
       let inside : headerSize ≤ length s = q .inside in
@@ -66,7 +66,7 @@ module _ (l : Layout) (ok : LayoutOk l) where
         zeros = number headerZero 0 (omega arith) (q .zeros);
       })
 
-  -- The test of the header holds where its numbers say so.
+  -- the test of the header holds where its numbers say so
   pub says-fits : (s : List ℕ) (n : ℕ) → n ≤ mostRows l → HeaderSays s n → headerFits l s ≡ true
   unfolding headerFits rowCount
   says-fits s n few q =
@@ -77,7 +77,7 @@ module _ (l : Layout) (ok : LayoutOk l) where
         eq-eqb (numberAt s headerZero headerWidth) 0 (q .zeros),
       )
 
-  -- The numbers say so where the test of the header holds.
+  -- the numbers say so where the test of the header holds
   pub fits-says : (s : List ℕ) → headerSize ≤ length s → headerFits l s ≡ true → HeaderSays s (rowCount s) × (rowCount s ≤ mostRows l)
   unfolding headerFits rowCount
   fits-says s m e =
@@ -99,21 +99,21 @@ module _ (l : Layout) (ok : LayoutOk l) where
 
   -- ---- the whole image
 
-  -- An image that s begins with stands at its beginning.
+  -- an image that s begins with stands at its beginning
   pub holds-has : (s : List ℕ) (bs : List Row) → Holds l s bs → Has s 0 (imageOf l bs)
   holds-has s bs h = front-has s (imageOf l bs) (h .rest) (h .whole)
 
-  -- The image of allowed bodies that stands at the beginning is what s begins with.
+  -- the image of allowed bodies that stands at the beginning is what s begins with
   pub has-holds : (s : List ℕ) (bs : List Row) → RowsOk l bs → Has s 0 (imageOf l bs) → Holds l s bs
   has-holds s bs o h = record { rows = o; rest = drop (length (imageOf l bs)) s; whole = has-front s (imageOf l bs) h }
 
-  -- The header, the rows and the bodies of an image stand one after the other.
+  -- the header, the rows and the bodies of an image stand one after the other
   pub record ImageParts (s : List ℕ) (bs : List Row) : Type 0 where
     pub has-header : Has s 0 (header l (length bs))
     pub has-rows : Has s (rowPlace l 0) (rowsOf l (rowPlace l (length bs)) bs)
     pub has-bodies : Has s (rowPlace l (length bs)) (joined bs)
 
-  -- They do so in a buffer that holds the bodies.
+  -- they do so in a buffer that holds the bodies
   pub image-stands : (s : List ℕ) (bs : List Row) → Holds l s bs → ImageParts s bs
   unfolding imageOf
   image-stands s bs h =
@@ -128,7 +128,7 @@ module _ (l : Layout) (ok : LayoutOk l) where
         has-bodies = has-after s (rowPlace l 0) (length rows) (rowPlace l n) rows (joined bs) refl (rows-end l ok (rowPlace l n) bs) r;
       }
 
-  -- Where the header, the rows and the bodies of an image stand one after the other, it stands.
+  -- where the header, the rows and the bodies of an image stand one after the other, it stands
   pub run-whole : (s : List ℕ) (bs : List Row) → ImageParts s bs → Has s 0 (imageOf l bs)
   unfolding imageOf
   run-whole s bs w =
@@ -138,27 +138,27 @@ module _ (l : Layout) (ok : LayoutOk l) where
       (has-both s (rowPlace l 0) (length rows) (rowPlace l n) rows (joined bs) refl (rows-end l ok (rowPlace l n) bs) (w .has-rows)
       (w .has-bodies))
 
-  -- The rows and the bodies of an image that s begins with stand.
+  -- the rows and the bodies of an image that s begins with stand
   pub holds-run : (s : List ℕ) (bs : List Row) → Holds l s bs → Run l ok s [] 0 (rowPlace l (length bs)) bs
   holds-run s bs h = let w = image-stands s bs h in record { each = h .rows .each; has-rows = w .has-rows; has-bodies = w .has-bodies }
 
-  -- An image that s begins with lies within s.
+  -- an image that s begins with lies within s
   pub holds-room : (s : List ℕ) (bs : List Row) → Holds l s bs → length (imageOf l bs) ≤ length s
   holds-room s bs h = omega
       (arith, has-fits s 0 (imageOf l bs) (omega (arith, image-length l ok bs, place-after l (length bs))) (holds-has s bs h))
 
-  -- Its header says how many bodies it has.
+  -- its header says how many bodies it has
   pub holds-says : (s : List ℕ) (bs : List Row) → Holds l s bs → HeaderSays s (length bs)
   holds-says s bs h = header-says s (length bs) (omega (arith, h .rows .few, ok .few)) (image-stands s bs h .has-header)
 
-  -- The row count is the number of bodies.
+  -- the row count is the number of bodies
   pub count-of : (s : List ℕ) (bs : List Row) → Holds l s bs → rowCount s ≡ length bs
   unfolding rowCount
   count-of s bs h = holds-says s bs h .count
 
   -- ---- the check
 
-  -- An image that s begins with passes the check; what is held is what is held of its bodies.
+  -- an image that s begins with passes the check; what is held is what is held of its bodies
   pub check-complete : (s id : List ℕ) (bs : List Row) → Holds l s bs → checked l s id ≡ got (heldIn l id bs) (length (imageOf l bs))
   unfolding checked guard heldIn
   check-complete s id bs h =
@@ -170,14 +170,14 @@ module _ (l : Layout) (ok : LayoutOk l) where
       (rows-complete l ok s id bs [] 0 (rowPlace l n) Missing (place-small l ok n few) (past-none l ok s) (holds-run s bs h) ∙ ap
       (got (heldFrom id (rowPlace l n) Missing bs)) (sym (image-length l ok bs)))
 
-  -- What a check that passes says before the rows.
+  -- what a check that passes says before the rows
   pub record Checked (s id : List ℕ) (h : Held) (end : ℕ) : Type 0 where
     pub inside : headerSize ≤ length s
     pub header : headerFits l s ≡ true
     pub room : rowPlace l (rowCount s) ≤ length s
     pub rows : got h end ≡ rowsFrom l s id (rowCount s) 0 (rowPlace l (rowCount s)) Missing
 
-  -- A check that answers passes.
+  -- a check that answers passes
   pub check-is : (s id : List ℕ) (h : Held) (end : ℕ) → got h end ≡ checked l s id → Checked s id h end
   unfolding checked
   check-is s id h end e =
@@ -191,7 +191,7 @@ module _ (l : Layout) (ok : LayoutOk l) where
         rows = c .1;
       }
 
-  -- Bytes that pass the check begin with the image of allowed bodies, and it ends where the check says.
+  -- bytes that pass the check begin with the image of allowed bodies, and it ends where the check says
   pub check-sound : (s id : List ℕ) → AreBytes s → (h : Held) (end : ℕ) → got h end ≡ checked l s id
       → (bs : List Row) × (Holds l) s bs × (end ≡ length (imageOf l bs))
   check-sound s id bytes h end e =
@@ -214,7 +214,7 @@ module _ (l : Layout) (ok : LayoutOk l) where
 
   -- ---- the bodies that the rows name
 
-  -- They are the bodies of the image that s begins with.
+  -- they are the bodies of the image that s begins with
   pub holds-bodies : (s : List ℕ) (bs : List Row) → Holds l s bs → rowsHeld l s ≡ bs
   unfolding rowsHeld
   holds-bodies s bs h =

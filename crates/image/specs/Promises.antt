@@ -125,8 +125,8 @@ BodyHanded = (s id : List ℕ) → AreBytes s
 
 -- ---- a new image
 
--- A new image writes 00 01 00 01 00 00 00 00 and no other byte, which is the image of no rows; a buffer under 8 bytes gives 17, and
--- is left as it was.
+-- a new image writes 00 01 00 01 00 00 00 00 and no other byte, which is the image of no rows; a buffer under 8 bytes gives 17, and
+-- is left as it was
 abbrev pub NewImage : Type 0
 NewImage =
     ((d : List ℕ) → 8 ≤ length d

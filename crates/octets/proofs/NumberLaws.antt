@@ -58,17 +58,17 @@ bytes-number s from (suc w) n h l e =
 
 -- ---- the number in the bytes at a place
 
--- At most 8 bytes that are there hold the number.
+-- at most 8 bytes that are there hold the number
 pub number-in : (s : List ℕ) (at w : ℕ) → w ≤ 8 → at + w ≤ length s → numberIn s at w ≡ numberAt s at w
 unfolding numberIn
 number-in s at w h l = rw (le-leb w 8 h, le-leb (at + w) (length s) l)
 
--- More than 8 bytes are answered with 0.
+-- more than 8 bytes are answered with 0
 pub number-wide : (s : List ℕ) (at w : ℕ) → 8 < w → numberIn s at w ≡ 0
 unfolding numberIn
 number-wide s at w h = rw (lt-leb w 8 h)
 
--- Bytes that are not all there are answered with 0.
+-- bytes that are not all there are answered with 0
 pub number-short : (s : List ℕ) (at w : ℕ) → length s < at + w → numberIn s at w ≡ 0
 unfolding numberIn
 number-short s at w h = rw (lt-leb (at + w) (length s) h) (cond-and-false (leb w 8))
@@ -77,21 +77,21 @@ number-short s at w h = rw (lt-leb (at + w) (length s) h) (cond-and-false (leb w
     cond-and-false true = refl
     cond-and-false false = refl
 
--- The number that the encoding of n holds is n.
+-- the number that the encoding of n holds is n
 pub number-of-has : (s : List ℕ) (at w n : ℕ) → n < 256 ^ w → at + w ≤ length s → Has s at (bigEndian w n) → numberAt s at w ≡ n
 unfolding Has part
 number-of-has s at w n h l k = bytes-number s at w n h l (ap (λ (m : ℕ). take m (drop at s)) (sym (length-bigEndian w n)) ∙ k)
 
--- Bytes are the encoding of the number that they hold.
+-- bytes are the encoding of the number that they hold
 pub has-of-number : (s : List ℕ) (at w : ℕ) → AreBytes s → at + w ≤ length s → Has s at (bigEndian w (numberAt s at w))
 unfolding Has part
 has-of-number s at w bs l = ap (λ (m : ℕ). take m (drop at s)) (length-bigEndian w (numberAt s at w)) ∙ number-bytes s at w bs l
 
--- A number of w bytes is below 256 ^ w.
+-- a number of w bytes is below 256 ^ w
 pub number-below : (s : List ℕ) (at w : ℕ) → AreBytes s → numberAt s at w < 256 ^ w
 number-below s at w bs = number-lt s at w bs
 
--- Equal bytes hold the same number.
+-- equal bytes hold the same number
 pub number-keeps : (d d′ : List ℕ) (at w : ℕ) → part d at w ≡ part d′ at w → numberAt d at w ≡ numberAt d′ at w
 unfolding numberAt part
 number-keeps d d′ at zero e = refl
@@ -105,47 +105,47 @@ number-keeps d d′ at (suc w) e =
 
 -- ---- a loop that writes a number, the lowest byte first
 
--- d with the last w - k bytes of the number n written over it.
+-- d with the last w - k bytes of the number n written over it
 unfoldable pub lowBytes : List ℕ → ℕ → ℕ → ℕ → ℕ → List ℕ
 lowBytes d at w n k = over d (at + k) (drop k (bigEndian w n))
 
--- The first k bytes of the number n are those of the number `left`.
+-- the first k bytes of the number n are those of the number `left`
 unfoldable pub Remains : ℕ → ℕ → ℕ → ℕ → Type 0
 Remains w n k left = bigEndian w n ≡ bigEndian k left ++ drop k (bigEndian w n)
 
--- After the last of its w bytes a number has none.
+-- after the last of its w bytes a number has none
 drop-whole : (w n : ℕ) → drop w (bigEndian w n) ≡ []
 drop-whole w n = let h : length (bigEndian w n) ≤ w = omega (arith, length-bigEndian w n) in drop-of-length-le (bigEndian w n) h
 
--- Before the first turn no byte is written.
+-- before the first turn no byte is written
 pub low-none : (d : List ℕ) (at w n : ℕ) → d ≡ lowBytes d at w n w
 unfolding lowBytes
 low-none d at w n = sym (ap (over d (at + w)) (drop-whole w n) ∙ over-nil d (at + w))
 
--- Before the first turn all of n is left.
+-- before the first turn all of n is left
 pub remains-whole : (w n : ℕ) → Remains w n w n
 unfolding Remains
 remains-whole w n = sym (ap (λ (x : List ℕ). bigEndian w n ++ x) (drop-whole w n) ∙ append-nil (bigEndian w n))
 
 module _ (w n left : ℕ) where
-  -- The lowest byte of what is left stands before the bytes that are written.
+  -- the lowest byte of what is left stands before the bytes that are written
   remains-open : (j : ℕ) → Remains w n (suc j) left → bigEndian w n
       ≡ bigEndian j (left / 256) ++ (left % 256 ∷ drop (suc j) (bigEndian w n))
   unfolding Remains bigEndian
   remains-open j r = r ∙ append-assoc (bigEndian j (left / 256)) (left % 256 ∷ []) (drop (suc j) (bigEndian w n))
 
-  -- The byte to be written next is the lowest byte of what is left.
+  -- the byte to be written next is the lowest byte of what is left
   next-byte : (j : ℕ) → Remains w n (suc j) left → drop j (bigEndian w n) ≡ left % 256 ∷ drop (suc j) (bigEndian w n)
   next-byte j r =
       ap (drop j) (remains-open j r) ∙ drop-at (bigEndian j (left / 256)) (left % 256 ∷ drop (suc j) (bigEndian w n)) j
       (length-bigEndian j (left / 256))
 
-  -- The same as `remains-more`, with the count as a successor.
+  -- the same as `remains-more`, with the count as a successor
   remains-suc : (j : ℕ) → Remains w n (suc j) left → Remains w n j (left / 256)
   unfolding Remains
   remains-suc j r = remains-open j r ∙ ap (λ (x : List ℕ). bigEndian j (left / 256) ++ x) (sym (next-byte j r))
 
-  -- The same as `low-more`, with the count as a successor.
+  -- the same as `low-more`, with the count as a successor
   low-suc : (d : List ℕ) (at j : ℕ) → at + j < length d → Remains w n (suc j) left
       → set (lowBytes d at w n (suc j)) (at + j) (left % 256) ≡ lowBytes d at w n j
   unfolding lowBytes
@@ -155,18 +155,18 @@ module _ (w n left : ℕ) where
       ∙ over-cons d (at + j) (drop (suc j) (bigEndian w n)) (left % 256) h
       ∙ ap (over d (at + j)) (sym (next-byte j r))
 
-  -- A turn leaves the number without its lowest byte.
+  -- a turn leaves the number without its lowest byte
   pub remains-more : (k : ℕ) → 0 < k → Remains w n k left → Remains w n (k - 1) (left / 256)
   remains-more zero p r = absurd (omega arith)
   remains-more (suc j) p r = rw (sub-one (suc j)) (remains-suc j r)
 
-  -- A turn writes the lowest byte of what is left.
+  -- a turn writes the lowest byte of what is left
   pub low-more : (d : List ℕ) (at k : ℕ) → 0 < k → at + k ≤ length d → Remains w n k left
       → set (lowBytes d at w n k) (at + (k - 1)) (left % 256) ≡ lowBytes d at w n (k - 1)
   low-more d at zero p h r = absurd (omega arith)
   low-more d at (suc j) p h r = rw (sub-one (suc j)) (low-suc d at j (omega arith) r)
 
--- After the last turn the whole number is written.
+-- after the last turn the whole number is written
 pub low-all : (d : List ℕ) (at w n k : ℕ) → k ≡ 0 → lowBytes d at w n k ≡ over d at (bigEndian w n)
 unfolding lowBytes
 low-all d at w n k e = ap (lowBytes d at w n) e ∙ ap (λ (p : ℕ). over d p (bigEndian w n)) (add-zero at)

@@ -5,10 +5,10 @@ use mathlib.Core.Option.{none, some}
 use Prim.Native.Nat.{ℕ}
 use native.Mathlib.Omega.{arith}
 
--- What two equal options hold is equal.
+-- what two equal options hold is equal
 pub some-same : (x y : List ℕ) → some x ≡ some y → x ≡ y
 some-same x y e = cc
 
--- An option that holds something is not empty.
+-- an option that holds something is not empty
 pub none-some : (x : List ℕ) → none ≡ some x → ⊥
 none-some x e = let z : _≡_ {A = ℕ} 0 1 = cc in omega arith

@@ -18,24 +18,24 @@ use Rattle.octets.specs.Write.{over, putAt, moved, movedUp}
 
 -- ---- one write
 
--- A write keeps the length.
+-- a write keeps the length
 pub over-length : (d : List ℕ) (at : ℕ) (s : List ℕ) → at + length s ≤ length d → length (over d at s) ≡ length d
 unfolding over
 over-length d at s h = simp (length-append, length-take, length-drop) (omega arith)
 
--- No byte written changes nothing.
+-- no byte written changes nothing
 pub over-nil : (d : List ℕ) (at : ℕ) → over d at [] ≡ d
 unfolding over
 over-nil d at = rw add-zero (take-append-drop at d)
 
--- What was written stands at its place.
+-- what was written stands at its place
 pub over-has : (d : List ℕ) (at : ℕ) (s : List ℕ) → at + length s ≤ length d → Has (over d at s) at s
 unfolding over Has part
 over-has d at s h =
     ap (take (length s)) (drop-at (take at d) (s ++ drop (at + length s) d) at (length-take-le at d (omega arith)))
     ∙ take-at s (drop (at + length s) d) (length s) refl
 
--- A part before the place stays.
+-- a part before the place stays
 pub over-before : (d : List ℕ) (at : ℕ) (s : List ℕ) (p n : ℕ) → at + length s ≤ length d → p + n ≤ at → part (over d at s) p n ≡ part d p n
 unfolding over part
 over-before d at s p n h l =
@@ -49,7 +49,7 @@ over-before d at s p n h l =
     ∙ ap (take n) u
     ∙ take-take n (at - p) (drop p d) (omega arith)
 
--- What follows the written bytes stays.
+-- what follows the written bytes stays
 pub over-after : (d : List ℕ) (at : ℕ) (s : List ℕ) (p : ℕ) → at + length s ≤ length d → at + length s ≤ p → drop p (over d at s) ≡ drop p d
 unfolding over
 over-after d at s p h l =
@@ -63,24 +63,24 @@ over-after d at s p h l =
     ∙ drop-drop (p - (at + length s)) (at + length s) d
     ∙ ap (λ (m : ℕ). drop m d) e
 
--- Bytes that stand before the place still stand there.
+-- bytes that stand before the place still stand there
 pub over-keeps : (d : List ℕ) (at : ℕ) (s : List ℕ) (p : ℕ) (t : List ℕ) → at + length s ≤ length d → p + length t ≤ at → Has d p t
     → Has (over d at s) p t
 unfolding Has
 over-keeps d at s p t h l k = over-before d at s p (length t) h l ∙ k
 
--- Bytes that stand after the written ones still stand there.
+-- bytes that stand after the written ones still stand there
 pub over-leaves : (d : List ℕ) (at : ℕ) (s : List ℕ) (p : ℕ) (t : List ℕ) → at + length s ≤ length d → at + length s ≤ p → Has d p t
     → Has (over d at s) p t
 unfolding Has part
 over-leaves d at s p t h l k = ap (take (length t)) (over-after d at s p h l) ∙ k
 
--- A list is what it has at its front and what follows that.
+-- a list is what it has at its front and what follows that
 pub has-front : (d s : List ℕ) → Has d 0 s → d ≡ s ++ drop (length s) d
 unfolding Has part
 has-front d s h = sym (take-append-drop (length s) d) ∙ ap (λ (x : List ℕ). x ++ drop (length s) d) h
 
--- A byte before the place stays.
+-- a byte before the place stays
 pub over-getD : (d : List ℕ) (at : ℕ) (s : List ℕ) (p : ℕ) → at ≤ length d → p < at → getD (over d at s) p 0 ≡ getD d p 0
 unfolding over
 over-getD d at s p h l = List·getD-append (take at d) (s ++ drop (at + length s) d) 0 p (simp length-take (omega arith))
@@ -88,7 +88,7 @@ over-getD d at s p h l = List·getD-append (take at d) (s ++ drop (at + length s
 
 -- ---- one write after another
 
--- A byte set just before what was written is written with it.
+-- a byte set just before what was written is written with it
 pub over-cons : (d : List ℕ) (at : ℕ) (s : List ℕ) (x : ℕ) → at < length d → set (over d (suc at) s) at x ≡ over d at (x ∷ s)
 unfolding over
 over-cons d at s x h =
@@ -99,19 +99,19 @@ over-cons d at s x h =
     ∙ set-at (take at d) (getD d at 0) rest x at (length-take-le at d (omega arith))
     ∙ ap (λ (k : ℕ). take at d ++ (x ∷ (s ++ drop k d))) e
 
--- The definition of `over`, as an equation.
+-- the definition of `over`, as an equation
 over-open : (d : List ℕ) (at : ℕ) (s : List ℕ) → over d at s ≡ take at d ++ (s ++ drop (at + length s) d)
 unfolding over
 over-open d at s = refl
 
--- Up to the end of what was written, a write gives the bytes before the place and then s.
+-- up to the end of what was written, a write gives the bytes before the place and then s
 over-front : (d : List ℕ) (at : ℕ) (s : List ℕ) → length (take at d ++ s) ≡ at + length s
     → take (at + length s) (over d at s) ≡ take at d ++ s
 over-front d at s e =
     ap (take (at + length s)) (over-open d at s ∙ sym (append-assoc (take at d) s (drop (at + length s) d)))
     ∙ take-at (take at d ++ s) (drop (at + length s) d) (at + length s) e
 
--- One piece written right after another is the two written together.
+-- one piece written right after another is the two written together
 pub over-append : (d : List ℕ) (at : ℕ) (s t : List ℕ) → at + length s ≤ length d
     → over (over d at s) (at + length s) t ≡ over d at (s ++ t)
 over-append d at s t h =
@@ -128,18 +128,18 @@ over-append d at s t h =
 
 -- ---- what a write leaves alone
 
--- d′ is d but for the bytes from `from` up to `to`.
+-- d′ is d but for the bytes from `from` up to `to`
 pub record Kept (d d′ : List ℕ) (from to : ℕ) : Type 0 where
   pub long : length d′ ≡ length d
   pub before : (p : ℕ) (t : List ℕ) → p + length t ≤ from → Has d p t → Has d′ p t
   pub after : (p : ℕ) → to ≤ p → drop p d′ ≡ drop p d
 
--- Bytes that stand after the changed ones still stand there.
+-- bytes that stand after the changed ones still stand there
 pub kept-has : (d d′ : List ℕ) (from to p : ℕ) (t : List ℕ) → Kept d d′ from to → to ≤ p → Has d p t → Has d′ p t
 unfolding Has part
 kept-has d d′ from to p t k l h = ap (take (length t)) (k .after p l) ∙ h
 
--- A write changes its own bytes only.
+-- a write changes its own bytes only
 pub kept-over : (d : List ℕ) (at : ℕ) (s : List ℕ) → at + length s ≤ length d → Kept d (over d at s) at (at + length s)
 kept-over d at s h = record {
   long = over-length d at s h;
@@ -147,11 +147,11 @@ kept-over d at s h = record {
   after = λ p l. over-after d at s p h l;
 }
 
--- What is not written is kept.
+-- what is not written is kept
 pub kept-self : (d : List ℕ) (from to : ℕ) → Kept d d from to
 kept-self d from to = record { long = refl; before = λ p t l k. k; after = λ p l. refl }
 
--- Two changes within the same bounds are one.
+-- two changes within the same bounds are one
 pub kept-join : (d d′ d″ : List ℕ) (from to from′ to′ a b : ℕ) → Kept d d′ from to → Kept d′ d″ from′ to′
     → a ≤ from → a ≤ from′ → to ≤ b → to′ ≤ b → Kept d d″ a b
 kept-join d d′ d″ from to from′ to′ a b k l h i j m = record {
@@ -162,17 +162,17 @@ kept-join d d′ d″ from to from′ to′ a b k l h i j m = record {
 
 -- ---- a write where it fits
 
--- What fits is written.
+-- what fits is written
 pub put-fits : (d : List ℕ) (at : ℕ) (s : List ℕ) → at + length s ≤ length d → putAt d at s ≡ over d at s
 unfolding putAt
 put-fits d at s h = rw (le-leb (at + length s) (length d) h)
 
--- What does not fit is not written.
+-- what does not fit is not written
 pub put-not : (d : List ℕ) (at : ℕ) (s : List ℕ) → length d < at + length s → putAt d at s ≡ d
 unfolding putAt
 put-not d at s h = rw (lt-leb (at + length s) (length d) h)
 
--- The length is kept, whether s fits or not.
+-- the length is kept, whether s fits or not
 pub put-length : (d : List ℕ) (at : ℕ) (s : List ℕ) → length (putAt d at s) ≡ length d
 unfolding putAt
 put-length d at s =
@@ -181,22 +181,22 @@ put-length d at s =
 
 -- ---- a loop that writes
 
--- d with the first i bytes of s written over it from `at` on.
+-- d with the first i bytes of s written over it from `at` on
 unfoldable pub written : List ℕ → ℕ → List ℕ → ℕ → List ℕ
 written d at s i = paste d at s i
 
--- Before the first byte nothing is written.
+-- before the first byte nothing is written
 pub written-none : (d : List ℕ) (at : ℕ) (s : List ℕ) → d ≡ written d at s 0
 unfolding written
 written-none d at s = paste-zero d at s
 
--- One byte more is written.
+-- one byte more is written
 pub written-more : (d : List ℕ) (at : ℕ) (s : List ℕ) (i : ℕ) → at + i < length d → i < length s
     → set (written d at s i) (at + i) (getD s i 0) ≡ written d at s (i + 1)
 unfolding written
 written-more d at s i h k = paste-suc d at s i 0 h k ∙ ap (paste d at s) (sym (add-one i))
 
--- After the last byte the whole of s is written.
+-- after the last byte the whole of s is written
 pub written-all : (d : List ℕ) (at : ℕ) (s : List ℕ) (i : ℕ) → i ≡ length s → written d at s i ≡ over d at s
 unfolding written over
 written-all d at s i e =
@@ -206,17 +206,17 @@ written-all d at s i e =
 
 -- ---- bytes moved up
 
--- Bytes that are there and fit are moved.
+-- bytes that are there and fit are moved
 pub moved-fits : (d : List ℕ) (from to by : ℕ) → from ≤ to → to + by ≤ length d → movedUp d from to by ≡ moved d from to by
 unfolding movedUp
 moved-fits d from to by h l = rw (le-leb from to h, le-leb (to + by) (length d) l)
 
--- Where `to` is before `from` nothing is moved.
+-- where `to` is before `from` nothing is moved
 pub moved-no-bytes : (d : List ℕ) (from to by : ℕ) → to < from → movedUp d from to by ≡ d
 unfolding movedUp
 moved-no-bytes d from to by h = rw (lt-leb from to h)
 
--- Where there is no room nothing is moved.
+-- where there is no room nothing is moved
 pub moved-no-room : (d : List ℕ) (from to by : ℕ) → length d < to + by → movedUp d from to by ≡ d
 unfolding movedUp
 moved-no-room d from to by h = rw (lt-leb (to + by) (length d) h) (cond-and-false (leb from to))
@@ -225,7 +225,7 @@ moved-no-room d from to by h = rw (lt-leb (to + by) (length d) h) (cond-and-fals
     cond-and-false true = refl
     cond-and-false false = refl
 
--- A move keeps the length.
+-- a move keeps the length
 pub moved-length : (d : List ℕ) (from to by : ℕ) → from ≤ to → to + by ≤ length d → length (moved d from to by) ≡ length d
 unfolding moved
 moved-length d from to by h l = over-length d (from + by) (part d from (to - from))
@@ -233,12 +233,12 @@ moved-length d from to by h l = over-length d (from + by) (part d from (to - fro
 
 -- ---- a loop that moves bytes up, the last first
 
--- Before the first turn nothing is moved.
+-- before the first turn nothing is moved
 pub moved-none : (d : List ℕ) (to by : ℕ) → d ≡ moved d to to by
 unfolding moved part
 moved-none d to by = let e : to - to ≡ 0 = omega arith in rw e (sym (over-nil d (to + by)))
 
--- One byte more is moved, with the place named by its successor.
+-- one byte more is moved, with the place named by its successor
 moved-suc : (d : List ℕ) (j to by : ℕ) → j < to → to + by ≤ length d
     → set (moved d (suc j) to by) (j + by) (getD (moved d (suc j) to by) j 0) ≡ moved d j to by
 unfolding moved part
@@ -253,7 +253,7 @@ moved-suc d j to by h l =
     ∙ over-cons d (j + by) s (getD d j 0) (omega arith)
     ∙ ap (over d (j + by)) (sym c)
 
--- One byte more is moved: the byte before those that were moved is still the old one.
+-- one byte more is moved: the byte before those that were moved is still the old one
 pub moved-more : (d : List ℕ) (i to by : ℕ) → 0 < i → i ≤ to → to + by ≤ length d
     → set (moved d i to by) ((i - 1) + by) (getD (moved d i to by) (i - 1) 0) ≡ moved d (i - 1) to by
 moved-more d zero to by p h l = absurd (omega arith)

@@ -14,11 +14,11 @@ use Rattle.octets.proofs.BytesLaws.{same-eq, same-refl, T-of}
 
 -- ---- what the test says
 
--- Lists that are the same are equal.
+-- lists that are the same are equal
 pub same-equal : (x y : List ℕ) → same x y ≡ true → x ≡ y
 same-equal x y e = same-eq x y (T-of refl e)
 
--- A list is the same as itself.
+-- a list is the same as itself
 pub same-self : (x : List ℕ) → same x x ≡ true
 same-self x = go (same x x) (same-refl x)
   where
@@ -26,11 +26,11 @@ same-self x = go (same x x) (same-refl x)
     go true h = refl
     go false h = absurd h
 
--- Equal lists are the same.
+-- equal lists are the same
 pub equal-same : (x y : List ℕ) → x ≡ y → same x y ≡ true
 equal-same x y e = rw e (same-self y)
 
--- Lists that are not equal are not the same.
+-- lists that are not equal are not the same
 pub not-same : (x y : List ℕ) → (x ≡ y → ⊥) → same x y ≡ false
 not-same x y n = go (same x y) refl
   where
@@ -40,22 +40,22 @@ not-same x y n = go (same x y) refl
 
 -- ---- a loop that compares, the last byte first
 
--- A test that does not hold, as the second of two.
+-- a test that does not hold, as the second of two
 and-false : (t : Bool) → (t && false) ≡ false
 and-false true = refl
 and-false false = refl
 
--- A test that holds, as the second of two.
+-- a test that holds, as the second of two
 and-true : (t : Bool) → (t && true) ≡ t
 and-true true = refl
 and-true false = refl
 
--- Three tests are taken together in either way.
+-- three tests are taken together in either way
 and-assoc : (a b c : Bool) → (a && (b && c)) ≡ ((a && b) && c)
 and-assoc true b c = refl
 and-assoc false b c = refl
 
--- Two lists of different lengths are not the same.
+-- two lists of different lengths are not the same
 pub same-long : (a b : List ℕ) → (length a ≡ length b → ⊥) → same a b ≡ false
 unfolding same
 same-long [] [] h = absurd (h refl)
@@ -63,7 +63,7 @@ same-long [] (y ∷ b) h = refl
 same-long (x ∷ a) [] h = refl
 same-long (x ∷ a) (y ∷ b) h = rw (same-long a b (λ e. h (ap suc e))) (and-false (eqb x y))
 
--- The same as `same-last`, with the count as a successor.
+-- the same as `same-last`, with the count as a successor
 same-snoc : (i : ℕ) (a b : List ℕ) → i < length a → i < length b
     → same (take (suc i) a) (take (suc i) b) ≡ (same (take i a) (take i b) && eqb (getD a i 0) (getD b i 0))
 unfolding same
@@ -76,37 +76,37 @@ same-snoc (suc i) (x ∷ a) (y ∷ b) ha hb =
     ap (λ (t : Bool). eqb x y && t) (same-snoc i a b (omega arith) (omega arith))
     ∙ and-assoc (eqb x y) (same (take i a) (take i b)) (eqb (getD a i 0) (getD b i 0))
 
--- The first i + 1 bytes are the same where the first i are and the last is.
+-- the first i + 1 bytes are the same where the first i are and the last is
 pub same-last : (a b : List ℕ) (i : ℕ) → i < length a → i < length b
     → same (take (i + 1) a) (take (i + 1) b) ≡ (same (take i a) (take i b) && eqb (getD a i 0) (getD b i 0))
 same-last a b i ha hb = rw (add-one i) (same-snoc i a b ha hb)
 
--- Before the first turn of the loop all is to be compared.
+-- before the first turn of the loop all is to be compared
 pub same-begin : (a b : List ℕ) → length a ≡ length b → same a b ≡ same (take (length a) a) (take (length a) b)
 same-begin a b e = sym (ap₂ same (take-length a) (take-all (length a) b (omega arith)))
 
 module _ (a b : List ℕ) (i : ℕ) (pos : 0 < i) (ha : i ≤ length a) (hb : i ≤ length b) where
-  -- The first i bytes are the same where those before the last are and the last is.
+  -- the first i bytes are the same where those before the last are and the last is
   same-turn : same (take i a) (take i b) ≡ (same (take (i - 1) a) (take (i - 1) b) && eqb (getD a (i - 1) 0) (getD b (i - 1) 0))
   same-turn =
       let e : i ≡ (i - 1) + 1 = omega arith in
       ap (λ (k : ℕ). same (take k a) (take k b)) e ∙ same-last a b (i - 1) (omega arith) (omega arith)
 
-  -- Where the last of the first i bytes is the same, those before it decide.
+  -- where the last of the first i bytes is the same, those before it decide
   pub same-next : getD a (i - 1) 0 ≡ getD b (i - 1) 0 → same (take i a) (take i b) ≡ same (take (i - 1) a) (take (i - 1) b)
   same-next e =
       same-turn
       ∙ ap (λ (t : Bool). same (take (i - 1) a) (take (i - 1) b) && t) (eq-eqb (getD a (i - 1) 0) (getD b (i - 1) 0) e)
       ∙ and-true (same (take (i - 1) a) (take (i - 1) b))
 
-  -- Where the last of the first i bytes differs, they are not the same.
+  -- where the last of the first i bytes differs, they are not the same
   pub same-differ : (getD a (i - 1) 0 ≡ getD b (i - 1) 0 → ⊥) → same (take i a) (take i b) ≡ false
   same-differ e =
       same-turn
       ∙ ap (λ (t : Bool). same (take (i - 1) a) (take (i - 1) b) && t) (ne-eqb (getD a (i - 1) 0) (getD b (i - 1) 0) e)
       ∙ and-false (same (take (i - 1) a) (take (i - 1) b))
 
--- Where no byte is left to compare, the two are the same.
+-- where no byte is left to compare, the two are the same
 pub same-end : (a b : List ℕ) (i : ℕ) → i ≡ 0 → same (take i a) (take i b) ≡ true
 unfolding same
 same-end a b i e = ap (λ (k : ℕ). same (take k a) (take k b)) e
@@ -114,20 +114,20 @@ same-end a b i e = ap (λ (k : ℕ). same (take k a) (take k b)) e
 -- ---- whether both begin with the same n bytes
 
 module _ (a b : List ℕ) (n : ℕ) where
-  -- Where the first has fewer bytes it does not.
+  -- where the first has fewer bytes it does not
   pub start-short-first : length a < n → (leb n (length a) && (leb n (length b) && same (take n a) (take n b))) ≡ false
   start-short-first h = rw (lt-leb n (length a) h)
 
-  -- Nor does the second where it has fewer.
+  -- nor does the second where it has fewer
   pub start-short-second : length b < n → (leb n (length a) && (leb n (length b) && same (take n a) (take n b))) ≡ false
   start-short-second h = rw (lt-leb n (length b) h) (and-false (leb n (length a)))
 
-  -- Where both have so many, those bytes decide.
+  -- where both have so many, those bytes decide
   pub start-both : n ≤ length a → n ≤ length b → (leb n (length a) && (leb n (length b) && same (take n a) (take n b)))
       ≡ same (take n a) (take n b)
   start-both h k = rw (le-leb n (length a) h, le-leb n (length b) k)
 
-  -- So what was answered to the test says whether those bytes are the same.
+  -- so what was answered to the test says whether those bytes are the same
   pub start-answer : {r : Bool} → n ≤ length a → n ≤ length b → r ≡ (leb n (length a) && (leb n (length b) && same (take n a) (take n b)))
       → r ≡ same (take n a) (take n b)
   start-answer h k e = e ∙ start-both h k

@@ -14,17 +14,17 @@ use Rattle.octets.proofs.Tests.{and-left, and-right, and-both, no-flag}
 
 -- ---- by the first byte
 
--- A byte b first: none stands before it.
+-- a byte b first: none stands before it
 pub before-this : (b x : ℕ) (xs : List ℕ) → eqb x b ≡ true → bytesBefore b (x ∷ xs) ≡ 0
 unfolding bytesBefore
 before-this b x xs e = rw (e, bytesBefore)
 
--- Another byte first: one more than in the rest.
+-- another byte first: one more than in the rest
 pub before-other : (b x : ℕ) (xs : List ℕ) → eqb x b ≡ false → bytesBefore b (x ∷ xs) ≡ suc (bytesBefore b xs)
 unfolding bytesBefore
 before-other b x xs e = rw (e, bytesBefore)
 
--- There are no more of them than the list has.
+-- there are no more of them than the list has
 pub before-le : (b : ℕ) (s : List ℕ) → bytesBefore b s ≤ length s
 unfolding bytesBefore
 before-le b [] = omega arith
@@ -37,24 +37,24 @@ before-le b (x ∷ xs) = go (eqb x b) (before-le b xs)
 -- ---- from a place on, as a loop takes it
 
 module _ (b : ℕ) (s : List ℕ) (i : ℕ) where
-  -- Another byte at the place: one more than from the next place on.
+  -- another byte at the place: one more than from the next place on
   pub before-next : i < length s → (getD s i 0 ≡ b → ⊥) → bytesBefore b (drop i s) ≡ suc (bytesBefore b (drop (i + 1) s))
   unfolding bytesBefore
   before-next h e = rw (add-one, drop-cons s i 0 h, ne-eqb (getD s i 0) b e, bytesBefore)
 
-  -- A byte b at the place: none.
+  -- a byte b at the place: none
   pub before-stop : i < length s → getD s i 0 ≡ b → bytesBefore b (drop i s) ≡ 0
   unfolding bytesBefore
   before-stop h e = rw (drop-cons s i 0 h, eq-eqb (getD s i 0) b e, bytesBefore)
 
-  -- The end at the place, or before it: none.
+  -- the end at the place, or before it: none
   pub before-end : length s ≤ i → bytesBefore b (drop i s) ≡ 0
   unfolding bytesBefore
   before-end h = rw (drop-of-length-le s h)
 
 -- ---- a byte that stands nowhere
 
--- A byte with a property that b has not is another.
+-- a byte with a property that b has not is another
 pub other-by : (f : ℕ → Bool) (b x : ℕ) → f b ≡ false → f x ≡ true → not (eqb x b) ≡ true
 other-by f b x n e = go (eqb x b) refl
   where
@@ -63,28 +63,28 @@ other-by f b x n e = go (eqb x b) refl
     go false i = refl
 
 module _ (b x : ℕ) (xs : List ℕ) where
-  -- One byte more, which is not b.
+  -- one byte more, which is not b
   pub without-more : not (eqb x b) ≡ true → without b xs ≡ true → without b (x ∷ xs) ≡ true
   unfolding without
   without-more e h = and-both (not (eqb x b)) (without b xs) e h
 
-  -- The first byte is another.
+  -- the first byte is another
   pub without-first : without b (x ∷ xs) ≡ true → eqb x b ≡ false
   unfolding without
   without-first h = not-true (eqb x b) (and-left (not (eqb x b)) (without b xs) h)
 
-  -- So are those after it.
+  -- so are those after it
   pub without-rest : without b (x ∷ xs) ≡ true → without b xs ≡ true
   unfolding without
   without-rest h = and-right (not (eqb x b)) (without b xs) h
 
--- Two texts without b, one after the other.
+-- two texts without b, one after the other
 pub without-append : (b : ℕ) (l r : List ℕ) → without b l ≡ true → without b r ≡ true → without b (l ++ r) ≡ true
 without-append b [] r e f = f
 without-append b (x ∷ xs) r e f =
     without-more b x (xs ++ r) (ap not (without-first b x xs e)) (without-append b xs r (without-rest b x xs e) f)
 
--- A text without b, then b: all of the text stands before it.
+-- a text without b, then b: all of the text stands before it
 pub before-all : (b : ℕ) (l r : List ℕ) → without b l ≡ true → bytesBefore b (l ++ (b ∷ r)) ≡ length l
 before-all b [] r e = before-this b b r (eq-eqb b b refl)
 before-all b (x ∷ xs) r e = before-other b x (xs ++ (b ∷ r)) (without-first b x xs e) ∙ ap suc (before-all b xs r (without-rest b x xs e))

@@ -20,53 +20,53 @@ use Rattle.request.specs.Request.{Request, wellFormed, listedAmong, isLi
 -- ---- the arguments
 
 module _ (q : Request) where
-  -- Another verdict is malformed.
+  -- another verdict is malformed
   pub no-verdict : 2 < q .verdict → false ≡ wellFormed q
   unfolding wellFormed isVerdict
   no-verdict h = sym (rw (lt-leb (q .verdict) 2 h))
 
-  -- So is another mode.
+  -- so is another mode
   pub no-mode : q .verdict ≤ 2 → highestMode < q .mode → false ≡ wellFormed q
   unfolding wellFormed isVerdict
   no-mode h k = sym (rw (le-leb (q .verdict) 2 h, lt-leb (q .mode) highestMode k))
 
-  -- So is an id of another size.
+  -- so is an id of another size
   pub no-id : q .verdict ≤ 2 → q .mode ≤ highestMode → (length (q .id) ≡ idSize → ⊥) → false ≡ wellFormed q
   unfolding wellFormed isVerdict
   no-id h k l = sym (rw (le-leb (q .verdict) 2 h, le-leb (q .mode) highestMode k, ne-eqb (length (q .id)) idSize l))
 
   module _ (h : q .verdict ≤ 2) (k : q .mode ≤ highestMode) (l : length (q .id) ≡ idSize) where
-    -- Else the identifiers tell, and the length of the list.
+    -- else the identifiers tell, and the length of the list
     texts-left : wellFormed q
         ≡ (isFay (q .fay) && (isTerminal (q .terminal) && (resourceOk (q .resource) && eqb (length (q .revoked) % idSize) 0)))
     unfolding wellFormed isVerdict
     texts-left = rw (le-leb (q .verdict) 2 h, le-leb (q .mode) highestMode k, eq-eqb (length (q .id)) idSize l)
 
-    -- A text that is no fay id is malformed.
+    -- a text that is no fay id is malformed
     pub no-fay : isFay (q .fay) ≡ false → false ≡ wellFormed q
     no-fay e = sym (texts-left ∙ rw e)
 
     module _ (e : isFay (q .fay) ≡ true) where
-      -- So is one that is no terminal id.
+      -- so is one that is no terminal id
       pub no-terminal : isTerminal (q .terminal) ≡ false → false ≡ wellFormed q
       no-terminal f = sym (texts-left ∙ rw (e, f))
 
-      -- So is one that is no resource id.
+      -- so is one that is no resource id
       pub no-resource : isTerminal (q .terminal) ≡ true → resourceOk (q .resource) ≡ false → false ≡ wellFormed q
       no-resource f g = sym (texts-left ∙ rw (e, f, g))
 
-      -- Else the length of the list tells.
+      -- else the length of the list tells
       pub list-left : isTerminal (q .terminal) ≡ true → resourceOk (q .resource) ≡ true → eqb (length (q .revoked) % idSize) 0
           ≡ wellFormed q
       list-left f g = sym (texts-left ∙ rw (e, f, g))
 
   module _ (w : wellFormed q ≡ true) where
-    -- The mode of well-formed arguments is one of the four.
+    -- the mode of well-formed arguments is one of the four
     pub formed-mode : q .mode ≤ highestMode
     unfolding wellFormed
     formed-mode = leb-true (q .mode) highestMode (and-left (leb (q .mode) highestMode) _ (and-right (isVerdict (q .verdict)) _ w))
 
-    -- Their resource is a resource id.
+    -- their resource is a resource id
     pub formed-resource : resourceOk (q .resource) ≡ true
     unfolding wellFormed
     formed-resource =
@@ -77,17 +77,17 @@ module _ (q : Request) where
 
 -- ---- the list of ids
 
--- The whole list is looked through.
+-- the whole list is looked through
 pub listed-begin : (revoked id : List ℕ) → isListed revoked id ≡ listedAmong revoked id (length revoked / 16)
 unfolding isListed
 listed-begin revoked id = refl
 
--- No id is before the first.
+-- no id is before the first
 pub listed-none : (revoked id : List ℕ) (i : ℕ) → i ≤ 0 → listedAmong revoked id i ≡ false
 unfolding listedAmong
 listed-none revoked id i h = let k : i ≡ 0 = omega arith in ap (listedAmong revoked id) k
 
--- The last of the first ids, and then those before it.
+-- the last of the first ids, and then those before it
 listed-suc : (revoked id : List ℕ) (j : ℕ) (t : Bool) → same (part revoked (idSize * j) idSize) id ≡ t
     → listedAmong revoked id (suc j) ≡ elim t [ true ↦ true | false ↦ listedAmong revoked id j ]
 unfolding listedAmong
@@ -95,17 +95,17 @@ listed-suc revoked id j t e = rw (e, listedAmong)
 
 module _ (revoked id : List ℕ) (i : ℕ) {b : Bool} (h : 0 < i)
     (e : b ≡ same (take (16 * (i - 1) + 16 - 16 * (i - 1)) (drop (16 * (i - 1)) revoked)) id) where
-  -- The code compares the last of the first i ids.
+  -- the code compares the last of the first i ids
   last-of : (t : Bool) → b ≡ t → listedAmong revoked id i ≡ elim t [ true ↦ true | false ↦ listedAmong revoked id (i - 1) ]
   last-of t f =
       let k : i ≡ suc (i - 1) = omega arith in
       ap (listedAmong revoked id) k
       ∙ listed-suc revoked id (i - 1) t (ap (λ (x : List ℕ). same x id) (sym (lent-part revoked (16 * (i - 1)) 16)) ∙ sym e ∙ f)
 
-  -- Where it is the id, the id is among them.
+  -- where it is the id, the id is among them
   pub listed-hit : b ≡ true → listedAmong revoked id i ≡ true
   listed-hit f = last-of true f
 
-  -- Else those before it count.
+  -- else those before it count
   pub listed-next : b ≡ false → listedAmong revoked id i ≡ listedAmong revoked id (i - 1)
   listed-next f = last-of false f

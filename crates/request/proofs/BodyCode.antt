@@ -14,15 +14,15 @@ use Rattle.image.proofs.Laws.{read-in, check-inside}
 use Rattle.request.specs.Code.{BodyFits}
 
 module _ (s id : List ℕ) (n end at len : ℕ) (f : Fields) (bytes : AreBytes s) (e : Sound n end (Body at len f) ≡ checkOf s id) where
-  -- What is known of the body.
+  -- what is known of the body
   known : HeldFits s (Body at len f)
   known = subst (CheckFits s) (sym e) (check-inside s id bytes) .1
 
-  -- It lies in the image.
+  -- it lies in the image
   pub held-inside : at + len ≤ length s
   held-inside = known .0
 
-  -- Its identifiers lie in what the code lends of the image.
+  -- its identifiers lie in what the code lends of the image
   pub held-fits : BodyFits (take (at + len - at) (drop at s)) f
   held-fits =
       let b = read-in (part s at len) f (known .1) in

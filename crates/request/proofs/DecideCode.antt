@@ -30,7 +30,7 @@ use Rattle.request.specs.Decision.{revocationSteps, descriptorSteps, key
 use Rattle.request.specs.Decision.{matchedOn, decidedOn, factsIn, matchedIn, stepsOf, decisionOf, numbersOf}
 use Rattle.request.specs.Code.{appliesWith, applicabilityOf, signedBy}
 
--- The code compares a part that it lends.
+-- the code compares a part that it lends
 pub lent-same : (s t : List ℕ) (at n : ℕ) {b : Bool} → b ≡ same (take (at + n - at) (drop at s)) t → same (part s at n) t ≡ b
 lent-same s t at n e = ap (λ (x : List ℕ). same x t) (sym (lent-part s at n)) ∙ sym e
 
@@ -38,12 +38,12 @@ lent-same s t at n e = ap (λ (x : List ℕ). same x t) (sym (lent-part s at n))
 
 module _ (b : List ℕ) (f : Fields) (resource : List ℕ) (mode : ℕ) {t : Bool}
     (e : t ≡ same (take (f .terminal + terminalSize - f .terminal) (drop (f .terminal) b)) (take terminalSize resource)) where
-  -- None serves where the resource is another terminal's.
+  -- none serves where the resource is another terminal's
   pub matched-other : t ≡ false → Nothing ≡ matchedOn b f resource mode
   unfolding matchedOn
   matched-other g = sym (rw (lent-same b (take terminalSize resource) (f .terminal) terminalSize e ∙ g))
 
-  -- Else the search tells.
+  -- else the search tells
   pub matched-first : t ≡ true → {m : Matched} → m
       ≡ firstFrom b (take (length resource - levelsPlace) (drop levelsPlace resource)) mode (f .grants)
       (f .first) 0
@@ -56,11 +56,11 @@ module _ (b : List ℕ) (f : Fields) (resource : List ℕ) (mode : ℕ) {t : Boo
 
 -- ---- the stages
 
--- The number of an answer.
+-- the number of an answer
 abbrev answerOf : Decision → ℕ
 answerOf x = numbersOf x .answer
 
--- What the steps of a stage come to, of a body of which f was read: the first grant that serves is m.
+-- what the steps of a stage come to, of a body of which f was read: the first grant that serves is m
 pub on-descriptor : (b : List ℕ) (f : Fields) (fay terminal resource : List ℕ) (mode clock : ℕ) (m : Matched) {x : Applicability}
     → m ≡ matchedOn b f resource mode
     → Decides (mapped Refused (descriptorSteps (factsOf b f) fay terminal clock m)) (appliesWith m) x
@@ -70,18 +70,18 @@ on-descriptor b f fay terminal resource mode clock m e d =
     decided d
     ∙ ap (λ (n : Matched). inOrder (mapped Refused (descriptorSteps (factsOf b f) fay terminal clock n)) (appliesWith n)) e
 
--- What follows a stage: its refusal, or what is decided with the grant that serves.
+-- what follows a stage: its refusal, or what is decided with the grant that serves
 abbrev afterStage : (ℕ → ℕ → Decision) → Applicability → Decision
 afterStage k (Applies grant mask) = k grant mask
 afterStage k (Refused answer) = answer
 
 module _ (q : Request) (b : List ℕ) (f : Fields) where
-  -- What is decided with a grant that serves, by the key and the signature.
+  -- what is decided with a grant that serves, by the key and the signature
   abbrev signedWith : ℕ → ℕ → Decision
   signedWith grant mask =
       inOrder (keySteps (q .verdict) (q .window) (q .clock)) (answers.Granted grant mask (min (f .«not_after») (q .clock + q .session)))
 
-  -- The steps 9 to 13 and what follows them, by the first grant that serves.
+  -- the steps 9 to 13 and what follows them, by the first grant that serves
   descriptor-steps : (m : Matched) (k : ℕ → ℕ → Decision) (r : Decision) → ((grant mask : ℕ) → m ≡ IsAt grant mask → r ≡ k grant mask)
       → afterStage k (inOrder (mapped Refused (descriptorSteps (factsOf b f) (q .fay) (q .terminal) (q .clock) m)) (appliesWith m))
       ≡ inOrder (descriptorSteps (factsOf b f) (q .fay) (q .terminal) (q .clock) m) r
@@ -96,7 +96,7 @@ module _ (q : Request) (b : List ℕ) (f : Fields) where
       ∙ same-end (descriptorSteps (factsOf b f) (q .fay) (q .terminal) (q .clock) Nothing) answers.Insufficient r
       (λ a. absurd (false≢true (passed-by answerOf 13 (descriptorSteps (factsOf b f) (q .fay) (q .terminal) (q .clock) Nothing) a)))
 
-  -- What is decided on a body that is not revoked, by the stage.
+  -- what is decided on a body that is not revoked, by the stage
   on-stage : isListed (q .revoked) (q .id) ≡ false
       → afterStage signedWith (applicabilityOf b f (q .fay) (q .terminal) (q .resource) (q .mode) (q .clock)) ≡ decidedOn q b f
   unfolding decidedOn laterSteps revocationSteps applicabilityOf grantedBy inOrder orElse
@@ -108,18 +108,18 @@ module _ (q : Request) (b : List ℕ) (f : Fields) where
       ∙ sym (rw e (order-append (descriptorSteps (factsOf b f) (q .fay) (q .terminal) (q .clock) m) ks (grantedBy q (factsOf b f) m)))
 
   module _ (e : isListed (q .revoked) (q .id) ≡ false) where
-    -- Where a grant serves, what the key and the signature come to is decided.
+    -- where a grant serves, what the key and the signature come to is decided
     pub on-applies : (grant mask : ℕ) {x : Decision} → Applies grant mask
         ≡ applicabilityOf b f (q .fay) (q .terminal) (q .resource) (q .mode) (q .clock)
         → x ≡ signedWith grant mask → x ≡ decidedOn q b f
     on-applies grant mask a h = h ∙ ap (afterStage signedWith) a ∙ on-stage e
 
-    -- Else the refusal is.
+    -- else the refusal is
     pub on-refused : (x : Decision) → Refused x ≡ applicabilityOf b f (q .fay) (q .terminal) (q .resource) (q .mode) (q .clock) → x
         ≡ decidedOn q b f
     on-refused x a = ap (afterStage signedWith) a ∙ on-stage e
 
-  -- What is decided on a body that is revoked.
+  -- what is decided on a body that is revoked
   pub on-revoked : isListed (q .revoked) (q .id) ≡ true → answers.Revoked ≡ decidedOn q b f
   unfolding decidedOn laterSteps revocationSteps inOrder orElse
   on-revoked e = sym (rw e)
@@ -127,24 +127,24 @@ module _ (q : Request) (b : List ℕ) (f : Fields) where
 -- ---- the key and the signature
 
 module _ (grant mask after : ℕ) (e : Environment) where
-  -- There is no such key.
+  -- there is no such key
   pub signed-none : e .verdict ≡ noKey → answers.KeyInvalid ≡ signedBy grant mask after e
   unfolding signedBy keySteps isThat inOrder orElse
   signed-none h = sym (rw (eq-eqb (e .verdict) noKey h))
 
   module _ (h : e .verdict ≡ noKey → ⊥) where
-    -- The clock is not in its window.
+    -- the clock is not in its window
     pub signed-shut : keyOpen (e .window) (e .clock) ≡ false → answers.KeyInvalid ≡ signedBy grant mask after e
     unfolding signedBy keySteps isThat inOrder orElse
     signed-shut k = sym (rw (ne-eqb (e .verdict) noKey h, k))
 
     module _ (k : keyOpen (e .window) (e .clock) ≡ true) where
-      -- The signature is bad.
+      -- the signature is bad
       pub signed-bad : e .verdict ≡ bad → answers.BadSignature ≡ signedBy grant mask after e
       unfolding signedBy keySteps isThat inOrder orElse
       signed-bad l = sym (rw (ne-eqb (e .verdict) noKey h, k, eq-eqb (e .verdict) bad l))
 
-      -- The request is granted, up to an end.
+      -- the request is granted, up to an end
       pub signed-good : (e .verdict ≡ bad → ⊥) → {end : ℕ} → end ≡ min after (e .clock + e .session)
           → answers.Granted grant mask end ≡ signedBy grant mask after e
       unfolding signedBy keySteps isThat inOrder orElse
@@ -157,34 +157,34 @@ module _ (s : List ℕ) (q : Request) where
   abbrev decisionBy : ImageCheck → Decision
   decisionBy v = inOrder (stepsBy q (isSound v) (isHeld v) (factsIn s v) (matchedIn s q v)) (grantedBy q (factsIn s v) (matchedIn s q v))
 
-  -- What the steps come to, by the image's check, is the decision.
+  -- what the steps come to, by the image's check, is the decision
   by-check : {v : ImageCheck} → v ≡ checkOf s (q .id) → decisionBy v ≡ decisionOf s q
   unfolding decisionOf stepsOf
   by-check e = ap decisionBy e
 
-  -- Malformed arguments are refused first.
+  -- malformed arguments are refused first
   pub decide-malformed : wellFormed q ≡ false
       → answers.Malformed ≡ decisionOf s q
   unfolding stepsBy
   decide-malformed w = decided (fails w) ∙ by-check refl
 
   module _ (w : wellFormed q ≡ true) where
-    -- Then an image that is not sound.
+    -- then an image that is not sound
     pub decide-unsound : Unsound ≡ checkOf s (q .id) → answers.BadImage ≡ decisionOf s q
     unfolding stepsBy
     decide-unsound e = decided (passes w (fails refl)) ∙ by-check e
 
-    -- Then an id that is not held.
+    -- then an id that is not held
     pub decide-missing : {n end : ℕ} → Sound n end Missing ≡ checkOf s (q .id) → answers.NotFound ≡ decisionOf s q
     unfolding stepsBy
     decide-missing e = decided (passes w (passes refl (fails refl))) ∙ by-check e
 
-    -- Where the id is held, the steps on its body are left.
+    -- where the id is held, the steps on its body are left
     held-steps : (n end at len : ℕ) (f : Fields) → decisionBy (Sound n end (Body at len f)) ≡ decidedOn q (part s at len) f
     unfolding stepsBy decidedOn inOrder orElse
     held-steps n end at len f = rw w
 
-    -- They decide.
+    -- they decide
     pub decide-body : {n end at len : ℕ} {f : Fields} {x : Decision} → Sound n end (Body at len f) ≡ checkOf s (q .id)
         → x ≡ decidedOn q (take (at + len - at) (drop at s)) f → x ≡ decisionOf s q
     decide-body {n} {end} {at} {len} {f} e h =

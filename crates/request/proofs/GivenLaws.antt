@@ -16,12 +16,12 @@ use Rattle.request.proofs.ServingLaws.{first-serves}
 use Rattle.request.proofs.NumberLaws.{answerOf, decided-exactly, granted-exactly}
 use Rattle.request.proofs.UnderLaws.{all-stored}
 
--- What the numbers n grant to q, on a descriptor that is held.
+-- what the numbers n grant to q, on a descriptor that is held
 abbrev Given : List ℕ → Request → DecisionNumbers → Type 0
 Given s q n = (d : Descriptor) × Under s (q .id) (held d) × ((g : Grant) × FirstServes q d (n .grant) g × (n .mask ≡ unionOf (g ∷ [])))
     × (n .«session_end» ≡ min (d .payload .notAfter) (q .clock + q .session))
 
--- Where every step passes, what follows them is given.
+-- where every step passes, what follows them is given
 given : (s : List ℕ) (q : Request) (x : Stored) → Under s (q .id) x → AllPass (stepsFor q x) → Given s q (grantedFor q x)
 given s q badImage u a = absurd (false≢true (passed-by answerOf 16 (stepsFor q badImage) a))
 given s q notHeld u a = absurd (false≢true (passed-by answerOf 7 (stepsFor q notHeld) a))
@@ -30,7 +30,7 @@ given s q (held d) u a =
     (and-left _ true (passed-by answerOf 13 (stepsFor q (held d)) a)) in
     (d, u, (w .grant, record { place = w .place; there = w .there; serves = w .serves; first = w .first }, w .mine), refl)
 
--- `GrantedGives`.
+-- `GrantedGives`
 pub granted-gives : GrantedGives
 granted-gives s q b z =
     let k = all-stored s (q .id) b in

@@ -28,7 +28,7 @@ use Rattle.resource.proofs.Laws.{admits-text}
 
 -- ---- one grant
 
--- The pattern of a grant matches a resource id exactly where the first 45 bytes are the same and the levels below match.
+-- the pattern of a grant matches a resource id exactly where the first 45 bytes are the same and the levels below match
 grant-admits : (r : List ℕ) (g : Grant) (c : Bool) → GrantOk g → resourceOk r ≡ true
     → same (take terminalSize (g .pattern)) (take terminalSize r) ≡ c
     → admits (patternOf (g .pattern)) (pathOf r) ≡ (c && levelsMatch (drop levelsPlace (g .pattern)) (drop levelsPlace r))
@@ -36,7 +36,7 @@ grant-admits r g c o w t =
     admits-text (g .pattern) r (o .pattern) w
     ∙ ap (λ (c : Bool). c && levelsMatch (drop levelsPlace (g .pattern)) (drop levelsPlace r)) t
 
--- A grant that is seen in b serves a resource id of its terminal exactly where the grant itself serves.
+-- a grant that is seen in b serves a resource id of its terminal exactly where the grant itself serves
 serves-agree : (b t r : List ℕ) (m : ℕ) (g : Grant) (v : GrantSeen) → SeenAs b t g v → resourceOk r ≡ true → m < 4
     → same t (take terminalSize r) ≡ true
     → serves b (drop levelsPlace r) m v ≡ grantServes g m (pathOf r)
@@ -48,7 +48,7 @@ serves-agree b t r m g v f w h s =
     (ap₂ _&&_ (ap (λ (n : ℕ). eqb n 0) (f .pairs)) (ap (λ (x : List ℕ). levelsMatch x (drop levelsPlace r)) (f .below) ∙ sym whole)
     ∙ and-comm few (admits (patternOf (g .pattern)) (pathOf r)))
 
--- A grant of another terminal does not serve.
+-- a grant of another terminal does not serve
 other-serves : (b t r : List ℕ) (m : ℕ) (g : Grant) (v : GrantSeen) → SeenAs b t g v → resourceOk r ≡ true → same t (take terminalSize r)
     ≡ false
     → grantServes g m (pathOf r) ≡ false
@@ -58,14 +58,14 @@ other-serves b t r m g v f w s =
 
 -- ---- all grants
 
--- One grant that is read serves, or the next ones are searched.
+-- one grant that is read serves, or the next ones are searched
 first-step : (b r : List ℕ) (m n at next i : ℕ) (v : GrantSeen) → grantAt b at ≡ got v next
     → firstFrom b r m (suc n) at i ≡ orNext (serves b r m v) i (v .mask) (firstFrom b r m n next (i + 1))
 unfolding firstFrom
 first-step b r m n at next i v e = rw (firstFrom, e)
 
 module _ (b t r : List ℕ) (m : ℕ) (w : resourceOk r ≡ true) where
-  -- For a resource id of the terminal t, the search finds the first that serves of the grants that are read in turn.
+  -- for a resource id of the terminal t, the search finds the first that serves of the grants that are read in turn
   first-from : m < 4 → same t (take terminalSize r) ≡ true → {n at : ℕ} {gs : List Grant} → InTurn b t n at gs → (i : ℕ)
       → firstFrom b (drop levelsPlace r) m n at i ≡ firstServing gs m (pathOf r) i
   unfolding firstFrom
@@ -76,7 +76,7 @@ module _ (b t r : List ℕ) (m : ℕ) (w : resourceOk r ≡ true) where
       (f .mask)
       ∙ ap (orNext (grantServes g m (pathOf r)) i (maskOf (g .modes))) (first-from h s rest (i + 1))
 
-  -- For a resource id of another terminal no grant serves.
+  -- for a resource id of another terminal no grant serves
   first-none : same t (take terminalSize r) ≡ false → {n at : ℕ} {gs : List Grant} → InTurn b t n at gs → (i : ℕ)
       → firstServing gs m (pathOf r) i ≡ Nothing
   first-none s (no-more at) i = refl
@@ -84,7 +84,7 @@ module _ (b t r : List ℕ) (m : ℕ) (w : resourceOk r ≡ true) where
       ap (λ (c : Bool). orNext c i (maskOf (g .modes)) (firstServing gs m (pathOf r) (i + 1))) (other-serves b t r m g v f w s)
       ∙ first-none s rest (i + 1)
 
--- The first grant that serves in the encoding of a formed descriptor is the first of its grants that serves.
+-- the first grant that serves in the encoding of a formed descriptor is the first of its grants that serves
 pub matched-agree : (d : Descriptor) (r : List ℕ) (m : ℕ) → AreBytes (encode d) → Formed d → resourceOk r ≡ true → m < 4
     → matchedOn (encode d) (fieldsOf (descriptorView 0 d)) r m ≡ firstServing (d .payload .grants) m (pathOf r) 0
 unfolding matchedOn

@@ -28,20 +28,20 @@ use Rattle.request.specs.Decision.{Facts, stepsBy, grantedBy, factsOf, m
 
 -- ---- what is decided on a check
 
--- The decision by the steps: whether the image is sound and holds the id, the facts of the descriptor, and the first grant that serves.
+-- the decision by the steps: whether the image is sound and holds the id, the facts of the descriptor, and the first grant that serves
 abbrev pub decidedBy : Request → Bool → Bool → Facts → Matched → Decision
 decidedBy q sound held x m = inOrder (stepsBy q sound held x m) (grantedBy q x m)
 
--- The decision of a request of which the check of the image is v.
+-- the decision of a request of which the check of the image is v
 abbrev pub decidedIn : List ℕ → Request → ImageCheck → Decision
 decidedIn s q v = decidedBy q (isSound v) (isHeld v) (factsIn s v) (matchedIn s q v)
 
--- The decision is that on the check of the image.
+-- the decision is that on the check of the image
 pub decided-in : (s : List ℕ) (q : Request) (v : ImageCheck) → checkOf s (q .id) ≡ v → decisionOf s q ≡ decidedIn s q v
 unfolding decisionOf stepsOf
 decided-in s q v e = ap (decidedIn s q) e
 
--- Where the arguments are not well formed the answer is 15, whatever else is requestOf.
+-- where the arguments are not well formed the answer is 15, whatever else is requestOf
 pub malformed-first : (q : Request) (sound held : Bool) (x : Facts) (m : Matched) (r : Decision) → wellFormed q ≡ false
     → inOrder (stepsBy q sound held x m) r ≡ answers.Malformed
 unfolding stepsBy inOrder orElse
@@ -49,15 +49,15 @@ malformed-first q sound held x m r e = rw e
 
 -- ---- the body that is held
 
--- The fields of equal readings are equal.
+-- the fields of equal readings are equal
 fields-same : (f g : Fields) → Read f ≡ Read g → f ≡ g
 fields-same f g e = cc
 
--- The decision on a body that is held and of which f is read.
+-- the decision on a body that is held and of which f is read
 abbrev pub heldBy : Request → List ℕ → Fields → Decision
 heldBy q b f = decidedBy q true true (factsOf b f) (matchedOn b f (q .resource) (q .mode))
 
--- A request for the body b, which a sound image holds and of which f is read, is decided on b and f.
+-- a request for the body b, which a sound image holds and of which f is read, is decided on b and f
 pub decided-on-body : (s : List ℕ) (q : Request) (bs : List Row) (b : List ℕ) (f : Fields) → Holds s bs
     → bodyWith (q .id) bs ≡ some b → reading b ≡ Read f
     → decisionOf s q ≡ heldBy q b f
@@ -73,11 +73,11 @@ decided-on-body s q bs b f h e r =
 
 -- ---- no body is held
 
--- The decision on a sound image that does not hold the id.
+-- the decision on a sound image that does not hold the id
 abbrev pub missingBy : Request → Decision
 missingBy q = decidedBy q true false (record { notBefore = 0; notAfter = 0; fay = []; terminal = [] }) Nothing
 
--- A request for an id that a sound image does not hold is decided without a body.
+-- a request for an id that a sound image does not hold is decided without a body
 pub decided-on-none : (s : List ℕ) (q : Request) (bs : List Row) → Holds s bs → bodyWith (q .id) bs ≡ none → decisionOf s q ≡ missingBy q
 decided-on-none s q bs h e =
     let w = check-tells s (q .id) bs h in

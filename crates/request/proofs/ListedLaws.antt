@@ -12,7 +12,7 @@ use Rattle.octets.proofs.SameLaws.{same-equal, equal-same}
 use Rattle.request.specs.Request.{listedAmong, isListed}
 use Rattle.request.specs.Promises.{ListedExactly}
 
--- An id that is among the first n is one of them.
+-- an id that is among the first n is one of them
 listed-is : (revoked id : List ℕ) (n : ℕ) → listedAmong revoked id n ≡ true → (i : ℕ) × (i < n) × (part revoked (idSize * i) idSize ≡ id)
 unfolding listedAmong
 listed-is revoked id zero e = absurd (false≢true e)
@@ -25,7 +25,7 @@ listed-is revoked id (suc n) e = go (same (part revoked (idSize * n) idSize) id)
     go true t e k = (n, omega arith, same-equal (part revoked (idSize * n) idSize) id t)
     go false t e k = let r = k e in (r .0, omega (arith, r .1), r .2)
 
--- An id that is one of the first n is among them.
+-- an id that is one of the first n is among them
 is-listed : (revoked id : List ℕ) (n i : ℕ) → i < n → part revoked (idSize * i) idSize ≡ id → listedAmong revoked id n ≡ true
 unfolding listedAmong
 is-listed revoked id zero i h e = absurd (omega arith)
@@ -43,7 +43,7 @@ is-listed revoked id (suc n) i h e = go (same (part revoked (idSize * n) idSize)
       | no l ↦ k (omega arith) e
     ]
 
--- `ListedExactly`.
+-- `ListedExactly`
 pub listed-exactly : ListedExactly
 unfolding isListed
 listed-exactly revoked id = (

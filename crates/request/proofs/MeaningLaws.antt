@@ -24,22 +24,22 @@ use Rattle.request.proofs.HeldLaws.{decidedBy, malformed-first, decided
 use Rattle.request.proofs.ArgumentCode.{formed-mode, formed-resource}
 use Rattle.request.proofs.GrantLaws.{matched-agree}
 
--- What well-formed arguments say of the mode and the resource id.
+-- what well-formed arguments say of the mode and the resource id
 pub well-formed : (q : Request) → wellFormed q ≡ true → (q .mode < 4) × (resourceOk (q .resource) ≡ true)
 well-formed q e = (omega (arith, formed-mode q e), formed-resource q e)
 
--- The encoding of an allowed descriptor is read, and what is read is the descriptor's.
+-- the encoding of an allowed descriptor is read, and what is read is the descriptor's
 pub reading-encode : (d : Descriptor) → AreBytes (encode d) → Allowed d → reading (encode d) ≡ Read (fieldsOf (descriptorView 0 d))
 unfolding reading
 reading-encode d b o = ap readingOf (reads-exactly (encode d) b (descriptorView 0 d) .1 (d, o, refl, refl))
 
--- The facts that are read of the encoding of a formed descriptor are the descriptor's.
+-- the facts that are read of the encoding of a formed descriptor are the descriptor's
 facts-agree : (d : Descriptor) → Formed d → factsOf (encode d) (fieldsOf (descriptorView 0 d)) ≡ factsOfDescriptor d
 facts-agree d q =
     ap₂ (λ (f t : List ℕ). record { notBefore = d .payload .notBefore; notAfter = d .payload .notAfter; fay = f; terminal = t })
     (seen-handed d q .fay) (seen-handed d q .terminal)
 
--- A request for a descriptor that a sound image holds is decided on that descriptor, with the meaning of matching.
+-- a request for a descriptor that a sound image holds is decided on that descriptor, with the meaning of matching
 pub decided-on-descriptor : (s : List ℕ) (q : Request) (bs : List Row) (d : Descriptor) → Holds s bs → AreBytes (encode d) → Allowed d
     → bodyWith (q .id) bs ≡ some (encode d) → decisionOf s q ≡ decidedFor q d
 unfolding decidedFor

@@ -42,22 +42,22 @@ answerOf n = n .answer
 
 -- ---- the numbers by what is held
 
--- The numbers of a decision by the steps are those of the steps with their numbers.
+-- the numbers of a decision by the steps are those of the steps with their numbers
 by-numbers : (q : Request) (sound there : Bool) (x : Facts) (m : Matched)
     → numbersOf (decidedBy q sound there x m) ≡ inOrder (mapped numbersOf (stepsBy q sound there x m)) (numbersOf (grantedBy q x m))
 by-numbers q sound there x m = order-mapped numbersOf (stepsBy q sound there x m) (grantedBy q x m)
 
--- An image that a check calls unsound.
+-- an image that a check calls unsound
 unsound-numbers : (s : List ℕ) (q : Request) → checkOf s (q .id) ≡ Unsound → numbersOf (decisionOf s q) ≡ answerFor q badImage
 unfolding inOrder orElse stepsBy laterSteps wellFormed isVerdict resourceOk
 unsound-numbers s q e = ap numbersOf (decided-in s q Unsound e) ∙ by-numbers q false false (factsIn s Unsound) Nothing
 
--- A sound image that does not hold the id.
+-- a sound image that does not hold the id
 missing-numbers : (q : Request) → numbersOf (missingBy q) ≡ answerFor q notHeld
 unfolding inOrder orElse stepsBy laterSteps wellFormed isVerdict resourceOk
 missing-numbers q = by-numbers q true false (record { notBefore = 0; notAfter = 0; fay = []; terminal = [] }) Nothing
 
--- What is granted on a descriptor, where some grant of it serves.
+-- what is granted on a descriptor, where some grant of it serves
 granted-numbers : (q : Request) (d : Descriptor) → Allowed d → someServes (d .payload .grants) (q .mode) (pathOf (q .resource)) ≡ true
     → numbersOf (grantedBy q (factsOfDescriptor d) (firstServing (d .payload .grants) (q .mode) (pathOf (q .resource)) 0))
     ≡ grantedFor q (held d)
@@ -69,14 +69,14 @@ granted-numbers q d a e =
     ap (λ (m : Matched). numbersOf (grantedBy q (factsOfDescriptor d) m)) (found-first gs (q .mode) x 0 (a .formed .payload .grants) e)
     ∙ ap (λ (i : ℕ). numbersOf (grantedBy q (factsOfDescriptor d) (IsAt i (firstMask gs (q .mode) x)))) z
 
--- The steps on a descriptor that is held, with their numbers.
+-- the steps on a descriptor that is held, with their numbers
 held-steps : (q : Request) (d : Descriptor)
     → mapped numbersOf (stepsBy q true true (factsOfDescriptor d) (firstServing (d .payload .grants) (q .mode) (pathOf (q .resource)) 0))
     ≡ stepsFor q (held d)
 unfolding stepsBy laterSteps revocationSteps descriptorSteps keySteps wellFormed isVerdict isThat keyOpen resourceOk
 held-steps q d = rw (some-found (d .payload .grants) (q .mode) (pathOf (q .resource)) 0)
 
--- A descriptor that is held.
+-- a descriptor that is held
 held-numbers : (q : Request) (d : Descriptor) → Allowed d → numbersOf (decidedFor q d) ≡ answerFor q (held d)
 unfolding decidedFor
 held-numbers q d a =
@@ -87,7 +87,7 @@ held-numbers q d a =
     ∙ same-end (stepsFor q (held d)) r (grantedFor q (held d))
     (λ p. granted-numbers q d a (and-left _ true (passed-by answerOf 13 (stepsFor q (held d)) p)))
 
--- `DecidedExactly`.
+-- `DecidedExactly`
 pub decided-exactly : DecidedExactly
 decided-exactly s q badImage u = unsound-numbers s q (unsound s (q .id) u)
 decided-exactly s q notHeld u = ap numbersOf (decided-on-none s q (u .0) (u .1) (none-found s (q .id) u)) ∙ missing-numbers q
@@ -98,19 +98,19 @@ decided-exactly s q (held d) u =
 
 -- ---- the order of the steps
 
--- No step has the number 0.
+-- no step has the number 0
 never-zero : (q : Request) (x : Stored) → passesBy answerOf 0 (stepsFor q x) ≡ true
 never-zero q badImage = refl
 never-zero q notHeld = refl
 never-zero q (held d) = refl
 
--- What follows the steps has the number 0.
+-- what follows the steps has the number 0
 pub granted-zero : (q : Request) (x : Stored) → grantedFor q x .answer ≡ 0
 granted-zero q badImage = refl
 granted-zero q notHeld = refl
 granted-zero q (held d) = refl
 
--- `GrantedExactly`.
+-- `GrantedExactly`
 pub granted-exactly : GrantedExactly
 granted-exactly s q x u =
     let e = ap answerOf (decided-exactly s q x u) in (
@@ -118,7 +118,7 @@ granted-exactly s q x u =
       λ a. e ∙ ap answerOf (passed-end (stepsFor q x) (grantedFor q x) a) ∙ granted-zero q x,
     )
 
--- The numbers of a decision other than 0 are a refusal's.
+-- the numbers of a decision other than 0 are a refusal's
 refused-zero : (x : Decision) → (numbersOf x .answer ≡ 0 → ⊥) → numbersOf x ≡ refusal (numbersOf x .answer)
 refused-zero (answers.Granted grant mask end) n = absurd (n refl)
 refused-zero answers.Malformed n = refl
@@ -133,11 +133,11 @@ refused-zero answers.Insufficient n = refl
 refused-zero answers.KeyInvalid n = refl
 refused-zero answers.BadSignature n = refl
 
--- `RefusalsZero`.
+-- `RefusalsZero`
 pub refusals-zero : RefusalsZero
 refusals-zero s q n = refused-zero (decisionOf s q) n
 
--- `RefusedExactly`.
+-- `RefusedExactly`
 pub refused-exactly : RefusedExactly
 refused-exactly s q x n u other =
     let e = decided-exactly s q x u in
@@ -147,7 +147,7 @@ refused-exactly s q x n u other =
       λ f. ap answerOf (e ∙ k .1 f),
     )
 
--- `EditionsRefused`.
+-- `EditionsRefused`
 pub editions-refused : EditionsRefused
 unfolding inOrder orElse
 editions-refused s q other =

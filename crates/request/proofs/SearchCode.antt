@@ -25,19 +25,19 @@ use Rattle.request.specs.Code.{eligible}
 
 -- ---- the mode and the constraint pairs
 
--- A grant with a constraint pair is not eligible.
+-- a grant with a constraint pair is not eligible
 pub eligible-pairs : (mask pairs mode : ℕ) → (pairs ≡ 0 → ⊥) → false ≡ eligible mask pairs mode
 unfolding eligible
 eligible-pairs mask pairs mode h = sym (rw (ne-eqb pairs 0 h) (and-false (hasMode mask mode)))
 
--- One without is eligible when it has the mode's bit, which the code takes at its place.
+-- one without is eligible when it has the mode's bit, which the code takes at its place
 pub eligible-mode : (mask pairs mode n : ℕ) → pairs ≡ 0 → n ≡ mask / 2 ^ mode → eqb (n % 2) 1 ≡ eligible mask pairs mode
 unfolding eligible hasMode
 eligible-mode mask pairs mode n h e = rw (e, eq-eqb pairs 0 h) (sym (and-true (eqb (mask / 2 ^ mode % 2) 1)))
 
 -- ---- whether it serves
 
--- A grant serves when it is eligible and its levels, as the code lends them, match.
+-- a grant serves when it is eligible and its levels, as the code lends them, match
 serves-both : (s r : List ℕ) (mode : ℕ) (g : GrantSeen) (b t : Bool) → b ≡ eligible (g .mask) (g .pairs) mode
     → levelsMatch (take ((g .pattern .start + g .pattern .len) - (g .pattern .start + levelsPlace))
     (drop (g .pattern .start + levelsPlace) s)) r ≡ t
@@ -51,51 +51,51 @@ serves-both s r mode g b t e m =
 
 -- ---- the levels of a grant, one after the other
 
--- Where the first levels differ, the levels do not match.
+-- where the first levels differ, the levels do not match
 pub differ-told : (p q : List ℕ) {x : LevelStep} → isDeep p ≡ false → x ≡ stepOf p q → x ≡ Differ → levelsMatch p q ≡ false
 differ-told p q d e f = subst (Stepped p q) (sym e ∙ f) (step-decides p q d)
 
 -- ---- the search
 
--- Before the first grant all are left.
+-- before the first grant all are left
 pub first-begin : (s r : List ℕ) (mode count at : ℕ) → firstFrom s r mode count at 0 ≡ firstFrom s r mode (count - 0) at 0
 first-begin s r mode count at = let k : count ≡ count - 0 = omega arith in ap (λ (n : ℕ). firstFrom s r mode n at 0) k
 
 module _ (s r : List ℕ) (mode count at i : ℕ) where
-  -- Where none is left, none serves.
+  -- where none is left, none serves
   pub first-done : count ≤ i → firstFrom s r mode (count - i) at i ≡ Nothing
   unfolding firstFrom
   first-done h = let k : count - i ≡ 0 = omega arith in ap (λ (n : ℕ). firstFrom s r mode n at i) k
 
-  -- Where one is left, it is read.
+  -- where one is left, it is read
   one-left : i < count → firstFrom s r mode (count - i) at i ≡ firstFrom s r mode (suc (count - (i + 1))) at i
   one-left h = let k : count - i ≡ suc (count - (i + 1)) = omega arith in ap (λ (n : ℕ). firstFrom s r mode n at i) k
 
-  -- Where it does not read, none serves.
+  -- where it does not read, none serves
   pub first-stop : i < count → refused ≡ grantAt s at → firstFrom s r mode (count - i) at i ≡ Nothing
   unfolding firstFrom
   first-stop h e = one-left h ∙ rw (← e, firstFrom)
 
   module _ {g : GrantSeen} {next : ℕ} (h : i < count) (e : got g next ≡ grantAt s at) where
-    -- It is requestOf whether the grant that was read serves.
+    -- it is requestOf whether the grant that was read serves
     first-read : (t : Bool) → serves s r mode g ≡ t → firstFrom s r mode (count - i) at i
         ≡ orNext t i (g .mask) (firstFrom s r mode (count - (i + 1)) next (i + 1))
     unfolding firstFrom
     first-read t f = one-left h ∙ rw (← e, f, firstFrom)
 
     module _ {b : Bool} (f : b ≡ eligible (g .mask) (g .pairs) mode) where
-      -- A grant that is not eligible leaves the ones after it.
+      -- a grant that is not eligible leaves the ones after it
       pub first-not : b ≡ false → firstFrom s r mode (count - i) at i ≡ firstFrom s r mode (count - (i + 1)) next (i + 1)
       first-not k = first-read false (serves-both s r mode g b _ f refl ∙ rw k)
 
-      -- So does one of which the levels do not match.
+      -- so does one of which the levels do not match
       pub first-miss : b ≡ true
           → levelsMatch (take ((g .pattern .start + g .pattern .len) - (g .pattern .start + levelsPlace))
           (drop (g .pattern .start + levelsPlace) s)) r ≡ false
           → firstFrom s r mode (count - i) at i ≡ firstFrom s r mode (count - (i + 1)) next (i + 1)
       first-miss k m = first-read false (serves-both s r mode g b false f m ∙ rw k)
 
-      -- One that is eligible and of which the levels match is the answer.
+      -- one that is eligible and of which the levels match is the answer
       pub first-hit : b ≡ true
           → levelsMatch (take ((g .pattern .start + g .pattern .len) - (g .pattern .start + levelsPlace))
           (drop (g .pattern .start + levelsPlace) s)) r ≡ true

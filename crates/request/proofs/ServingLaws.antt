@@ -20,7 +20,7 @@ use Rattle.request.specs.Promises.{grantServes, someServes, firstPlace, 
 
 -- ---- the search finds it
 
--- The search finds a grant exactly where some grant serves.
+-- the search finds a grant exactly where some grant serves
 pub some-found : (gs : List Grant) (m : ℕ) (x : Path) (i : ℕ) → isMatched (firstServing gs m x i) ≡ someServes gs m x
 some-found [] m x i = refl
 some-found (g ∷ gs) m x i = go (grantServes g m x) (some-found gs m x (i + 1))
@@ -30,7 +30,7 @@ some-found (g ∷ gs) m x i = go (grantServes g m x) (some-found gs m x (i + 1))
     go true k = refl
     go false k = k
 
--- Where some of allowed grants serves, the search that counts from i finds the place and the mask of the first.
+-- where some of allowed grants serves, the search that counts from i finds the place and the mask of the first
 pub found-first : (gs : List Grant) (m : ℕ) (x : Path) (i : ℕ) → All GrantOk gs → someServes gs m x ≡ true
     → firstServing gs m x i ≡ IsAt (i + firstPlace gs m x) (firstMask gs m x)
 found-first [] m x i a e = absurd (false≢true e)
@@ -47,7 +47,7 @@ found-first (g ∷ gs) m x i a e = go (grantServes g m x) e (found-first gs m x 
 
 -- ---- it serves, and is the first that does
 
--- The grant at the place k of gs serves and has the mask, and none before it serves.
+-- the grant at the place k of gs serves and has the mask, and none before it serves
 pub record Serves (gs : List Grant) (m : ℕ) (x : Path) (k mask : ℕ) : Type 0 where
   pub grant : Grant
   pub place : k < length gs
@@ -56,12 +56,12 @@ pub record Serves (gs : List Grant) (m : ℕ) (x : Path) (k mask : ℕ) : Type 0
   pub mine : mask ≡ unionOf (grant ∷ [])
   pub first : (j : ℕ) (h : Grant) → j < k → getD gs j h ≡ h → grantServes h m x ≡ false
 
--- The first grant serves.
+-- the first grant serves
 serves-here : (g : Grant) (gs : List Grant) (m : ℕ) (x : Path) → grantServes g m x ≡ true → Serves (g ∷ gs) m x 0 (unionOf (g ∷ []))
 serves-here g gs m x e =
     record { grant = g; place = omega arith; there = refl; serves = e; mine = refl; first = λ j h l t. absurd (omega arith) }
 
--- The first grant does not serve, and one of the rest does.
+-- the first grant does not serve, and one of the rest does
 serves-later : (g : Grant) (gs : List Grant) (m : ℕ) (x : Path) (k mask : ℕ) → grantServes g m x ≡ false → Serves gs m x k mask
     → Serves (g ∷ gs) m x (suc k) mask
 serves-later g gs m x k mask e s =
@@ -78,7 +78,7 @@ serves-later g gs m x k mask e s =
     earlier zero h l t = subst (λ (f : Grant). grantServes f m x ≡ false) t e
     earlier (suc j) h l t = s .first j h (omega arith) t
 
--- Where some grant serves, the grant at the place of the first does, and none before it.
+-- where some grant serves, the grant at the place of the first does, and none before it
 pub first-serves : (gs : List Grant) (m : ℕ) (x : Path) → someServes gs m x ≡ true → Serves gs m x (firstPlace gs m x) (firstMask gs m x)
 first-serves [] m x e = absurd (false≢true e)
 first-serves (g ∷ gs) m x e = go (grantServes g m x) refl e (first-serves gs m x)

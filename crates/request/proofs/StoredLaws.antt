@@ -24,7 +24,7 @@ use Rattle.request.proofs.HeldLaws.{decided-on-body, decided-on-none}
 use Rattle.request.proofs.UnderLaws.{found-among}
 use Rattle.request.proofs.NumberLaws.{decided-exactly}
 
--- `StoredDecided`.
+-- `StoredDecided`
 pub stored-decided : StoredDecided
 stored-decided d b clock verdict window bytes a z =
     let m = done-means d b clock verdict window bytes a z in
@@ -41,7 +41,7 @@ stored-decided d b clock verdict window bytes a z =
           (u, decided-exactly (afterOf d b clock verdict window) q (held c) u),
     )
 
--- Two images in which the id finds the same body decide a request for it alike.
+-- two images in which the id finds the same body decide a request for it alike
 found-alike : (s t : List ℕ) (q : Request) (bs cs : List Row) → Holds s bs → Holds t cs → bodyWith (q .id) cs ≡ bodyWith (q .id) bs
     → decisionOf t q ≡ decisionOf s q
 found-alike s t q bs cs h k e = let w = check-tells s (q .id) bs h in go (w .0) (w .2)
@@ -51,7 +51,7 @@ found-alike s t q bs cs h k e = let w = check-tells s (q .id) bs h in go (w .0) 
     go (Body at len f) i = decided-on-body t q cs (part s at len) f k (e ∙ i .which) (i .reads)
         ∙ sym (decided-on-body s q bs (part s at len) f h (i .which) (i .reads))
 
--- `OthersDecided`.
+-- `OthersDecided`
 pub others-decided : OthersDecided
 others-decided d b clock verdict window q bytes a other = go (eqb (numberOf (submitted d b clock verdict window)) 0) refl
   where

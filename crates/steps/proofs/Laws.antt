@@ -10,20 +10,20 @@ use Rattle.steps.specs.Laws.{Decides, ends, passes, fails, mapped, allPa
 
 -- ---- how an answer comes about
 
--- What the steps come to is the answer.
+-- what the steps come to is the answer
 pub decided : {R : Type 0} {steps : List (Step R)} {r x : R} → Decides steps r x → x ≡ inOrder steps r
 unfolding inOrder orElse
 decided ends = refl
 decided (passes e d) = rw e (decided d)
 decided (fails e) = rw e
 
--- Steps that all pass lead to what follows them.
+-- steps that all pass lead to what follows them
 pub passed-end : {R : Type 0} (steps : List (Step R)) (r : R) → AllPass steps → inOrder steps r ≡ r
 unfolding inOrder orElse
 passed-end [] r a = refl
 passed-end (s ∷ steps) r a = rw (a .0) (passed-end steps r (a .1))
 
--- What follows the steps matters only where every step passes.
+-- what follows the steps matters only where every step passes
 pub same-end : {R : Type 0} (steps : List (Step R)) (r r′ : R) → (AllPass steps → r ≡ r′) → inOrder steps r ≡ inOrder steps r′
 unfolding inOrder orElse
 same-end [] r r′ k = k tt
@@ -34,7 +34,7 @@ same-end (s ∷ steps) r r′ k = go (s .passes) refl (same-end steps r r′)
     go true e f = f (λ a. k (e, a))
     go false e f = refl
 
--- Steps after steps: what the later ones answer follows the earlier ones.
+-- steps after steps: what the later ones answer follows the earlier ones
 pub order-append : {R : Type 0} (xs ys : List (Step R)) (r : R) → inOrder (xs ++ ys) r ≡ inOrder xs (inOrder ys r)
 unfolding inOrder
 order-append [] ys r = refl
@@ -42,7 +42,7 @@ order-append (s ∷ xs) ys r = ap (orElse (s .passes) (s .refusal)) (order-appen
 
 -- ---- the answer through a function
 
--- A function of the answer is the answer of the steps with their refusals through it.
+-- a function of the answer is the answer of the steps with their refusals through it
 pub order-mapped : {R S : Type 0} (f : R → S) (steps : List (Step R)) (r : R) → f (inOrder steps r) ≡ inOrder (mapped f steps) (f r)
 unfolding inOrder orElse
 order-mapped f [] r = refl
@@ -53,19 +53,19 @@ order-mapped f (s ∷ steps) r = go (s .passes) (order-mapped f steps r)
     go true e = e
     go false e = refl
 
--- Refusals through a function and back are the refusals.
+-- refusals through a function and back are the refusals
 mapped-back : {R S : Type 0} (f : R → S) (g : S → R) → ((x : R) → g (f x) ≡ x) → (steps : List (Step R)) → mapped g (mapped f steps) ≡ steps
 mapped-back f g h [] = refl
 mapped-back f g h (s ∷ steps) = rw (h (s .refusal), mapped-back f g h steps)
 
--- Steps that were decided as a stage, their refusals through f, and what g makes of the stage's answer.
+-- steps that were decided as a stage, their refusals through f, and what g makes of the stage's answer
 pub order-staged : {R S : Type 0} (f : R → S) (g : S → R) → ((x : R) → g (f x) ≡ x) → (steps : List (Step R)) (p : S)
     → g (inOrder (mapped f steps) p) ≡ inOrder steps (g p)
 order-staged f g h steps p = order-mapped g (mapped f steps) p ∙ rw (mapped-back f g h steps)
 
 -- ---- steps named by the number of their refusal
 
--- Steps of which the test says so all pass.
+-- steps of which the test says so all pass
 pub all-pass : {R : Type 0} (steps : List (Step R)) → allPass steps ≡ true → AllPass steps
 all-pass [] e = tt
 all-pass (s ∷ steps) e = go (s .passes) refl e (all-pass steps)
@@ -75,7 +75,7 @@ all-pass (s ∷ steps) e = go (s .passes) refl e (all-pass steps)
     go true p e f = (p, f e)
     go false p e f = absurd (false≢true e)
 
--- Where no step has the number of r, no step's refusal is r.
+-- where no step has the number of r, no step's refusal is r
 pub none-is : {R : Type 0} (f : R → ℕ) (r : R) (steps : List (Step R)) → noneHas f (f r) steps ≡ true → NoneIs r steps
 none-is f r [] e = tt
 none-is f r (s ∷ steps) e = go (eqb (f (s .refusal)) (f r)) refl e (none-is f r steps)
@@ -86,7 +86,7 @@ none-is f r (s ∷ steps) e = go (eqb (f (s .refusal)) (f r)) refl e (none-is f 
     go true p e k = absurd (false≢true e)
     go false p e k = (λ q. eqb-false (f (s .refusal)) (f r) p (ap f q), k e)
 
--- Where every step passes, those of a number do.
+-- where every step passes, those of a number do
 pub passed-by : {R : Type 0} (f : R → ℕ) (n : ℕ) (steps : List (Step R)) → AllPass steps → passesBy f n steps ≡ true
 passed-by f n [] a = refl
 passed-by f n (s ∷ steps) a = go (eqb (f (s .refusal)) n) (passed-by f n steps (a .1))
@@ -95,7 +95,7 @@ passed-by f n (s ∷ steps) a = go (eqb (f (s .refusal)) n) (passed-by f n steps
     go true e = rw (a .0, e)
     go false e = e
 
--- Where every step of the number n passes, the answer has that number only where every step passes, and it is what follows them.
+-- where every step of the number n passes, the answer has that number only where every step passes, and it is what follows them
 pub not-by : {R : Type 0} (f : R → ℕ) (n : ℕ) (steps : List (Step R)) (r : R) → passesBy f n steps ≡ true → f (inOrder steps r) ≡ n
     → AllPass steps × (inOrder steps r ≡ r)
 unfolding inOrder orElse
@@ -111,7 +111,7 @@ not-by f n (s ∷ steps) r k e = go (s .passes) (eqb (f (s .refusal)) n) refl re
     go false true p q k w e = absurd (false≢true k)
     go false false p q k w e = absurd (eqb-false (f (s .refusal)) n q e)
 
--- Where a step of the number n fails and those before it pass, the answer has that number.
+-- where a step of the number n fails and those before it pass, the answer has that number
 pub failed-by : {R : Type 0} (f : R → ℕ) (n : ℕ) (steps : List (Step R)) (r : R) → failsBy f n steps ≡ true → f (inOrder steps r) ≡ n
 unfolding inOrder orElse
 failed-by f n [] r e = absurd (false≢true e)

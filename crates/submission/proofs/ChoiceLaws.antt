@@ -34,7 +34,7 @@ use Rattle.submission.proofs.StepLaws.{number-is}
 
 -- ---- the buffer after a refusal
 
--- Every byte is as it was, or the answer is 0.
+-- every byte is as it was, or the answer is 0
 pub kept-or-done : (d b : List ℕ) (held : Bool) (a : Submission) → (afterAnswer d b held a ≡ d) ⊎ (a ≡ answers.Done)
 kept-or-done d b true a = inl refl
 kept-or-done d b false answers.Done = inr refl
@@ -48,13 +48,13 @@ kept-or-done d b false answers.KeyInvalid = inl refl
 kept-or-done d b false answers.Malformed = inl refl
 kept-or-done d b false answers.BadImage = inl refl
 
--- An answer that is not 0 leaves every byte as it was.
+-- an answer that is not 0 leaves every byte as it was
 pub refused-keeps : (d b : List ℕ) (held : Bool) (a : Submission) → (a ≡ answers.Done → ⊥) → afterAnswer d b held a ≡ d
 refused-keeps d b held a other = ⊎-elim (λ e. e) (λ e. absurd (other e)) (kept-or-done d b held a)
 
 -- ---- what a choice says
 
--- The body is to be stored: the id is not held, and every step but the last passes, which is whether there is room.
+-- the body is to be stored: the id is not held, and every step but the last passes, which is whether there is room
 pub record Storing (d b : List ℕ) (clock verdict : ℕ) (window : Window) (r : Reading) (v : ImageCheck) (n end id mask : ℕ) : Type 0 where
   pub done : hasRoom d (rowsHeld d) (rowOf b) ≡ true → answers.Done ≡ inOrder (stepsBy d b clock verdict window r v) answers.Done
   pub full : hasRoom d (rowsHeld d) (rowOf b) ≡ false → answers.Full ≡ inOrder (stepsBy d b clock verdict window r v) answers.Done
@@ -64,13 +64,13 @@ pub record Storing (d b : List ℕ) (clock verdict : ℕ) (window : Window) (r :
   pub named : id ≡ fields .id
   pub modes : mask ≡ fields .mask
 
--- An answer is what the steps come to, and leaves the buffer as it was; a body that is to be stored has passed all but the last.
+-- an answer is what the steps come to, and leaves the buffer as it was; a body that is to be stored has passed all but the last
 abbrev pub ChoiceIs : List ℕ → List ℕ → ℕ → ℕ → Window → Reading → ImageCheck → Choice → Type 0
 ChoiceIs d b clock verdict window r v (Answer a) = (a ≡ inOrder (stepsBy d b clock verdict window r v) answers.Done)
     × (afterAnswer d b (isHeld v) a ≡ d)
 ChoiceIs d b clock verdict window r v (Store n end id mask) = Storing d b clock verdict window r v n end id mask
 
--- A refusal whose step fails, where those before it pass, is a choice that says so.
+-- a refusal whose step fails, where those before it pass, is a choice that says so
 refuses : (d b : List ℕ) (clock verdict : ℕ) (window : Window) (r : Reading) (v : ImageCheck) (a : Submission) → 0 < numberOf a
     → failsBy numberOf (numberOf a) (stepsBy d b clock verdict window r v) ≡ true → ChoiceIs d b clock verdict window r v (Answer a)
 refuses d b clock verdict window r v a n e =
@@ -80,7 +80,7 @@ refuses d b clock verdict window r v a n e =
           (isHeld v) a (λ z. omega (arith, ap numberOf z)),
     )
 
--- Where every step passes, the answer is 0.
+-- where every step passes, the answer is 0
 all-done : (d b : List ℕ) (clock verdict : ℕ) (window : Window) (r : Reading) (v : ImageCheck)
     → allPass (stepsBy d b clock verdict window r v) ≡ true
     → answers.Done ≡ inOrder (stepsBy d b clock verdict window r v) answers.Done
@@ -91,7 +91,7 @@ all-done d b clock verdict window r v e =
 module _ (d b : List ℕ) (clock verdict : ℕ) (window : Window) (known : isVerdict verdict ≡ true) where
   module _ (n end : ℕ) (f : Fields) (early : leb (f .«not_before») (clock + longestLead) ≡ true) (issuer : isThat verdict noKey ≡ false)
       (key : keyOpen window clock ≡ true) (signed : isThat verdict bad ≡ false) where
-    -- Where the steps before it pass, the place of the body is what the last two steps come to.
+    -- where the steps before it pass, the place of the body is what the last two steps come to
     placed-is : (h : Held) → ChoiceIs d b clock verdict window (Read f) (Sound n end h) (placed d b n end h f)
     unfolding stepsBy placed
     placed-is (Body at len g) =
@@ -111,7 +111,7 @@ module _ (d b : List ℕ) (clock verdict : ℕ) (window : Window) (known : isVer
           modes = refl;
         }
 
-  -- A body that reads, in an image that is sound: the steps from the beginning to the signature, and then the place.
+  -- a body that reads, in an image that is sound: the steps from the beginning to the signature, and then the place
   read-is : (n end : ℕ) (h : Held) (f : Fields)
       → ChoiceIs d b clock verdict window (Read f) (Sound n end h)
       (whenAdmitted (admitted (f .«not_before») clock verdict window) (placed d b n end h f))
@@ -130,7 +130,7 @@ module _ (d b : List ℕ) (clock verdict : ℕ) (window : Window) (known : isVer
       )
       (λ early. refuses d b clock verdict window (Read f) v answers.Validity (omega arith) (rw (known, early)))
 
-  -- A verdict that is known: the image, then what reading the body answered.
+  -- a verdict that is known: the image, then what reading the body answered
   known-is : (r : Reading) (v : ImageCheck) → ChoiceIs d b clock verdict window r v (chosenBy d b clock verdict window r v)
   unfolding stepsBy chosenRead chosenUnread
   known-is (Read f) (Sound n end h) = read-is n end h f
@@ -140,7 +140,7 @@ module _ (d b : List ℕ) (clock verdict : ℕ) (window : Window) (known : isVer
   known-is Validity (Sound n end h) = refuses d b clock verdict window Validity (Sound n end h) answers.Validity (omega arith) (rw known)
   known-is Validity Unsound = refuses d b clock verdict window Validity Unsound answers.BadImage (omega arith) (rw known)
 
--- What the stages choose is what the steps come to.
+-- what the stages choose is what the steps come to
 pub choice-is : (d b : List ℕ) (clock verdict : ℕ) (window : Window)
     → ChoiceIs d b clock verdict window (reading b) (checkOf d (idOf b)) (choiceOf d b clock verdict window)
 unfolding stepsBy choiceOf

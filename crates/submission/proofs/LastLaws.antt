@@ -35,7 +35,7 @@ use Rattle.submission.proofs.StoredLaws.{refusal-keeps, repeat-keeps, s
 
 -- ---- the last two steps
 
--- The clock is in the key's window.
+-- the clock is in the key's window
 key-opens : (window : Window) (clock : ℕ) → window .from ≤ clock → (window .bounded ≡ true → clock ≤ window .until)
     → (leb (window .from) clock && (not (window .bounded) || leb clock (window .until))) ≡ true
 key-opens window clock f u = rw (le-leb (window .from) clock f) (go (window .bounded) u)
@@ -45,45 +45,45 @@ key-opens window clock f u = rw (le-leb (window .from) clock f) (go (window .bou
     go false u = refl
 
 module _ (d : List ℕ) (bs : List Row) (c : Descriptor) (clock : ℕ) (window : Window) (r : Ready d bs c clock window) where
-  -- The steps.
+  -- the steps
   abbrev all : List (Step ℕ)
   all = stepsFor (rows bs) (descriptor c) (length d) clock 0 window
 
-  -- The number is that of a step that fails, where those before it pass.
+  -- the number is that of a step that fails, where those before it pass
   fails-with : (n : ℕ) → failsBy itself n all ≡ true → numberOf (submitted d (encode c) clock 0 window) ≡ n
   fails-with n e = number-descriptor d clock 0 window bs c (r .holds) (r .bytes) (r .allowed) ∙ failed-by itself n all 0 e
 
-  -- It is 0 where every step passes.
+  -- it is 0 where every step passes
   all-passed : allPass all ≡ true → numberOf (submitted d (encode c) clock 0 window) ≡ 0
   all-passed e = number-descriptor d clock 0 window bs c (r .holds) (r .bytes) (r .allowed) ∙ passed-end all 0 (all-pass all e)
 
-  -- The id of the descriptor's encoding.
+  -- the id of the descriptor's encoding
   id-of : idOf (encode c) ≡ c .payload .id
   id-of = encoding-read c (r .bytes) (r .allowed) .3
 
-  -- A descriptor that begins too late gives 2.
+  -- a descriptor that begins too late gives 2
   late : clock + 86400 < c .payload .notBefore → Gives d (encode c) clock 0 window 2 d
   late l =
       let e : numberOf (submitted d (encode c) clock 0 window) ≡ 2 = fails-with 2 (rw (lt-leb (c .payload .notBefore) (clock + 86400) l)) in
       (e, refusal-keeps d (encode c) clock 0 window (λ z. omega arith))
 
   module _ (l : c .payload .notBefore ≤ clock + 86400) where
-    -- The step of the beginning passes.
+    -- the step of the beginning passes
     early : leb (c .payload .notBefore) (clock + 86400) ≡ true
     early = le-leb (c .payload .notBefore) (clock + 86400) l
 
-    -- So does that of the key.
+    -- so does that of the key
     open-key : (leb (window .from) clock && (not (window .bounded) || leb clock (window .until))) ≡ true
     open-key = key-opens window clock (r .opened) (r .lasts)
 
-    -- The same bytes are held.
+    -- the same bytes are held
     same-held : bodyWith (c .payload .id) bs ≡ some (encode c) → Gives d (encode c) clock 0 window 0 d
     same-held e = (
       all-passed (rw (early, open-key, e, equal-same (encode c) (encode c) refl)),
       repeat-keeps d (encode c) clock 0 window bs (encode c) (r .holds) (ap (λ (id : List ℕ). bodyWith id bs) id-of ∙ e),
     )
 
-    -- Other bytes are held.
+    -- other bytes are held
     other-held : (b : List ℕ) → bodyWith (c .payload .id) bs ≡ some b → (b ≡ encode c → ⊥) → Gives d (encode c) clock 0 window 5 d
     other-held b e o =
         let q : numberOf (submitted d (encode c) clock 0 window) ≡ 5
@@ -91,7 +91,7 @@ module _ (d : List ℕ) (bs : List Row) (c : Descriptor) (clock : ℕ) (window :
         (q, refusal-keeps d (encode c) clock 0 window (λ z. omega arith))
 
     module _ (e : bodyWith (c .payload .id) bs ≡ none) where
-      -- There is no room.
+      -- there is no room
       no-room : (length bs ≡ mostRows edition1) ⊎ (length d < length (imageOf (larger bs c))) → Gives d (encode c) clock 0 window 6 d
       no-room f =
           let t : (ltb (length bs) (mostRows edition1) && leb (length (imageOf (larger bs c))) (length d)) ≡ false
@@ -105,7 +105,7 @@ module _ (d : List ℕ) (bs : List Row) (c : Descriptor) (clock : ℕ) (window :
           and-no true = refl
           and-no false = refl
 
-      -- The body is stored.
+      -- the body is stored
       stores : length bs < mostRows edition1 → length (imageOf (larger bs c)) ≤ length d
           → Gives d (encode c) clock 0 window 0 (imageOf (larger bs c) ++ drop (length (imageOf (larger bs c))) d)
           × Holds (afterOf d (encode c) clock 0 window) (larger bs c)
@@ -123,7 +123,7 @@ module _ (d : List ℕ) (bs : List Row) (c : Descriptor) (clock : ℕ) (window :
           let k = stored-last d (encode c) clock 0 window bs (r .holds) q (ap (λ (id : List ℕ). bodyWith id bs) id-of ∙ e) in
           ((q, k .1), k .0)
 
--- `LastSteps`.
+-- `LastSteps`
 pub last-steps : LastSteps
 last-steps = record {
   same-held = same-held;
@@ -132,14 +132,14 @@ last-steps = record {
   stores = stores;
 }
 
--- `LeadBoundary`.
+-- `LeadBoundary`
 pub lead-boundary : LeadBoundary
 lead-boundary d bs c clock window r e few room = (
   λ q. let k = stores d bs c clock window r (omega arith) e few room in (k .0 .0, k .1),
   λ q. late d bs c clock window r (omega arith),
 )
 
--- `RowBoundary`.
+-- `RowBoundary`
 pub row-boundary : RowBoundary
 row-boundary d bs c clock window r l e room = (
   λ q. let k = stores d bs c clock window r l e (omega arith) room in
@@ -149,20 +149,20 @@ row-boundary d bs c clock window r l e room = (
 
 -- ---- what a lookup then finds
 
--- `StoredFound`.
+-- `StoredFound`
 pub stored-found : StoredFound
 stored-found d b clock verdict window bs h e =
     let w = after-holds d b clock verdict window bs h in
     lookup-exactly .held (afterOf d b clock verdict window) (idOf b) (w .0) b (layout-fixed .1 b) (w .1) (w .2 e)
 
--- A lookup of the id in s is answered what it is in d, with the same bytes.
+-- a lookup of the id in s is answered what it is in d, with the same bytes
 abbrev Alike : List ℕ → List ℕ → List ℕ → Type 0
 Alike s d id =
     let n = numbersOf (findOf s id) in
     let m = numbersOf (findOf d id) in
     (n .answer ≡ m .answer) × (part s (n .«body_at») (n .«body_len») ≡ part d (m .«body_at») (m .«body_len»))
 
--- Buffers in which the id has the same body, or none, are alike.
+-- buffers in which the id has the same body, or none, are alike
 same-body : (s d id : List ℕ) (cs bs : List Row) → Holds s cs → Holds d bs → length id ≡ idSize → bodyWith id cs ≡ bodyWith id bs
     → Alike s d id
 unfolding part
@@ -181,7 +181,7 @@ same-body s d id cs bs k h l e = go (bodyWith id bs) refl
         let m = lookup-exactly .held d id bs y l h f in
         (n .answer ∙ sym (m .answer), n .bytes ∙ sym (m .bytes))
 
--- `OthersFound`.
+-- `OthersFound`
 pub others-found : OthersFound
 others-found d b clock verdict window bs id h l other =
     let w = after-holds d b clock verdict window bs h in

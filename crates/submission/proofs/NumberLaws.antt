@@ -31,17 +31,17 @@ use Rattle.image.specs.Laws.{HeldIs}
 use Rattle.image.proofs.Laws.{body-read, encoding-read, check-tells, check-says, check-unsound, rows-named}
 use Rattle.submission.specs.declared.Submission.the-variants as answers
 use Rattle.submission.specs.Submission.{stepsBy, steps, submitted, numberOf}
-use Rattle.submission.specs.Promises.{Stored, unsound, rows, structure, validity, descriptor as encoding, IsStored, IsBody}
+use Rattle.submission.specs.Promises.{Stored, badImage, rows, structure, validity, descriptor as encoding, IsStored, IsBody}
 use Rattle.submission.specs.Promises.{AlwaysMeets, stepsFor, SubmittedExactly, DoneExactly, RefusedExactly}
 use Rattle.submission.specs.Promises as promised
 
 -- ---- the number, by what reading answers and what the check finds
 
--- The number of the first failing step, by the reading r and the check v.
+-- the number of the first failing step, by the reading r and the check v
 abbrev numberBy : List ℕ → List ℕ → ℕ → ℕ → Window → Reading → ImageCheck → ℕ
 numberBy d b clock verdict window r v = inOrder (mapped numberOf (stepsBy d b clock verdict window r v)) 0
 
--- The number of a submission is that by the reading of the body and the check of the buffer for its id.
+-- the number of a submission is that by the reading of the body and the check of the buffer for its id
 number-by : (d b : List ℕ) (clock verdict : ℕ) (window : Window) (r : Reading) (v : ImageCheck) → reading b ≡ r → checkOf d (idOf b) ≡ v
     → numberOf (submitted d b clock verdict window) ≡ numberBy d b clock verdict window r v
 unfolding submitted steps
@@ -49,26 +49,26 @@ number-by d b clock verdict window r v e f =
     order-mapped numberOf (stepsBy d b clock verdict window (reading b) (checkOf d (idOf b))) answers.Done
     ∙ ap₂ (numberBy d b clock verdict window) e f
 
--- A check that does not call the image sound, whatever reading answers.
+-- a check that does not call the image sound, whatever reading answers
 by-unsound : (d b : List ℕ) (clock verdict : ℕ) (window : Window) (r : Reading) (x : promised.Body)
-    → numberBy d b clock verdict window r Unsound ≡ inOrder (stepsFor unsound x (length d) clock verdict window) 0
+    → numberBy d b clock verdict window r Unsound ≡ inOrder (stepsFor badImage x (length d) clock verdict window) 0
 unfolding stepsBy inOrder orElse isVerdict
 by-unsound d b clock verdict window r x = refl
 
--- A body that reading answers with 1.
+-- a body that reading answers with 1
 by-structure : (d b : List ℕ) (clock verdict : ℕ) (window : Window) (bs : List Row) (n end : ℕ) (h : Held)
     → numberBy d b clock verdict window Structure (Sound n end h)
     ≡ inOrder (stepsFor (rows bs) structure (length d) clock verdict window) 0
 unfolding stepsBy inOrder orElse isVerdict
 by-structure d b clock verdict window bs n end h = refl
 
--- A body that reading answers with 2.
+-- a body that reading answers with 2
 by-validity : (d b : List ℕ) (clock verdict : ℕ) (window : Window) (bs : List Row) (n end : ℕ) (h : Held)
     → numberBy d b clock verdict window Validity (Sound n end h) ≡ inOrder (stepsFor (rows bs) validity (length d) clock verdict window) 0
 unfolding stepsBy inOrder orElse isVerdict
 by-validity d b clock verdict window bs n end h = refl
 
--- The encoding of a descriptor.
+-- the encoding of a descriptor
 by-descriptor : (d : List ℕ) (clock verdict : ℕ) (window : Window) (bs : List Row) (c : Descriptor) (f : Fields) (h : Held)
     → rowsHeld d ≡ bs → f .«not_before» ≡ c .payload .notBefore → HeldIs d (c .payload .id) bs h
     → numberBy d (encode c) clock verdict window (Read f) (Sound (length bs) (length (imageOf bs)) h)
@@ -80,7 +80,7 @@ by-descriptor d clock verdict window bs c f (Body at len g) q e k = ap (λ (l : 
 
 -- ---- the number of a descriptor
 
--- The number for an allowed descriptor and a buffer that holds a list of bodies.
+-- the number for an allowed descriptor and a buffer that holds a list of bodies
 pub number-descriptor : (d : List ℕ) (clock verdict : ℕ) (window : Window) (bs : List Row) (c : Descriptor) → Holds d bs
     → AreBytes (encode c) → Allowed c
     → numberOf (submitted d (encode c) clock verdict window) ≡ inOrder (stepsFor (rows bs) (encoding c) (length d) clock verdict window) 0
@@ -93,7 +93,7 @@ number-descriptor d clock verdict window bs c h bytes a =
 
 -- ---- every case
 
--- What reading answers with 1.
+-- what reading answers with 1
 structure-read : (b : List ℕ) → answerOf b ≡ 1 → reading b ≡ Structure
 unfolding reading
 structure-read b e = go (readingOf (readOf b)) e
@@ -103,7 +103,7 @@ structure-read b e = go (readingOf (readOf b)) e
     go Structure e = refl
     go Validity e = absurd (omega arith)
 
--- What reading answers with 2.
+-- what reading answers with 2
 validity-read : (b : List ℕ) → answerOf b ≡ 2 → reading b ≡ Validity
 unfolding reading
 validity-read b e = go (readingOf (readOf b)) e
@@ -113,9 +113,9 @@ validity-read b e = go (readingOf (readOf b)) e
     go Structure e = absurd (omega arith)
     go Validity e = refl
 
--- `SubmittedExactly`.
+-- `SubmittedExactly`
 pub submitted-exactly : SubmittedExactly
-submitted-exactly d b clock verdict window unsound x m =
+submitted-exactly d b clock verdict window badImage x m =
     number-by d b clock verdict window (reading b) Unsound refl (check-unsound d (idOf b) (m .buffer-bytes) .1 (m .stored))
     ∙ by-unsound d b clock verdict window (reading b) x
 submitted-exactly d b clock verdict window (rows bs) structure m =
@@ -130,42 +130,42 @@ submitted-exactly d b clock verdict window (rows bs) (encoding c) m =
     ap (λ (y : List ℕ). numberOf (submitted d y clock verdict window)) (m .body .1)
     ∙ number-descriptor d clock verdict window bs c (m .stored) (subst AreBytes (m .body .1) (m .body-bytes)) (m .body .0)
 
--- The number of a step.
+-- the number of a step
 abbrev pub itself : ℕ → ℕ
 itself n = n
 
--- No step's number is 0.
+-- no step's number is 0
 never-zero : (s : Stored) (x : promised.Body) (room clock verdict : ℕ) (window : Window) → NoneIs 0 (stepsFor s x room clock verdict window)
-never-zero unsound x room clock verdict window = none-is itself 0 (stepsFor unsound x room clock verdict window) refl
+never-zero badImage x room clock verdict window = none-is itself 0 (stepsFor badImage x room clock verdict window) refl
 never-zero (rows bs) structure room clock verdict window = none-is itself 0
     (stepsFor (rows bs) structure room clock verdict window) refl
 never-zero (rows bs) validity room clock verdict window = none-is itself 0 (stepsFor (rows bs) validity room clock verdict window) refl
 never-zero (rows bs) (encoding c) room clock verdict window = none-is itself 0
     (stepsFor (rows bs) (encoding c) room clock verdict window) refl
 
--- `DoneExactly`.
+-- `DoneExactly`
 pub done-exactly : DoneExactly
 done-exactly d b clock verdict window s x m =
     let q = order.pass-exactly ℕ (stepsFor s x (length d) clock verdict window) 0 (never-zero s x (length d) clock verdict window) in
     let e = submitted-exactly d b clock verdict window s x m in
     (λ z. q .0 (sym e ∙ z), λ a. e ∙ q .1 a)
 
--- `RefusedExactly`.
+-- `RefusedExactly`
 pub refused-exactly : RefusedExactly
 refused-exactly d b clock verdict window s x m n other =
     let q = order.fail-exactly ℕ (stepsFor s x (length d) clock verdict window) 0 n other in
     let e = submitted-exactly d b clock verdict window s x m in
     (λ z. q .0 (sym e ∙ z), λ a. e ∙ q .1 a)
 
--- What every buffer holds.
+-- what every buffer holds
 stored-of : (d : List ℕ) → AreBytes d → (s : Stored) × IsStored d s
 stored-of d bytes = go (checkOf d []) refl
   where
     go : (v : ImageCheck) → checkOf d [] ≡ v → (s : Stored) × IsStored d s
     go (Sound n end h) e = (rows (rowsHeld d), check-says d [] bytes n end h e .holds)
-    go Unsound e = (unsound, check-unsound d [] bytes .0 e)
+    go Unsound e = (badImage, check-unsound d [] bytes .0 e)
 
--- What every body is.
+-- what every body is
 body-of : (b : List ℕ) → AreBytes b → (x : promised.Body) × IsBody b x
 unfolding reading
 body-of b bytes = go (reading b) refl
@@ -175,7 +175,7 @@ body-of b bytes = go (reading b) refl
     go Structure e = (structure, ap descriptor.numberOf e)
     go Validity e = (validity, ap descriptor.numberOf e)
 
--- `AlwaysMeets`.
+-- `AlwaysMeets`
 pub always-meets : AlwaysMeets
 always-meets d b p q =
     let s = stored-of d p in

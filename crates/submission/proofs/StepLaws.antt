@@ -25,18 +25,18 @@ use Rattle.submission.specs.Submission.{isStructure, isValidity, agrees,
 
 -- ---- the steps and the answer 0
 
--- The first of some answers that has the number, or done.
+-- the first of some answers that has the number, or done
 abbrev pick : List Submission → ℕ → Submission
 pick [] n = answers.Done
 pick (a ∷ rest) n = cond (eqb (numberOf a) n) a (pick rest n)
 
--- The answer with a number.
+-- the answer with a number
 abbrev answerWith : ℕ → Submission
 answerWith =
     pick (answers.Structure ∷ answers.Validity ∷ answers.UnknownIssuer ∷ answers.BadSignature ∷ answers.Duplicate ∷ answers.Full ∷
     answers.KeyInvalid ∷ answers.Malformed ∷ answers.BadImage ∷ [])
 
--- It is the one that has the number.
+-- it is the one that has the number
 with-number : (a : Submission) → answerWith (numberOf a) ≡ a
 with-number answers.Done = refl
 with-number answers.Structure = refl
@@ -49,11 +49,11 @@ with-number answers.KeyInvalid = refl
 with-number answers.Malformed = refl
 with-number answers.BadImage = refl
 
--- Answers with the same number are the same.
+-- answers with the same number are the same
 pub number-is : (x a : Submission) → numberOf x ≡ numberOf a → x ≡ a
 number-is x a e = sym (with-number x) ∙ ap answerWith e ∙ with-number a
 
--- The answer is 0 exactly when every step passes.
+-- the answer is 0 exactly when every step passes
 pub done-exactly : (d b : List ℕ) (clock verdict : ℕ) (window : Window)
     → (submitted d b clock verdict window ≡ answers.Done) ↔ AllPass (steps d b clock verdict window)
 unfolding submitted steps stepsBy
@@ -63,20 +63,20 @@ done-exactly d b clock verdict window =
 
 -- ---- what an answer says
 
--- What is known of a body where every step has passed.
+-- what is known of a body where every step has passed
 pub record Passed (d b : List ℕ) : Type 0 where
   pub sound : isSound (checkOf d (idOf b)) ≡ true
   pub reads : isRead (reading b) ≡ true
   pub same-bytes : agrees d b (checkOf d (idOf b)) ≡ true
   pub room : (isHeld (checkOf d (idOf b)) || hasRoom d (rowsHeld d) (rowOf b)) ≡ true
 
--- A reading that is neither 1 nor 2 is 0.
+-- a reading that is neither 1 nor 2 is 0
 read-passes : (r : Reading) → not (isStructure r) ≡ true → not (isValidity r) ≡ true → isRead r ≡ true
 read-passes (Read f) s v = refl
 read-passes Structure s v = s
 read-passes Validity s v = v
 
--- The answer 0 says that the image is sound, and that the body reads, is not held with other bytes, and is held or has room.
+-- the answer 0 says that the image is sound, and that the body reads, is not held with other bytes, and is held or has room
 pub done-passed : (d b : List ℕ) (clock verdict : ℕ) (window : Window) → submitted d b clock verdict window ≡ answers.Done → Passed d b
 unfolding steps stepsBy
 done-passed d b clock verdict window e =
@@ -91,7 +91,7 @@ done-passed d b clock verdict window e =
       room = and-left _ true (by (numberOf answers.Full));
     }
 
--- An image that is not sound is answered with 16, where the verdict is one of the three.
+-- an image that is not sound is answered with 16, where the verdict is one of the three
 pub unsound-refused : (d b : List ℕ) (clock verdict : ℕ) (window : Window) → verdict ≤ 2 → checkOf d (idOf b) ≡ Unsound
     → submitted d b clock verdict window ≡ answers.BadImage
 unfolding submitted steps stepsBy isVerdict

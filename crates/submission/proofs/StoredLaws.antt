@@ -32,7 +32,7 @@ use Rattle.submission.proofs.StepLaws.{number-is, Passed, done-passed, 
 
 -- ---- what the check finds
 
--- The check for an id that no body has.
+-- the check for an id that no body has
 check-new : (d id : List ℕ) (bs : List Row) → Holds d bs → bodyWith id bs ≡ none
     → checkOf d id ≡ Sound (length bs) (length (imageOf bs)) Missing
 check-new d id bs h new = let w = check-tells d id bs h in w .1 ∙ ap (Sound (length bs) (length (imageOf bs))) (go (w .0) (w .2))
@@ -41,7 +41,7 @@ check-new d id bs h new = let w = check-tells d id bs h in w .1 ∙ ap (Sound (l
     go Missing k = refl
     go (Body at len f) k = absurd (none-some (part d at len) (sym new ∙ k .which))
 
--- The body that is held under an id, and where the check found it.
+-- the body that is held under an id, and where the check found it
 record Repeat (d id : List ℕ) (bs : List Row) (c : List ℕ) : Type 0 where
   at : ℕ
   len : ℕ
@@ -49,7 +49,7 @@ record Repeat (d id : List ℕ) (bs : List Row) (c : List ℕ) : Type 0 where
   found : checkOf d id ≡ Sound (length bs) (length (imageOf bs)) (Body at len fields)
   body : part d at len ≡ c
 
--- The check for an id that a body has.
+-- the check for an id that a body has
 check-repeat : (d id : List ℕ) (bs : List Row) (c : List ℕ) → Holds d bs → bodyWith id bs ≡ some c → Repeat d id bs c
 check-repeat d id bs c h held = let w = check-tells d id bs h in go (w .0) (w .1) (w .2)
   where
@@ -66,18 +66,18 @@ check-repeat d id bs c h held = let w = check-tells d id bs h in go (w .0) (w .1
 
 -- ---- what is kept
 
--- `RefusalKeeps`.
+-- `RefusalKeeps`
 pub refusal-keeps : RefusalKeeps
 unfolding afterOf
 refusal-keeps d b clock verdict window other = refused-keeps d b (isHeld (checkOf d (idOf b))) (submitted d b clock verdict window)
     (λ e. other (ap numberOf e))
 
--- `RepeatKeeps`.
+-- `RepeatKeeps`
 pub repeat-keeps : RepeatKeeps
 repeat-keeps d b clock verdict window bs c h held = after-held d b clock verdict window
     (ap isHeld (check-repeat d (idOf b) bs c h held .found))
 
--- `EditionsRefused`.
+-- `EditionsRefused`
 pub editions-refused : EditionsRefused
 editions-refused d b clock verdict window h other =
     let e : submitted d b clock verdict window ≡ answers.BadImage
@@ -86,7 +86,7 @@ editions-refused d b clock verdict window h other =
 
 -- ---- what an answer of 0 says
 
--- `DoneMeans`.
+-- `DoneMeans`
 pub done-means : DoneMeans
 done-means d b clock verdict window bytes a z =
     let p = done-passed d b clock verdict window (number-is (submitted d b clock verdict window) answers.Done z) in
@@ -99,11 +99,11 @@ done-means d b clock verdict window bytes a z =
 
 module _ (d b : List ℕ) (clock verdict : ℕ) (window : Window) (bs : List Row) (h : Holds d bs)
     (z : numberOf (submitted d b clock verdict window) ≡ 0) where
-  -- The answer is 0.
+  -- the answer is 0
   done : submitted d b clock verdict window ≡ answers.Done
   done = number-is (submitted d b clock verdict window) answers.Done z
 
-  -- Under an id that is held, it says that the same bytes are held.
+  -- under an id that is held, it says that the same bytes are held
   repeat-same : (c : List ℕ) → bodyWith (idOf b) bs ≡ some c → c ≡ b
   repeat-same c held =
       let r : Repeat d (idOf b) bs c = check-repeat d (idOf b) bs c h held in
@@ -111,7 +111,7 @@ module _ (d b : List ℕ) (clock verdict : ℕ) (window : Window) (bs : List Row
       = subst (λ (v : ImageCheck). agrees d b v ≡ true) (r .found) (done-passed d b clock verdict window done .same-bytes) in
       sym (r .body) ∙ same-equal (part d (r .at) (r .len)) b s
 
-  -- Under a new id, it says that there is room, and leaves the buffer with the body added last, which holds the bodies and the new one.
+  -- under a new id, it says that there is room, and leaves the buffer with the body added last, which holds the bodies and the new one
   pub stored-last : bodyWith (idOf b) bs ≡ none
       → Holds (afterOf d b clock verdict window) (bs ++ (rowOf b ∷ [])) × (afterOf d b clock verdict window ≡ withBody d bs (rowOf b))
   stored-last new =
@@ -126,13 +126,13 @@ module _ (d b : List ℕ) (clock verdict : ℕ) (window : Window) (bs : List Row
 
 -- ---- the bodies after
 
--- What the buffer holds after.
+-- what the buffer holds after
 abbrev After : List ℕ → List ℕ → ℕ → ℕ → Window → List Row → Type 0
 After d b clock verdict window bs = (cs : List Row) × Holds (afterOf d b clock verdict window) cs
     × (numberOf (submitted d b clock verdict window) ≡ 0 → bodyWith (idOf b) cs ≡ some b)
     × ((id : List ℕ) → (idOf b ≡ id → ⊥) → bodyWith id cs ≡ bodyWith id bs)
 
--- `AfterHolds`.
+-- `AfterHolds`
 pub after-holds : AfterHolds
 after-holds d b clock verdict window bs h = go (bodyWith (idOf b) bs) (eqb (numberOf (submitted d b clock verdict window)) 0) refl refl
   where

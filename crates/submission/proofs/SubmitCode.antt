@@ -35,57 +35,57 @@ use Rattle.submission.specs.Code.{admitted, placed, whenAdmitted, chosen
 
 -- ---- the beginning, the issuer, the key and the signature
 
--- A descriptor that begins more than a day ahead is refused.
+-- a descriptor that begins more than a day ahead is refused
 pub admit-late : (before clock verdict : ℕ) (window : Window) → clock + longestLead < before
     → Refused answers.Validity ≡ admitted before clock verdict window
 unfolding admitted
 admit-late before clock verdict window h = rw (lt-leb before (clock + longestLead) h)
 
 module _ (before clock verdict : ℕ) (window : Window) (h : before ≤ clock + longestLead) where
-  -- Where there is no such key the issuer is unknown.
+  -- where there is no such key the issuer is unknown
   pub admit-issuer : verdict ≡ 2 → Refused answers.UnknownIssuer ≡ admitted before clock verdict window
   unfolding admitted isThat
   admit-issuer e = rw (le-leb before (clock + longestLead) h, eq-eqb verdict 2 e)
 
   module _ (n : verdict ≡ 2 → ⊥) (opens : Bool) (k : opens ≡ keyOpen window clock) where
-    -- A key whose window the clock is not in is refused.
+    -- a key whose window the clock is not in is refused
     pub admit-key : not opens ≡ true → Refused answers.KeyInvalid ≡ admitted before clock verdict window
     unfolding admitted isThat
     admit-key t = rw (le-leb before (clock + longestLead) h, ne-eqb verdict 2 n, sym k ∙ not-true opens t)
 
-    -- A bad signature is refused.
+    -- a bad signature is refused
     pub admit-bad : not opens ≡ false → verdict ≡ 1 → Refused answers.BadSignature ≡ admitted before clock verdict window
     unfolding admitted isThat
     admit-bad t e = rw (le-leb before (clock + longestLead) h, ne-eqb verdict 2 n, sym k ∙ not-false opens t, eq-eqb verdict 1 e)
 
-    -- Else all pass.
+    -- else all pass
     pub admit-all : not opens ≡ false → (verdict ≡ 1 → ⊥) → Admitted ≡ admitted before clock verdict window
     unfolding admitted isThat
     admit-all t e = rw (le-leb before (clock + longestLead) h, ne-eqb verdict 2 n, sym k ∙ not-false opens t, ne-eqb verdict 1 e)
 
 -- ---- a body that is held, and one that is not
 
--- The body that is held lies in the image.
+-- the body that is held lies in the image
 pub held-room : (d : List ℕ) (h : Held) (at len : ℕ) (g : Fields) → HeldFits d h → h ≡ Body at len g → at + len ≤ length d
 held-room d h at len g k e = subst (HeldFits d) e k .0
 
 module _ (d b : List ℕ) (n end : ℕ) (h : Held) (f : Fields) where
   module _ (at len : ℕ) (g : Fields) (e : h ≡ Body at len g) (t : Bool) (k : t ≡ same (take (at + len - at) (drop at d)) b) where
-    -- The bytes that the code compares are those of the body that is held.
+    -- the bytes that the code compares are those of the body that is held
     same-held : same (part d at len) b ≡ t
     same-held = sym (k ∙ ap (λ (x : List ℕ). same x b) (lent-part d at len))
 
-    -- The same bytes are held: nothing is to be stored.
+    -- the same bytes are held: nothing is to be stored
     pub place-same : t ≡ true → Answer answers.Done ≡ placed d b n end h f
     unfolding placed
     place-same u = sym (ap (λ (x : Held). placed d b n end x f) e ∙ rw (same-held ∙ u))
 
-    -- Other bytes are held under the id.
+    -- other bytes are held under the id
     pub place-other : t ≡ false → Answer answers.Duplicate ≡ placed d b n end h f
     unfolding placed
     place-other u = sym (ap (λ (x : Held). placed d b n end x f) e ∙ rw (same-held ∙ u))
 
-  -- No body has the id: it is to be stored.
+  -- no body has the id: it is to be stored
   pub place-store : h ≡ Missing → Store n end (f .id) (f .mask) ≡ placed d b n end h f
   unfolding placed
   place-store e = sym (ap (λ (x : Held). placed d b n end x f) e)
@@ -93,64 +93,64 @@ module _ (d b : List ℕ) (n end : ℕ) (h : Held) (f : Fields) where
 -- ---- by the check of the image
 
 module _ (d b : List ℕ) (clock verdict : ℕ) (window : Window) (f : Fields) (v : ImageCheck) where
-  -- An image that is not sound is refused.
+  -- an image that is not sound is refused
   pub read-unsound : v ≡ Unsound → Answer answers.BadImage ≡ chosenRead d b clock verdict window f v
   unfolding chosenRead
   read-unsound e = sym (ap (chosenRead d b clock verdict window f) e)
 
   module _ (n end : ℕ) (h : Held) (e : v ≡ Sound n end h) (a : Admission) (k : a ≡ admitted (f .«not_before») clock verdict window) where
-    -- In a sound image it is placed, if it is admitted.
+    -- in a sound image it is placed, if it is admitted
     read-sound : chosenRead d b clock verdict window f v ≡ whenAdmitted a (placed d b n end h f)
     unfolding chosenRead
     read-sound =
         ap (chosenRead d b clock verdict window f) e
         ∙ ap (λ (x : Admission). whenAdmitted x (placed d b n end h f)) (sym k)
 
-    -- A refusal is the answer.
+    -- a refusal is the answer
     pub read-refused : (x : Submission) → a ≡ Refused x → Answer x ≡ chosenRead d b clock verdict window f v
     read-refused x u = sym (read-sound ∙ ap (λ (y : Admission). whenAdmitted y (placed d b n end h f)) u)
 
-    -- What is admitted is placed.
+    -- what is admitted is placed
     pub read-placed : (r : Choice) → a ≡ Admitted → r ≡ placed d b n end h f → r ≡ chosenRead d b clock verdict window f v
     read-placed r u p = p ∙ sym (read-sound ∙ ap (λ (y : Admission). whenAdmitted y (placed d b n end h f)) u)
 
 module _ (d id : List ℕ) (a : Submission) (v : ImageCheck) (e : v ≡ checkOf d id) where
-  -- What is answered of a body that does not read, in a sound image.
+  -- what is answered of a body that does not read, in a sound image
   pub unread-sound : (n end : ℕ) (h : Held) → v ≡ Sound n end h → Answer a ≡ chosenUnread a (checkOf d id)
   unfolding chosenUnread
   unread-sound n end h u = ap (chosenUnread a) (sym u ∙ e)
 
-  -- In an image that is not sound that comes first.
+  -- in an image that is not sound that comes first
   pub unread-unsound : v ≡ Unsound → Answer answers.BadImage ≡ chosenUnread a (checkOf d id)
   unfolding chosenUnread
   unread-unsound u = ap (chosenUnread a) (sym u ∙ e)
 
 -- ---- what is to be done
 
--- What the code reads is the reading of the body.
+-- what the code reads is the reading of the body
 reading-is : (b : List ℕ) (o x : Reading) → o ≡ readingOf (readOf b) → o ≡ x → reading b ≡ x
 unfolding reading
 reading-is b o x k e = sym k ∙ e
 
--- The id that was read lies in the body.
+-- the id that was read lies in the body
 pub id-room : (b : List ℕ) (o : Reading) (f : Fields) → o ≡ readingOf (readOf b) → o ≡ Read f → f .id + idSize ≤ length b
 id-room b o f k e = read-in b f (reading-is b o (Read f) k e) .id
 
--- A verdict that is none of the three is refused.
+-- a verdict that is none of the three is refused
 pub choice-malformed : (d b : List ℕ) (clock verdict : ℕ) (window : Window) → 2 < verdict
     → Answer answers.Malformed ≡ choiceOf d b clock verdict window
 unfolding choiceOf isVerdict
 choice-malformed d b clock verdict window h = rw (lt-leb verdict 2 h)
 
 module _ (d b : List ℕ) (clock verdict : ℕ) (window : Window) (h : verdict ≤ 2) (o : Reading) (k : o ≡ readingOf (readOf b)) where
-  -- What is to be done, by what was read.
+  -- what is to be done, by what was read
   choice-by : (x : Reading) → o ≡ x → chosenBy d b clock verdict window x (checkOf d (idIn b x)) ≡ choiceOf d b clock verdict window
   unfolding choiceOf isVerdict idOf
   choice-by x e =
       ap (λ (y : Reading). chosenBy d b clock verdict window y (checkOf d (idIn b y))) (sym (reading-is b o x k e))
       ∙ rw (le-leb verdict 2 h)
 
-  -- A body that reads.
+  -- a body that reads
   pub choice-read : (f : Fields) (v : ImageCheck) (r : Choice) → o ≡ Read f → v ≡ checkOf d (take (f .id + idSize - f .id) (drop (f .id) b))
       → r ≡ chosenRead d b clock verdict window f v → r ≡ choiceOf d b clock verdict window
   choice-read f v r e s p =
@@ -158,12 +158,12 @@ module _ (d b : List ℕ) (clock verdict : ℕ) (window : Window) (h : verdict �
       ∙ ap (chosenRead d b clock verdict window f) (s ∙ ap (checkOf d) (lent-part b (f .id) idSize))
       ∙ choice-by (Read f) e
 
-  -- A body with a fault of structure.
+  -- a body with a fault of structure
   pub choice-structure : (r : Choice) → o ≡ Structure → r ≡ chosenUnread answers.Structure (checkOf d (replicate idSize 0))
       → r ≡ choiceOf d b clock verdict window
   choice-structure r e p = p ∙ choice-by Structure e
 
-  -- A body with a period that is not valid.
+  -- a body with a period that is not valid
   pub choice-validity : (r : Choice) → o ≡ Validity → r ≡ chosenUnread answers.Validity (checkOf d (replicate idSize 0))
       → r ≡ choiceOf d b clock verdict window
   choice-validity r e p = p ∙ choice-by Validity e

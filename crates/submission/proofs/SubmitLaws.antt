@@ -26,13 +26,13 @@ use Rattle.submission.proofs.ChoiceLaws.{Storing, ChoiceIs, choice-is}
 
 -- ---- the buffer after a submission
 
--- Where the id is held the buffer is as it was.
+-- where the id is held the buffer is as it was
 pub after-held : (d b : List ℕ) (clock verdict : ℕ) (window : Window) → isHeld (checkOf d (idOf b)) ≡ true
     → afterOf d b clock verdict window ≡ d
 unfolding afterOf
 after-held d b clock verdict window e = ap (λ (t : Bool). afterAnswer d b t (submitted d b clock verdict window)) e
 
--- Where the id is not held, the answer 0 leaves the buffer with the body added last.
+-- where the id is not held, the answer 0 leaves the buffer with the body added last
 pub after-new : (d b : List ℕ) (clock verdict : ℕ) (window : Window) → isHeld (checkOf d (idOf b)) ≡ false
     → submitted d b clock verdict window ≡ answers.Done → afterOf d b clock verdict window ≡ withBody d (rowsHeld d) (rowOf b)
 unfolding afterOf
@@ -40,7 +40,7 @@ after-new d b clock verdict window e f = ap₂ (afterAnswer d b) e f
 
 -- ---- what a choice comes to
 
--- An answer is the submission's, and the buffer is as it was.
+-- an answer is the submission's, and the buffer is as it was
 pub choice-answer : (d b : List ℕ) (clock verdict : ℕ) (window : Window) (a : Submission) → choiceOf d b clock verdict window ≡ Answer a
     → (a ≡ submitted d b clock verdict window) × (d ≡ afterOf d b clock verdict window)
 unfolding submitted steps afterOf
@@ -50,7 +50,7 @@ choice-answer d b clock verdict window a e =
     = subst (ChoiceIs d b clock verdict window (reading b) v) e (choice-is d b clock verdict window) in
     (k .0, sym (k .1) ∙ ap (afterAnswer d b (isHeld v)) (k .0))
 
--- A body that is to be stored is added where there is room.
+-- a body that is to be stored is added where there is room
 store-added : (d b : List ℕ) (clock verdict : ℕ) (window : Window) (n end id mask : ℕ) → AreBytes d
     → choiceOf d b clock verdict window ≡ Store n end id mask
     → (storedAs (addedOf d n end b id) ≡ submitted d b clock verdict window)
@@ -79,7 +79,7 @@ store-added d b clock verdict window n end id mask bytes e =
     go k true u = (k .done u, ap₂ (afterAnswer d b) (sym (ap isHeld (k .found))) (k .done u))
     go k false u = (k .full u, ap₂ (afterAnswer d b) (sym (ap isHeld (k .found))) (k .full u))
 
--- What the code answers and leaves is so.
+-- what the code answers and leaves is so
 pub choice-store : (d b : List ℕ) (clock verdict : ℕ) (window : Window) (c : Choice) (n end id mask : ℕ)
     → (c ≡ choiceOf d b clock verdict window) × AreBytes d → c ≡ Store n end id mask
     → (a : Added) (d′ : List ℕ) → (a ≡ addedOf d n end b id) × (d′ ≡ afterAdd d n end b id mask) → (r : Submission) → r ≡ storedAs a

@@ -24,7 +24,7 @@ use Rattle.submission.specs.Submission.{submitted, afterOf, numberOf}
 
 -- what a buffer holds: no list of rows, or these rows
 pub data Stored : Type 0 where
-  unsound : Stored
+  badImage : Stored
   rows : List Row → Stored
 
 -- what is submitted: bytes that reading answers with 1, or with 2, or the encoding of an allowed descriptor
@@ -35,7 +35,7 @@ pub data Body : Type 0 where
 
 -- the buffer d holds that
 abbrev pub IsStored : List ℕ → Stored → Type 0
-IsStored d unsound = (rs : List Row) → Holds d rs → ⊥
+IsStored d badImage = (rs : List Row) → Holds d rs → ⊥
 IsStored d (rows rs) = Holds d rs
 
 -- the bytes b are that
@@ -71,7 +71,7 @@ isHeld (some c) = true
 -- 2 if not_before > now + 86,400. 3: verdict 2. 14: now < valid_from, or there is a valid_until and now > valid_until. 4: verdict 1.
 -- Then, if the id is held, other bytes 5. 6 exactly when it is not, and 64 rows are held or the larger image exceeds the buffer.
 abbrev pub stepsFor : Stored → Body → ℕ → ℕ → ℕ → Window → List (Step ℕ)
-stepsFor unsound x room clock verdict window =
+stepsFor badImage x room clock verdict window =
     step (leb verdict 2) 15
     ∷ step false 16
     ∷ []
@@ -148,8 +148,8 @@ pub record Ready (d : List ℕ) (rs : List Row) (c : Descriptor) (clock : ℕ) (
   pub opened : window .from ≤ clock
   pub lasts : window .bounded ≡ true → clock ≤ window .until
 
--- Where the signature is good and the steps before pass: if the id is held, the same bytes give 0 and no change, other bytes 5; 6 if 64
--- rows are held or the larger image exceeds the buffer; else the row and body are added last, and bytes beyond the new end stay.
+-- where the signature is good and the steps before pass: if the id is held, the same bytes give 0 and no change, other bytes 5; 6 if 64
+-- rows are held or the larger image exceeds the buffer; else the row and body are added last, and bytes beyond the new end stay
 pub record LastSteps : Type 0 where
   pub same-held : (d : List ℕ) (rs : List Row) (c : Descriptor) (clock : ℕ) (window : Window)
       → Ready d rs c clock window → c .payload .notBefore ≤ clock + 86400

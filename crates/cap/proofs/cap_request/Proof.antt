@@ -11,7 +11,7 @@ use borrow.Author.Needs.{needs}
 use Rattle.cap.proofs.cap_request.Statement.{statement}
 use Rattle.cap.proofs.cap_request.Tie as tie
 
--- The numbers of a request with the key's window w′.
+-- the numbers of a request with the key's window w′
 shown-asked : (s id fay terminal resource : List ℕ) (mode clock session : ℕ) (revoked : List ℕ) (verdict : ℕ) (w w′ : Window)
     (r : Decision) → w ≡ w′
     → r ≡ decisionOf s (requestOf id fay terminal resource mode clock session revoked verdict w)

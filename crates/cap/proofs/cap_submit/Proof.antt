@@ -10,7 +10,7 @@ use borrow.Author.Needs.{needs}
 use Rattle.cap.proofs.cap_submit.Statement.{statement}
 use Rattle.cap.proofs.cap_submit.Tie as tie
 
--- The number and the buffer of a submission with the key's window w′.
+-- the number and the buffer of a submission with the key's window w′
 shown-submitted : (d b d′ : List ℕ) (clock verdict : ℕ) (w w′ : Window) (r : Submission) → w ≡ w′
     → (r ≡ submitted d b clock verdict w) × (d′ ≡ afterOf d b clock verdict w)
     → (numberOf r ≡ numberOf (submitted d b clock verdict w′)) × (d′ ≡ afterOf d b clock verdict w′)

@@ -15,21 +15,21 @@ use Rattle.descriptor.specs.View.{maskOf, sumFrom, grantsView}
 use Rattle.descriptor_laws.specs.Laws.{MaskExactly}
 use Rattle.descriptor_laws.proofs.grants.ModeLaws.{allBelow, all-below, no-marks, mask-exact}
 
--- One test before two others.
+-- one test before two others
 or-assoc : (a b c : Bool) → (a || (b || c)) ≡ ((a || b) || c)
 or-assoc true b c = refl
 or-assoc false b c = refl
 
 -- ---- the union of two masks
 
--- The union has a mode exactly where one of the two has it.
+-- the union has a mode exactly where one of the two has it
 or-has : (a b m : ℕ) → hasMode (bitOr a b) m ≡ (hasMode a m || hasMode b m)
 unfolding hasMode
 or-has = or-bit
 
 -- ---- the mask of all grants
 
--- The union of a mask and the masks of allowed grants has a mode exactly where the mask has it or a grant names it.
+-- the union of a mask and the masks of allowed grants has a mode exactly where the mask has it or a grant names it
 sum-has : (sum : Sum) (gs : List Grant) (m : ℕ) → m < 4 → sum .mask < 16 → All GrantOk gs
     → hasMode (sumFrom sum gs .mask) m ≡ (hasMode (sum .mask) m || anyHas m gs)
 sum-has sum [] m h s a = sym (or-false (hasMode (sum .mask) m))
@@ -40,12 +40,12 @@ sum-has sum (g ∷ gs) m h s a =
     (or-has (sum .mask) (maskOf (g .modes)) m ∙ ap (λ (t : Bool). hasMode (sum .mask) m || t) (q .1 m h))
     ∙ sym (or-assoc (hasMode (sum .mask) m) (isIn m (g .modes)) (anyHas m gs))
 
--- The union has no other bit.
+-- the union has no other bit
 sum-small : (sum : Sum) (gs : List Grant) → sum .mask < 16 → All GrantOk gs → sumFrom sum gs .mask < 16
 sum-small sum [] s a = s
 sum-small sum (g ∷ gs) s a = sum-small _ gs (or-lt 4 (sum .mask) (maskOf (g .modes)) s (mask-exact (g .modes) (a .0 .modes) .0)) (a .1)
 
--- The mask that is seen of allowed grants has a mode exactly where one of them names it, and no other bit.
+-- the mask that is seen of allowed grants has a mode exactly where one of them names it, and no other bit
 pub grants-has : (at : ℕ) (gs : List Grant) → All GrantOk gs
     → (grantsView at gs .sum .mask < 16) × ((m : ℕ) → m < 4 → hasMode (grantsView at gs .sum .mask) m ≡ anyHas m gs)
 unfolding isIn
@@ -71,7 +71,7 @@ union-is a gs s h =
     let e = eqb→eq a _ (all-below 16 summed all-summed a s) in
     e ∙ rw (h 0 (omega arith), h 1 (omega arith), h 2 (omega arith), h 3 (omega arith))
 
--- The mask that is seen of allowed grants is their union.
+-- the mask that is seen of allowed grants is their union
 pub grants-union : (at : ℕ) (gs : List Grant) → All GrantOk gs → grantsView at gs .sum .mask ≡ unionOf gs
 grants-union at gs a = let q = grants-has at gs a in union-is (grantsView at gs .sum .mask) gs (q .0) (q .1)
 

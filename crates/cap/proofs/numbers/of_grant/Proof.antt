@@ -8,7 +8,7 @@ use borrow.Author.Needs.{needs}
 use Rattle.cap.proofs.numbers.of_grant.Statement.{statement}
 use Rattle.cap.proofs.numbers.of_grant.Tie as tie
 
--- The numbers of a grant.
+-- the numbers of a grant
 abbrev shown : GrantRead → GrantNumbers
 shown v = grantNumbers (grantRead v)
 

@@ -13,20 +13,20 @@ use Rattle.octets.proofs.NumberLaws.{number-in, number-wide, number-sho
 use Rattle.octets.proofs.numbers.number_at.Statement.{statement}
 use Rattle.octets.proofs.numbers.number_at.Tie as tie
 
--- The number in one byte more.
+-- the number in one byte more
 number-more : (s : List ℕ) (at k : ℕ) → numberAt s at (k + 1) ≡ numberAt s at k * 256 + getD s (at + k) 0
 unfolding numberAt
 number-more s at k = rw add-one
 
--- The bound of one byte more.
+-- the bound of one byte more
 pow-more : (k : ℕ) → 256 ^ (k + 1) ≡ 256 ^ k * 256
 pow-more k = rw (add-one, pow-suc)
 
--- Before the eighth byte there is room for one more.
+-- before the eighth byte there is room for one more
 pow-room : (k : ℕ) → k < 8 → 256 ^ k ≤ 2 ^ 56
 pow-room k h = pow-le-pow-right {n = 256} (lit< tt) {j = 7} (omega arith)
 
--- The bound is not 0.
+-- the bound is not 0
 pow-some : (w : ℕ) → 0 < 256 ^ w
 pow-some w = pow-le-pow-right {n = 256} (lit< tt) {i = 0} (omega arith)
 

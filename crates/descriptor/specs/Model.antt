@@ -47,9 +47,11 @@ modeNames = mRead ∷ mWrite ∷ mExecute ∷ mConfigure ∷ []
 unfoldable pub encMode : ℕ → List ℕ
 encMode m = getD modeNames m []
 
+-- the modes of a grant: an array of their names
 unfoldable pub encModes : List ℕ → List ℕ
 encModes ms = head 4 (length ms) ++ encAll encMode ms
 
+-- a grant: a map of modes, constraints where they are there, and resource_pattern
 unfoldable pub encGrant : Grant → List ℕ
 encGrant g =
     head 5 (2 + size (g .constraints))
@@ -57,6 +59,7 @@ encGrant g =
     ++ (encOpt kConstraints encPairs (g .constraints)
     ++ (kResourcePattern ++ encText (g .pattern))))
 
+-- the grants of a payload: an array of them
 unfoldable pub encGrants : List Grant → List ℕ
 encGrants gs = head 4 (length gs) ++ encAll encGrant gs
 

@@ -53,6 +53,7 @@ pub record PairsOk (most : ℕ) (ps : List Pair) : Type 0 where
 abbrev pub ValueOk : ℕ → ℕ → Type 0
 ValueOk algorithm n = ((algorithm ≡ 0) × (n ≡ 64)) ⊎ ((algorithm ≡ 1) × (1 ≤ n) × (n ≤ 72))
 
+-- a signature: key_id of 1 to 64 bytes, and a value that its algorithm allows
 pub record SignatureOk (s : Signature) : Type 0 where
   pub keyId : TextOk 1 64 (s .keyId)
   pub value : ValueOk (s .algorithm) (length (s .value))

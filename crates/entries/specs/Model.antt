@@ -42,6 +42,7 @@ abbrev pub size : {X : Type 0} → Option X → ℕ
 size none = 0
 size (some x) = 1
 
+-- a pair: its key, then its value
 unfoldable pub encPair : Pair → List ℕ
 encPair p = encText (p .key) ++ encText (p .value)
 
@@ -53,6 +54,7 @@ encPairs ps = head 5 (length ps) ++ encAll encPair ps
 unfoldable pub encAlgorithm : ℕ → List ℕ
 encAlgorithm a = getD algorithms a []
 
+-- a signature: a map of key_id, algorithm and signature_value
 unfoldable pub encSignature : Signature → List ℕ
 encSignature s =
     head 5 3

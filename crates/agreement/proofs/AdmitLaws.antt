@@ -14,16 +14,16 @@ use Rattle.resource.specs.Pattern.{Path, IsPath, admits}
 use Rattle.resource.specs.Text.{isResource, pathOf, patternOf}
 use Rattle.resource.proofs.Promises.{resources-exact, resources-once}
 use Rattle.entries.specs.Model.{pairCount}
-use Rattle.descriptor.specs.Model.{Grant, Descriptor, encode}
-use Rattle.descriptor.specs.Allowed.{isIn}
-use Rattle.request.specs.Request.{Request}
-use Rattle.request.specs.Promises.{someServes, formed}
-use Rattle.narrowing.specs.Meaning.{anyAdmits}
-use Rattle.narrowing.specs.Promises.{NoPairs, Inside}
-use Rattle.narrowing.proofs.Promises.{constrained-exactly, accepted-exactly}
+use Rattle.descriptor_spec.specs.Model.{Grant, Descriptor, encode}
+use Rattle.descriptor_spec.specs.Allowed.{isIn}
+use Rattle.request_spec.specs.Request.{Request}
+use Rattle.request_spec.specs.Promises.{someServes, formed}
+use Rattle.narrowing_spec.specs.Meaning.{anyAdmits}
+use Rattle.narrowing_spec.specs.Promises.{NoPairs, Inside}
+use Rattle.narrowing_spec.proofs.Promises.{constrained-exactly, accepted-exactly}
 use Rattle.resource.specs.Characters.{oneOf}
 use Rattle.steps.specs.Order.{Step, AllPass}
-use Rattle.request.specs.declared.DecisionNumbers.{DecisionNumbers}
+use Rattle.request_spec.specs.declared.DecisionNumbers.{DecisionNumbers}
 use Rattle.agreement.specs.Promises.{numbered, AcceptedUnder, StepsAdmit}
 
 -- a number is one of two lists exactly where it is one of the first or of the second

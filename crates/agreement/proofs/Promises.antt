@@ -3,11 +3,11 @@ use mathlib.Core.Path.{_≡_, refl}
 use mathlib.Core.List.{List, [], _∷_}
 use Prim.Native.Nat.{ℕ}
 use Rattle.resource.specs.Text.{pathOf}
-use Rattle.descriptor.specs.Model.{Descriptor}
-use Rattle.request.specs.Request.{Request}
-use Rattle.request.specs.Promises.{held, stepsFor}
-use Rattle.request.proofs.Promises.{granted-exactly}
-use Rattle.narrowing.specs.Meaning.{Admits}
+use Rattle.descriptor_spec.specs.Model.{Descriptor}
+use Rattle.request_spec.specs.Request.{Request}
+use Rattle.request_spec.specs.Promises.{held, stepsFor}
+use Rattle.request_spec.proofs.Promises.{granted-exactly}
+use Rattle.narrowing_spec.specs.Meaning.{Admits}
 use Rattle.agreement.specs.Promises.{StepsAdmit, GrantedAdmits, AcceptedServes, AcceptedGrants}
 use Rattle.agreement.proofs.AdmitLaws as laws
 

@@ -8,16 +8,16 @@ use Prim.Native.Nat.{ℕ}
 use Rattle.octets.specs.Bytes.{AreBytes}
 use Rattle.resource.specs.Characters.{oneOf}
 use Rattle.resource.specs.Text.{pathOf}
-use Rattle.descriptor.specs.Model.{Descriptor, encode}
-use Rattle.descriptor.specs.Allowed.{Allowed}
+use Rattle.descriptor_spec.specs.Model.{Descriptor, encode}
+use Rattle.descriptor_spec.specs.Allowed.{Allowed}
 use Rattle.steps.specs.Order.{Step, AllPass}
-use Rattle.request.specs.declared.DecisionNumbers.{DecisionNumbers}
-use Rattle.request.specs.Request.{Request}
-use Rattle.request.specs.Decision.{decisionOf, numbersOf}
-use Rattle.request.specs.Promises.{held, Under, stepsFor}
-use Rattle.narrowing.specs.Meaning.{Admits}
-use Rattle.narrowing.specs.Narrow.{narrow, numbersOf as narrowNumbers}
-use Rattle.narrowing.specs.Promises.{NoPairs, answerOnly}
+use Rattle.request_spec.specs.declared.DecisionNumbers.{DecisionNumbers}
+use Rattle.request_spec.specs.Request.{Request}
+use Rattle.request_spec.specs.Decision.{decisionOf, numbersOf}
+use Rattle.request_spec.specs.Promises.{held, Under, stepsFor}
+use Rattle.narrowing_spec.specs.Meaning.{Admits}
+use Rattle.narrowing_spec.specs.Narrow.{narrow, numbersOf as narrowNumbers}
+use Rattle.narrowing_spec.specs.Promises.{NoPairs, answerOnly}
 
 -- the steps of a list that have one of the numbers
 abbrev pub numbered : List ℕ → List (Step DecisionNumbers) → List (Step DecisionNumbers)

@@ -14,17 +14,17 @@ ghost use mathlib.Core.Path.{_≡_};
 ghost use Rattle.octets.specs.Bytes.{AreBytes};
 ghost use Rattle.cbor_item.specs.Item as items;
 ghost use Rattle.resource.specs.Text as texts;
-ghost use Rattle.descriptor.specs.Reader.{readOf};
-ghost use Rattle.descriptor.specs.Code.{readingOf};
-ghost use Rattle.descriptor.specs.Numbers as descriptors;
+ghost use Rattle.descriptor_spec.specs.Reader.{readOf};
+ghost use Rattle.descriptor_spec.specs.Code.{readingOf};
+ghost use Rattle.descriptor_spec.specs.Numbers as descriptors;
 ghost use Rattle.grant_reader.specs.Code.{nthOf};
-ghost use Rattle.image.specs.Check as images;
-ghost use Rattle.image.specs.NewImage as creations;
-ghost use Rattle.image.specs.Edition1 as edition1;
-ghost use Rattle.submission.specs.Submission as submissions;
-ghost use Rattle.request.specs.Request.{requestOf};
-ghost use Rattle.request.specs.Decision as requests;
-ghost use Rattle.narrowing.specs.Narrow as narrowings;
+ghost use Rattle.image_spec.specs.Check as images;
+ghost use Rattle.image_spec.specs.NewImage as creations;
+ghost use Rattle.image_spec.specs.Edition1 as edition1;
+ghost use Rattle.submission_spec.specs.Submission as submissions;
+ghost use Rattle.request_spec.specs.Request.{requestOf};
+ghost use Rattle.request_spec.specs.Decision as requests;
+ghost use Rattle.narrowing_spec.specs.Narrow as narrowings;
 ghost use Rattle.cap.specs.Numbers.{windowOf};
 
 // The item at the place.

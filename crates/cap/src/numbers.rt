@@ -20,13 +20,13 @@ use submission::Submission;
 ghost use mathlib.Core.Path.{_≡_};
 ghost use Rattle.cbor_item.specs.Item as items;
 ghost use Rattle.resource.specs.Text as texts;
-ghost use Rattle.descriptor.specs.Code.{grantRead};
-ghost use Rattle.descriptor.specs.Numbers as descriptors;
-ghost use Rattle.image.specs.Check as images;
-ghost use Rattle.image.specs.NewImage as creations;
-ghost use Rattle.submission.specs.Submission as submissions;
-ghost use Rattle.request.specs.Decision as requests;
-ghost use Rattle.narrowing.specs.Narrow as narrowings;
+ghost use Rattle.descriptor_spec.specs.Code.{grantRead};
+ghost use Rattle.descriptor_spec.specs.Numbers as descriptors;
+ghost use Rattle.image_spec.specs.Check as images;
+ghost use Rattle.image_spec.specs.NewImage as creations;
+ghost use Rattle.submission_spec.specs.Submission as submissions;
+ghost use Rattle.request_spec.specs.Decision as requests;
+ghost use Rattle.narrowing_spec.specs.Narrow as narrowings;
 ghost use Rattle.cap.specs.Numbers.{windowOf};
 
 // The key's window.

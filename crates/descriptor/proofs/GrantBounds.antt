@@ -22,7 +22,7 @@ use Rattle.entries.specs.Keys.{kModes, kGrants, kConstraints, kResourcePattern}
 use Rattle.entries.specs.Kinds.{isKind}
 use Rattle.entries.specs.Value.{countAt, keyedAt}
 use Rattle.entries.proofs.ValueBounds.{CountTo, count-bounds, keyed-count-bounds, StringTo, keyed-kind-bounds, opt-pairs-on}
-use Rattle.descriptor.specs.Reader.{GrantSeen, grantAt, Sum, moreAt, GrantsSeen, grantsAt}
+use Rattle.descriptor_spec.specs.Reader.{GrantSeen, grantAt, Sum, moreAt, GrantsSeen, grantsAt}
 use Rattle.descriptor.proofs.ModeCode.{MaskTo, modes-bounds}
 
 -- ---- one grant

@@ -16,8 +16,8 @@ use Rattle.exact.proofs.CountedLaws.{many-zero, many-refused}
 use Rattle.entries.specs.Keys.{mRead, mWrite, mExecute, mConfigure, kModes}
 use Rattle.entries.specs.Value.{countAt, oneOf, keyedAt}
 use Rattle.entries.proofs.ValueBounds.{key-fits, CountTo, keyed-count-bounds}
-use Rattle.descriptor.specs.Model.{modeNames}
-use Rattle.descriptor.specs.Reader.{hasMode, modeAt, modesAt}
+use Rattle.descriptor_spec.specs.Model.{modeNames}
+use Rattle.descriptor_spec.specs.Reader.{hasMode, modeAt, modesAt}
 use Rattle.descriptor.specs.Code.{withMode}
 use Rattle.octets.proofs.TruthLaws.{T-false}
 use Rattle.exact.specs.Holds.{Holds}

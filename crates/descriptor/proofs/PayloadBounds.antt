@@ -23,8 +23,8 @@ use Rattle.entries.specs.Kinds.{isKind}
 use Rattle.entries.specs.Value.{timeAt, keyedAt, flag}
 use Rattle.entries.proofs.ValueBounds.{CountTo, count-bounds, keyed-count-bounds, StringTo, keyed-kind-bounds, opt-kind-on, opt-pairs-on}
 use Rattle.descriptor.specs.declared.payload.PayloadFields.{PayloadFields}
-use Rattle.descriptor.specs.Reader.{issueAt, grantorAt, Ids, idsAt, PayloadSeen, payloadFits, payloadAt, Seen, beforePayload}
-use Rattle.descriptor.specs.Reader.{descriptorAt}
+use Rattle.descriptor_spec.specs.Reader.{issueAt, grantorAt, Ids, idsAt, PayloadSeen, payloadFits, payloadAt, Seen, beforePayload}
+use Rattle.descriptor_spec.specs.Reader.{descriptorAt}
 use Rattle.descriptor.specs.Code.{payloadOf}
 use Rattle.descriptor.proofs.GrantBounds.{GrantsIn, grants-bounds}
 

@@ -5,10 +5,10 @@ use Prim.Native.Nat.{ℕ, _-_, _≤_, _<_}
 use lib.ListN.{length}
 use borrow.Author.Tests.{eq-eqb, ne-eqb, le-leb, lt-leb}
 use Rattle.exact.specs.Reads.{Got, got, refused}
-use Rattle.descriptor.specs.declared.Reading.the-variants.{Read, Structure, Validity}
-use Rattle.descriptor.specs.Allowed.{longest, longestPeriod}
-use Rattle.descriptor.specs.Reader.{Seen, descriptorAt, whole, readOf}
-use Rattle.descriptor.specs.Code.{fieldsOf, readingOf}
+use Rattle.descriptor_spec.specs.declared.Reading.the-variants.{Read, Structure, Validity}
+use Rattle.descriptor_spec.specs.Allowed.{longest, longestPeriod}
+use Rattle.descriptor_spec.specs.Reader.{Seen, descriptorAt, whole, readOf}
+use Rattle.descriptor_spec.specs.Code.{fieldsOf, readingOf}
 
 module _ (s : List ℕ) where
   -- too many bytes

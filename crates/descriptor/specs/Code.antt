@@ -1,15 +1,13 @@
 -- A reader of the promises does not need this page.
--- What the answers of the code say, of the inner functions and of reading, as answers of exact readers.
+-- What the answers of the inner functions say, as answers of exact readers.
 use mathlib.Core.Bool.{not}
 use Prim.Native.Nat.{ℕ, _+_, _/_, _%_}
 use lib.Dec.{eqb}
-use Rattle.octets.specs.Span.{Span, spanOf}
+use Rattle.octets.specs.Span.{spanOf}
 use Rattle.exact.specs.Reads.{Got, got, refused, guard}
 use Rattle.entries.specs.declared.signature.SignatureFields.{SignatureFields}
 use Rattle.entries.specs.Code.{signatureOf}
-use Rattle.descriptor.specs.declared.GrantFields.{GrantFields}
-use Rattle.descriptor.specs.declared.GrantRead.{GrantRead}
-use Rattle.descriptor.specs.declared.GrantRead.the-variants.{IsGrant, NoGrant}
+use Rattle.descriptor_spec.specs.Reader.{Sum, GrantsSeen, Issue, Grantor, Ids, PayloadSeen, seenIn, Seen}
 use Rattle.descriptor.specs.declared.grants.Sum as sums
 use Rattle.descriptor.specs.declared.grants.SumRead.{SumRead}
 use Rattle.descriptor.specs.declared.grants.SumRead.the-variants.{IsSum, NoSum}
@@ -28,12 +26,6 @@ use Rattle.descriptor.specs.declared.payload.IdsRead.the-variants.{AreId
 use Rattle.descriptor.specs.declared.payload.PayloadFields.{PayloadFields}
 use Rattle.descriptor.specs.declared.payload.PayloadRead.{PayloadRead}
 use Rattle.descriptor.specs.declared.payload.PayloadRead.the-variants.{IsPayload, NoPayload}
-use Rattle.descriptor.specs.declared.Part.{Part}
-use Rattle.descriptor.specs.declared.Fields.{Fields}
-use Rattle.descriptor.specs.declared.Reading.{Reading}
-use Rattle.descriptor.specs.declared.Reading.the-variants.{Read, Structure, Validity}
-use Rattle.descriptor.specs.Reader.{GrantSeen, Sum, GrantsSeen, Issue, Grantor, Ids, PayloadSeen, seenIn, Seen, Answer}
-use Rattle.descriptor.specs.Reader.{read, structure, validity}
 
 -- ---- modes
 
@@ -42,21 +34,6 @@ unfoldable pub withMode : ℕ → ℕ → ℕ → Got ℕ
 withMode mask bit next = guard (not (eqb (mask / bit % 2) 1)) (got (mask + bit) next)
 
 -- ---- grants
-
--- what is seen of a grant
-abbrev pub grantOf : GrantFields → GrantSeen
-grantOf f = record {
-  mask = f .mask;
-  modes = f .modes;
-  constraints = f .constraints;
-  pairs = f .pairs;
-  pattern =
-      spanOf (f .pattern) (f .len);
-}
-
-abbrev pub grantRead : GrantRead → Got GrantSeen
-grantRead (IsGrant f next) = got (grantOf f) next
-grantRead NoGrant = refused
 
 -- the sum over grants
 abbrev pub sumOf : sums.Sum → Sum
@@ -119,37 +96,3 @@ payloadRead NoPayload = refused
 -- what is seen of a payload of n bytes at 9 and a signature
 abbrev pub seenOf : PayloadFields → ℕ → SignatureFields → Seen
 seenOf p n g = record { covered = spanOf 9 n; payload = payloadOf p; signature = signatureOf g }
-
--- a part of the bytes
-abbrev pub partOf : Span → Part
-partOf c = record { at = c .start; len = c .len }
-
--- the fields of what is seen of a descriptor
-abbrev pub fieldsOf : Seen → Fields
-fieldsOf v =
-    record {
-      payload = partOf (v .covered);
-      «issued_at» = v .payload .issuedAt;
-      «not_before» = v .payload .notBefore;
-      «not_after» = v .payload .notAfter;
-      id = v .payload .id;
-      issuer = partOf (v .payload .issuer);
-      grantor = record { at = v .payload .grantor .at; len = v .payload .grantor .size };
-      fay = v .payload .fay;
-      terminal = v .payload .terminal;
-      grants = v .payload .grants .count;
-      first = v .payload .grants .start;
-      metadata = v .payload .metadata .at;
-      pairs = v .payload .metadata .size;
-      constraints = v .payload .grants .sum .pairs;
-      mask = v .payload .grants .sum .mask;
-      key = partOf (v .signature .keyId);
-      algorithm = v .signature .algorithm;
-      signature = partOf (v .signature .value);
-    }
-
--- what reading answers
-abbrev pub readingOf : Answer → Reading
-readingOf (read v) = Read (fieldsOf v)
-readingOf structure = Structure
-readingOf validity = Validity

@@ -20,8 +20,9 @@ ghost use lib.Dec.{eqb};
 ghost use Rattle.exact.specs.Reads.{got, guard};
 ghost use Rattle.entries.specs.Value.{flag};
 ghost use Rattle.resource.specs.Identifier.{terminalSize};
-ghost use Rattle.descriptor.specs.Reader.{grantAt, moreAt, grantsAt};
-ghost use Rattle.descriptor.specs.Code.{grantOf, grantRead, sumOf, sumRead, grantsRead};
+ghost use Rattle.descriptor_spec.specs.Reader.{grantAt, moreAt, grantsAt};
+ghost use Rattle.descriptor_spec.specs.Code.{grantOf, grantRead};
+ghost use Rattle.descriptor.specs.Code.{sumOf, sumRead, grantsRead};
 
 // The union of masks and the number of constraint pairs.
 pub(crate) struct Sum {

@@ -1,12 +1,12 @@
 // Modes, by the names of their numbers.
-use crate::sizes::MODE_COUNT;
+use descriptor_spec::sizes::MODE_COUNT;
 use entries::keys;
 use entries::value::CountRead;
 use entries::value::keyed_count;
 use octets::has_at;
 ghost use mathlib.Core.Path.{_≡_};
 ghost use Prim.Native.Nat.{_<_};
-ghost use Rattle.descriptor.specs.Reader.{modeAt, modesAt};
+ghost use Rattle.descriptor_spec.specs.Reader.{modeAt, modesAt};
 ghost use Rattle.descriptor.specs.Code.{withMode};
 ghost use Rattle.entries.specs.Code.{countRead};
 

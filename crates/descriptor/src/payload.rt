@@ -4,8 +4,8 @@ use crate::grants::GrantsFields;
 use crate::grants::GrantsRead;
 use crate::grants::grants_at;
 use crate::ids::equal_terminals;
-use crate::sizes;
 use cbor_item::SpanRead;
+use descriptor_spec::sizes;
 use entries::keys;
 use entries::pairs::opt_pairs;
 use entries::value::CountRead;
@@ -22,7 +22,7 @@ ghost use Prim.Native.Nat.{_+_, _≤_};
 ghost use lib.ListN.{length};
 ghost use Rattle.exact.specs.Reads.{got, guard};
 ghost use Rattle.resource.specs.Identifier.{terminalSize};
-ghost use Rattle.descriptor.specs.Reader.{issueAt, grantorAt, idsAt, payloadFits, payloadAt};
+ghost use Rattle.descriptor_spec.specs.Reader.{issueAt, grantorAt, idsAt, payloadFits, payloadAt};
 ghost use Rattle.descriptor.specs.Code.{issueRead, grantorRead, idsRead, payloadOf, payloadRead};
 
 // metadata, issued_at, issuer_id and not_after.

@@ -11,8 +11,9 @@ use entries::signature::SignatureRead;
 use entries::signature::signature_at;
 use octets::has_at;
 ghost use mathlib.Core.Path.{_≡_};
-ghost use Rattle.descriptor.specs.Reader.{readOf};
-ghost use Rattle.descriptor.specs.Code.{seenOf, fieldsOf, readingOf};
+ghost use Rattle.descriptor_spec.specs.Reader.{readOf};
+ghost use Rattle.descriptor_spec.specs.Code.{fieldsOf, readingOf};
+ghost use Rattle.descriptor.specs.Code.{seenOf};
 
 // The fields of a payload of n bytes at 9 and a signature.
 fn fields_of(p: PayloadFields, n: usize, g: SignatureFields) -> Fields

@@ -1,5 +1,5 @@
 -- What document 01 allows of strings, times, maps of pairs and signatures. Nothing of places or of reading. A reader of the promises does
--- not need this page: `AllowedExactly` of `descriptor_laws` has each limit with its number.
+-- not need this page: `AllowedExactly` of `descriptor_spec` has each limit with its number.
 use mathlib.Core.Path.{_≡_}
 use mathlib.Core.Bool.{true}
 use mathlib.Core.List.{List, []}

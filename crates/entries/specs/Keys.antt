@@ -1,6 +1,6 @@
 -- The fixed byte strings of the maps of source 002: published keys, algorithms and mode names, each as it stands in the bytes, with its
 -- head. The readers compare them in place. A reader of the promises does not need this page: that each is the text of its name, and that
--- the keys of each map ascend, is promised in specs/Promises.antt of `descriptor_laws`.
+-- the keys of each map ascend, is promised in specs/Promises.antt of `descriptor_spec`.
 use mathlib.Core.List.{List, [], _∷_}
 use Prim.Native.Nat.{ℕ}
 

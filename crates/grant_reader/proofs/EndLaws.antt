@@ -9,7 +9,7 @@ use Rattle.exact.specs.Reads.{refused}
 use Rattle.cbor_item.specs.Head.{headAt}
 use Rattle.exact.proofs.ReadsLaws.{stopped}
 use Rattle.entries.specs.Value.{countAt}
-use Rattle.descriptor.specs.Reader.{grantAt}
+use Rattle.descriptor_spec.specs.Reader.{grantAt}
 
 -- there is no head
 head-end : (s : List ℕ) → refused ≡ headAt s (length s)

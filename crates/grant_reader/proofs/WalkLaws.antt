@@ -5,12 +5,12 @@ use Prim.Native.Nat.{ℕ, zero, suc, _+_, _-_, _≤_, _<_}
 use native.Mathlib.Omega.{arith}
 use lib.ListN.{length}
 use Rattle.exact.specs.Reads.{Got, got, refused}
-use Rattle.descriptor.specs.declared.Reading.{Reading}
-use Rattle.descriptor.specs.declared.Reading.the-variants.{Read, Structure, Validity}
-use Rattle.descriptor.specs.declared.GrantNumbers.{GrantNumbers}
-use Rattle.descriptor.specs.Code.{readingOf}
-use Rattle.descriptor.specs.Numbers.{grantNumbers}
-use Rattle.descriptor.specs.Reader.{GrantSeen, Seen, Answer, read, structure, validity, readOf, grantAt}
+use Rattle.descriptor_spec.specs.declared.Reading.{Reading}
+use Rattle.descriptor_spec.specs.declared.Reading.the-variants.{Read, Structure, Validity}
+use Rattle.descriptor_spec.specs.declared.GrantNumbers.{GrantNumbers}
+use Rattle.descriptor_spec.specs.Code.{readingOf}
+use Rattle.descriptor_spec.specs.Numbers.{grantNumbers}
+use Rattle.descriptor_spec.specs.Reader.{GrantSeen, Seen, Answer, read, structure, validity, readOf, grantAt}
 use Rattle.grant_reader.specs.Code.{startIn, startOf, nextIn, placeAfter, placeFrom, nthOf}
 use Rattle.grant_reader.specs.Promises.{noGrant, NoneStays}
 

@@ -3,7 +3,7 @@ use mathlib.Core.List.{List}
 use Prim.Native.Nat.{ℕ, zero, suc}
 use lib.ListN.{length}
 use Rattle.exact.specs.Reads.{Got, got, refused}
-use Rattle.descriptor.specs.Reader.{GrantSeen, grantAt, Answer, read, structure, validity, readOf}
+use Rattle.descriptor_spec.specs.Reader.{GrantSeen, grantAt, Answer, read, structure, validity, readOf}
 
 -- the place of the first grant of what was read from s; the end of s where nothing was
 abbrev pub startIn : List ℕ → Answer → ℕ

@@ -4,14 +4,14 @@ use mathlib.Core.List.{List}
 use Prim.Native.Nat.{ℕ, _≤_, _<_}
 use lib.ListN.{length, getD}
 use Rattle.octets.specs.Bytes.{AreBytes}
-use Rattle.descriptor.specs.declared.GrantNumbers.{GrantNumbers}
-use Rattle.descriptor.specs.Model.{Grant, Descriptor, encode}
-use Rattle.descriptor.specs.Allowed.{Allowed}
-use Rattle.descriptor.specs.Reader.{readOf, grantAt}
-use Rattle.descriptor.specs.View.{grantPlace}
-use Rattle.descriptor.specs.Code.{readingOf}
-use Rattle.descriptor.specs.Numbers.{numbersOf, grantNumbers}
-use Rattle.descriptor_laws.specs.Promises.{GrantHandedBack}
+use Rattle.descriptor_spec.specs.declared.GrantNumbers.{GrantNumbers}
+use Rattle.descriptor_spec.specs.Model.{Grant, Descriptor, encode}
+use Rattle.descriptor_spec.specs.Allowed.{Allowed}
+use Rattle.descriptor_spec.specs.Reader.{readOf, grantAt}
+use Rattle.descriptor_spec.specs.View.{grantPlace}
+use Rattle.descriptor_spec.specs.Code.{readingOf}
+use Rattle.descriptor_spec.specs.Numbers.{numbersOf, grantNumbers}
+use Rattle.descriptor_spec.specs.Promises.{GrantHandedBack}
 use Rattle.grant_reader.specs.Code.{startOf, placeFrom, nthOf}
 
 -- the numbers of no grant

@@ -2,8 +2,8 @@
 use descriptor::GrantRead;
 use descriptor::Reading;
 ghost use mathlib.Core.Path.{_≡_};
-ghost use Rattle.descriptor.specs.Code.{grantRead};
-ghost use Rattle.descriptor.specs.Reader.{grantAt};
+ghost use Rattle.descriptor_spec.specs.Code.{grantRead};
+ghost use Rattle.descriptor_spec.specs.Reader.{grantAt};
 ghost use Rattle.grant_reader.specs.Code.{startOf, placeAfter, nthOf};
 
 // The place of the first grant; the end of the bytes where they don't read.

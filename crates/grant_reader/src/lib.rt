@@ -4,8 +4,8 @@ mod core;
 
 use descriptor::GrantRead;
 ghost use mathlib.Core.Path.{_≡_};
-ghost use Rattle.descriptor.specs.Code.{grantRead};
-ghost use Rattle.descriptor.specs.Reader.{grantAt};
+ghost use Rattle.descriptor_spec.specs.Code.{grantRead};
+ghost use Rattle.descriptor_spec.specs.Reader.{grantAt};
 ghost use Rattle.grant_reader.specs.Code.{startOf, placeAfter, nthOf};
 
 // A reader of grants: the bytes, and the place of the next grant. Past the last grant, and in bytes that don't read, no grant stands there.

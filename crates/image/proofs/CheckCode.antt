@@ -20,28 +20,28 @@ use Rattle.exact.proofs.ReadsLaws.{guard-yes, guard-no, guard-leb, passed, fail
 use Rattle.octets.specs.Write.{putAt}
 use Rattle.octets.proofs.NumberLaws.{number-in}
 use Rattle.octets.proofs.PartLaws.{lent-part}
-use Rattle.descriptor.specs.declared.Fields.{Fields}
-use Rattle.descriptor.specs.declared.Reading.{Reading}
-use Rattle.descriptor.specs.declared.Reading.the-variants.{Read, Structure, Validity}
-use Rattle.descriptor.specs.Reader.{readOf}
-use Rattle.descriptor.specs.Code.{readingOf}
-use Rattle.image.specs.declared.Held.{Held}
-use Rattle.image.specs.declared.Held.the-variants.{Missing}
-use Rattle.image.specs.declared.ImageCheck.{ImageCheck}
-use Rattle.image.specs.declared.ImageCheck.the-variants.{Unsound}
-use Rattle.image.specs.declared.Finding.the-variants.{Malformed}
-use Rattle.image.specs.declared.Creation.the-variants.{Done, TooShort}
-use Rattle.image.specs.declared.layout.Layout.{Layout}
-use Rattle.descriptor.specs.Allowed.{idSize}
-use Rattle.image.specs.Layout.{modeEdition, headerSize, headerWidth, editionPlace, modesPlace, countPlace, headerZero}
-use Rattle.image.specs.Layout.{bodyWidth, maskWidth, offsetPlace, lengthPlace, maskPlace, zeroPlace, rowSize, mostRows, zeroSize}
-use Rattle.image.specs.Layout.{rowPlace, LayoutOk}
-use Rattle.image.specs.Image.{reading}
-use Rattle.image.specs.Check.{rowCount, rowId, rowLength, headerFits, idAmong, rowFits, onRead, rowAt, heldWith, rowsFrom, checked}
-use Rattle.image.specs.Check.{checkAnswer, checkOf, foundIn, findOf}
-use Rattle.image.specs.NewImage.{newBytes, creationOf, afterNew}
-use Rattle.image.proofs.BodyLaws.{read-in}
-use Rattle.image.proofs.RowsCode.{row-next-is, rows-next}
+use Rattle.descriptor_spec.specs.declared.Fields.{Fields}
+use Rattle.descriptor_spec.specs.declared.Reading.{Reading}
+use Rattle.descriptor_spec.specs.declared.Reading.the-variants.{Read, Structure, Validity}
+use Rattle.descriptor_spec.specs.Reader.{readOf}
+use Rattle.descriptor_spec.specs.Code.{readingOf}
+use Rattle.image_spec.specs.declared.Held.{Held}
+use Rattle.image_spec.specs.declared.Held.the-variants.{Missing}
+use Rattle.image_spec.specs.declared.ImageCheck.{ImageCheck}
+use Rattle.image_spec.specs.declared.ImageCheck.the-variants.{Unsound}
+use Rattle.image_spec.specs.declared.Finding.the-variants.{Malformed}
+use Rattle.image_spec.specs.declared.Creation.the-variants.{Done, TooShort}
+use Rattle.image_spec.specs.declared.layout.Layout.{Layout}
+use Rattle.descriptor_spec.specs.Allowed.{idSize}
+use Rattle.image_spec.specs.Layout.{modeEdition, headerSize, headerWidth, editionPlace, modesPlace, countPlace, headerZero}
+use Rattle.image_spec.specs.Layout.{bodyWidth, maskWidth, offsetPlace, lengthPlace, maskPlace, zeroPlace, rowSize, mostRows, zeroSize}
+use Rattle.image_spec.specs.Layout.{rowPlace, LayoutOk}
+use Rattle.image_spec.specs.Image.{reading}
+use Rattle.image_spec.specs.Check.{rowCount, rowId, rowLength, headerFits, idAmong, rowFits, onRead, rowAt, heldWith, rowsFrom, checked}
+use Rattle.image_spec.specs.Check.{checkAnswer, checkOf, foundIn, findOf}
+use Rattle.image_spec.specs.NewImage.{newBytes, creationOf, afterNew}
+use Rattle.image_spec.proofs.Laws.{row-next, read-in}
+use Rattle.image.proofs.RowsCode.{rows-next}
 
 -- ---- bytes that are zero
 
@@ -233,7 +233,7 @@ module _ (l : Layout) where
       → r ≡ rowPlace l i → hit ≡ same (take (r + idSize - r) (drop r s)) id → h′ ≡ heldWith hit h at (next - at) f
       → rowsFrom l s id (n - i) i at h ≡ rowsFrom l s id (n - (i + 1)) (i + 1) next h′
   rows-kept s id n i r at h h′ f next hit m e place p q =
-      let len : rowLength s (rowPlace l i) ≡ next - at = omega (arith, row-next-is l s i at f next e .0) in
+      let len : rowLength s (rowPlace l i) ≡ next - at = omega (arith, row-next l s i at f next e .0) in
       rows-next l s id n i at h f next m e
       ∙ ap (rowsFrom l s id (n - (i + 1)) (i + 1) next)
       (ap₂ (λ (b : Bool) (k : ℕ). heldWith b h at k f) (sym (id-is s id i r hit place p)) len ∙ sym q)

@@ -12,13 +12,13 @@ use Rattle.octets.specs.Number.{bigEndian, numberIn}
 use Rattle.octets.specs.Write.{putAt, movedUp}
 use Rattle.octets.proofs.Tests.{and-left, and-right}
 use Rattle.octets.proofs.PartLaws.{lent-part}
-use Rattle.image.specs.declared.Added.the-variants.{Done, Full}
-use Rattle.image.specs.declared.layout.Layout.{Layout}
-use Rattle.descriptor.specs.Allowed.{idSize}
-use Rattle.image.specs.Layout.{headerWidth, countPlace}
-use Rattle.image.specs.Layout.{bodyWidth, maskWidth, offsetPlace, lengthPlace, maskPlace, zeroPlace, rowSize, mostRows, zeroSize}
-use Rattle.image.specs.Layout.{rowPlace}
-use Rattle.image.specs.Grow.{raised, withRow, grown, fits, addedOf, afterAdd}
+use Rattle.image_spec.specs.declared.Added.the-variants.{Done, Full}
+use Rattle.image_spec.specs.declared.layout.Layout.{Layout}
+use Rattle.descriptor_spec.specs.Allowed.{idSize}
+use Rattle.image_spec.specs.Layout.{headerWidth, countPlace}
+use Rattle.image_spec.specs.Layout.{bodyWidth, maskWidth, offsetPlace, lengthPlace, maskPlace, zeroPlace, rowSize, mostRows, zeroSize}
+use Rattle.image_spec.specs.Layout.{rowPlace}
+use Rattle.image_spec.specs.Grow.{raised, withRow, grown, fits, addedOf, afterAdd}
 
 module _ (l : Layout) where
   -- ---- the offsets are raised

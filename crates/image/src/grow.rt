@@ -1,22 +1,22 @@
 // A new image, and one more row and body in an image, in place.
 use crate::Added;
 use crate::Creation;
-use crate::layout::BODY_WIDTH;
-use crate::layout::COUNT_PLACE;
-use crate::layout::EDITION_PLACE;
-use crate::layout::HEADER_SIZE;
-use crate::layout::HEADER_WIDTH;
-use crate::layout::HEADER_ZERO;
-use crate::layout::LENGTH_PLACE;
-use crate::layout::Layout;
-use crate::layout::MASK_PLACE;
-use crate::layout::MASK_WIDTH;
-use crate::layout::MODE_EDITION;
-use crate::layout::MODES_PLACE;
-use crate::layout::OFFSET_PLACE;
-use crate::layout::ZERO_PLACE;
-use crate::layout::row_place;
-use descriptor::sizes::ID_SIZE;
+use crate::places::row_place;
+use descriptor_spec::sizes::ID_SIZE;
+use image_spec::layout::BODY_WIDTH;
+use image_spec::layout::COUNT_PLACE;
+use image_spec::layout::EDITION_PLACE;
+use image_spec::layout::HEADER_SIZE;
+use image_spec::layout::HEADER_WIDTH;
+use image_spec::layout::HEADER_ZERO;
+use image_spec::layout::LENGTH_PLACE;
+use image_spec::layout::Layout;
+use image_spec::layout::MASK_PLACE;
+use image_spec::layout::MASK_WIDTH;
+use image_spec::layout::MODE_EDITION;
+use image_spec::layout::MODES_PLACE;
+use image_spec::layout::OFFSET_PLACE;
+use image_spec::layout::ZERO_PLACE;
 use octets::move_up;
 use octets::number_at;
 use octets::put;
@@ -24,10 +24,10 @@ use octets::put_number;
 ghost use mathlib.Core.Path.{_≡_};
 ghost use Prim.Native.Nat.{_+_, _≤_, _<_};
 ghost use lib.ListN.{length};
-ghost use Rattle.descriptor.specs.Allowed.{idSize};
-ghost use Rattle.image.specs.Layout.{rowSize, mostRows, rowPlace, LayoutOk};
-ghost use Rattle.image.specs.NewImage.{creationOf, afterNew};
-ghost use Rattle.image.specs.Grow.{raised, withRow, grown, fits, addedOf, afterAdd};
+ghost use Rattle.descriptor_spec.specs.Allowed.{idSize};
+ghost use Rattle.image_spec.specs.Layout.{rowSize, mostRows, rowPlace, LayoutOk};
+ghost use Rattle.image_spec.specs.NewImage.{creationOf, afterNew};
+ghost use Rattle.image_spec.specs.Grow.{raised, withRow, grown, fits, addedOf, afterAdd};
 
 // Makes a new image of no bodies; a buffer that is too short for its header is left as it was.
 pub(crate) fn new_image(layout: Layout, d: &mut [u8]) -> Creation

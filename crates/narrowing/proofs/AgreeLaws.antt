@@ -17,22 +17,20 @@ use Rattle.resource.specs.Level.{levels}
 use Rattle.resource.specs.Pattern.{Pattern, endsDeep}
 use Rattle.resource.specs.Text.{levelsOf}
 use Rattle.octets.proofs.SameLaws.{same-equal}
-use Rattle.descriptor.specs.Model.{Grant}
-use Rattle.descriptor.specs.Reader.{hasMode, GrantSeen, grantAt, Seen, read, readOf}
-use Rattle.descriptor_laws.specs.Laws.{SeenAs, InTurn, no-more, one-more}
-use Rattle.narrowing.specs.declared.Narrowing.the-variants.{NotCovered}
+use Rattle.descriptor_spec.specs.Model.{Grant}
+use Rattle.descriptor_spec.specs.Reader.{hasMode, GrantSeen, grantAt, Seen, read, readOf}
+use Rattle.descriptor_spec.specs.Laws.{SeenAs, InTurn, no-more, one-more}
+use Rattle.narrowing_spec.specs.declared.Narrowing.the-variants.{NotCovered}
 use Rattle.narrowing.specs.declared.search.Found.{Found}
 use Rattle.narrowing.specs.declared.search.Found.the-variants.{At, Nothing}
-use Rattle.narrowing.specs.Escape.{Rule, covered, canTake, escapesWith, deepest, choose, least, isSome, orZero, fewestNames}
-use Rattle.narrowing.specs.Escape.{lowestMode, ruleAt, firstRule}
+use Rattle.narrowing_spec.specs.Escape.{Rule, covered, canTake, escapesWith, deepest, choose, least, isSome, orZero, fewestNames}
+use Rattle.narrowing_spec.specs.Escape.{lowestMode, ruleAt, firstRule}
 use Rattle.narrowing.specs.Range.{most}
 use Rattle.narrowing.specs.Code.{below, markedAt, lacksAt, foundAt, lowestFrom, lowestIn, zeros, escapeIn, orNext, firstIn}
-use Rattle.narrowing.specs.Narrow.{rulesIn, answerAt}
-use Rattle.narrowing.specs.Laws.{rulesOf}
-use Rattle.narrowing.proofs.RuleLaws.{ruleFor}
-use Rattle.narrowing.proofs.LeastLaws.{least-fails, least-same}
-use Rattle.narrowing.proofs.SearchLaws.{with-last}
-use Rattle.narrowing.proofs.ReadLaws.{turn-rules, turn-count, read-turn}
+use Rattle.narrowing_spec.specs.Narrow.{rulesIn, answerAt}
+use Rattle.narrowing_spec.specs.Laws.{ruleFor, rulesOf}
+use Rattle.narrowing_spec.proofs.Laws.{rules-in-turn, least-fails, least-same, names-settle}
+use Rattle.narrowing.proofs.TurnLaws.{turn-count, read-turn}
 use Rattle.narrowing.proofs.MarkedLaws.{patternWith, pattern-seen, turn-few, zeros-lack, marked-covered, other-covered}
 
 -- ---- searches
@@ -84,7 +82,7 @@ fewest-deep : (qs : List Rule) (g : Rule) (d : List ℕ) (m : ℕ) → Told qs (
     → hasMode (g .mask) m ≡ true → fewestNames qs g m ≡ least (lacksAt d m) 1 (most - 1)
 unfolding fewestNames
 fewest-deep qs g d m t few e o =
-    deep-search (escapesWith qs g m) (lacksAt d m) (deepest qs) 127 (rw (e, o)) (with-last qs g m) (omega arith)
+    deep-search (escapesWith qs g m) (lacksAt d m) (deepest qs) 127 (rw (e, o)) (names-settle qs g m) (omega arith)
     (λ j l. rw (e, o) (ap not (sym (t m (suc j) e (omega arith)))))
 
 -- of a pattern without "**" there is only 0
@@ -236,4 +234,4 @@ scan-agrees s t v w bs bt e f =
     let a = read-turn s v bs e .1 in
     let b = read-turn t w bt f .1 in
     first-found s _ a t _ b
-    ∙ sym (ap₂ (λ (qs cs : List Rule). answerAt qs cs (firstRule qs cs)) (turn-rules a) (turn-rules b))
+    ∙ sym (ap₂ (λ (qs cs : List Rule). answerAt qs cs (firstRule qs cs)) (rules-in-turn _ _ _ _ _ a) (rules-in-turn _ _ _ _ _ b))

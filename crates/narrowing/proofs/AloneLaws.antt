@@ -15,14 +15,14 @@ use Rattle.resource.specs.Level.{levels}
 use Rattle.resource.specs.Pattern.{endsDeep}
 use Rattle.resource.specs.Text.{levelsOf}
 use Rattle.octets.proofs.Tests.{and-left, and-right, no-flag}
-use Rattle.descriptor.specs.Reader.{hasMode}
+use Rattle.descriptor_spec.specs.Reader.{hasMode}
 use Rattle.narrowing.specs.declared.range.Range.{Range}
 use Rattle.narrowing.specs.declared.search.Found.the-variants.{Nothing}
-use Rattle.narrowing.specs.Escape.{least}
+use Rattle.narrowing_spec.specs.Escape.{least}
 use Rattle.narrowing.specs.Range.{inRange, most, textRange}
 use Rattle.narrowing.specs.Code.{rowStart, rowEnd, rowMask, rowLevels, markedRows, lacksAt, lowestFrom, lowestIn, zeros, EscapeOf}
 use Rattle.narrowing.specs.Code.{fullRange, rowCovers}
-use Rattle.narrowing.proofs.LeastLaws.{least-fails}
+use Rattle.narrowing_spec.proofs.Laws.{least-fails}
 use Rattle.narrowing.proofs.RangeLaws.{marked-at, or-mode}
 use Rattle.narrowing.proofs.TableLaws.{rows-length, escape-nothing}
 

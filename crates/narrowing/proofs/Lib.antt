@@ -1,16 +1,6 @@
-pub mod LeastLaws
-pub mod CoveredLaws
-pub mod SearchLaws
-pub mod RuleLaws
-pub mod ReadLaws
-pub mod NumberLaws
-pub mod EscapeLaws
-pub mod NarrowLaws
-pub mod Promises
-pub mod Laws
-pub mod Cases
 pub mod RangeLaws
 pub mod MarkedLaws
+pub mod TurnLaws
 pub mod AgreeLaws
 pub mod MarkLaws
 pub mod CoverCode
@@ -20,4 +10,3 @@ pub mod AloneLaws
 pub mod MarkingLaws
 pub mod DeepCode
 pub mod NarrowCode
-pub mod OrderLaws

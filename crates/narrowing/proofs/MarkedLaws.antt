@@ -17,16 +17,16 @@ use Rattle.resource.specs.Cover.{covers}
 use Rattle.octets.proofs.Tests.{and-right, no-flag}
 use Rattle.octets.proofs.SameLaws.{same-self}
 use Rattle.resource.proofs.Promises.{patterns-exact, patterns-once}
-use Rattle.descriptor.specs.Model.{Grant}
-use Rattle.descriptor.specs.Reader.{hasMode, GrantSeen, grantAt}
-use Rattle.descriptor.specs.View.{maskOf}
+use Rattle.descriptor_spec.specs.Model.{Grant}
+use Rattle.descriptor_spec.specs.Reader.{hasMode, GrantSeen, grantAt}
+use Rattle.descriptor_spec.specs.View.{maskOf}
 use Rattle.resource.proofs.Laws.{terminal-length, pattern-short, pattern-levels}
-use Rattle.descriptor_laws.specs.Laws.{SeenAs, InTurn, no-more, one-more}
+use Rattle.descriptor_spec.specs.Laws.{SeenAs, InTurn, no-more, one-more}
 use Rattle.narrowing.specs.declared.range.Range.{Range}
-use Rattle.narrowing.specs.Escape.{patternCovers, covered, canTake, deepest}
+use Rattle.narrowing_spec.specs.Escape.{patternCovers, covered, canTake, deepest}
 use Rattle.narrowing.specs.Range.{inRange, most, textRange, marked}
 use Rattle.narrowing.specs.Code.{below, markedAt, zeros}
-use Rattle.narrowing.specs.Laws.{rulesOf}
+use Rattle.narrowing_spec.specs.Laws.{rulesOf}
 use Rattle.narrowing.proofs.RangeLaws.{range-covers, marked-length, marked-at, or-mode}
 
 -- ---- the text of a pattern

@@ -10,13 +10,13 @@ use lib.ListN.{length, getD, take, drop}
 use lib.Bits.{bitAnd, bitOr}
 use Rattle.octets.specs.Bytes.{part}
 use Rattle.octets.proofs.Tests.{no-flag}
-use Rattle.descriptor.specs.Reader.{hasMode}
+use Rattle.descriptor_spec.specs.Reader.{hasMode}
 use Rattle.narrowing.specs.declared.range.Range.{Range}
 use Rattle.narrowing.specs.declared.search.Found.the-variants.{Nothing}
 use Rattle.narrowing.specs.Range.{inRange, most, textRange, marked}
 use Rattle.narrowing.specs.Code.{rowStart, rowEnd, rowMask, rowLevels, markedRows, rowMarked, lacksAt, lowestFrom, lowestIn}
 use Rattle.narrowing.specs.Code.{fullRange, fullModes}
-use Rattle.narrowing.proofs.LeastLaws.{least-same}
+use Rattle.narrowing_spec.proofs.Laws.{least-same}
 use Rattle.narrowing.proofs.RangeLaws.{marked-length, marked-at, or-mode, and-mode}
 use Rattle.narrowing.proofs.MarkedLaws.{or-where, zero-lacks}
 use Rattle.narrowing.proofs.TableLaws.{rows-length}

@@ -12,24 +12,24 @@ use Rattle.resource.specs.Identifier.{levelsPlace, terminalSize}
 use Rattle.octets.specs.Bytes as cbor
 use Rattle.octets.specs.Bytes.{AreBytes, part}
 use Rattle.exact.specs.Reads.{got, refused}
-use Rattle.descriptor.specs.declared.Fields.{Fields}
-use Rattle.descriptor.specs.declared.Reading.{Reading}
-use Rattle.descriptor.specs.declared.Reading.the-variants as reading
-use Rattle.descriptor.specs.Model.{Descriptor}
-use Rattle.descriptor.specs.Allowed.{Allowed}
-use Rattle.descriptor.specs.Reader.{GrantSeen, grantAt, Seen, Answer, read, structure, validity, readOf}
-use Rattle.descriptor.specs.Code.{fieldsOf, readingOf}
-use Rattle.descriptor.specs.Numbers.{numbersOf, numberOf}
-use Rattle.descriptor_laws.specs.Promises.{DescriptorHanded}
-use Rattle.descriptor_laws.proofs.Promises.{answered-exactly, hands-back}
+use Rattle.descriptor_spec.specs.declared.Fields.{Fields}
+use Rattle.descriptor_spec.specs.declared.Reading.{Reading}
+use Rattle.descriptor_spec.specs.declared.Reading.the-variants as reading
+use Rattle.descriptor_spec.specs.Model.{Descriptor}
+use Rattle.descriptor_spec.specs.Allowed.{Allowed}
+use Rattle.descriptor_spec.specs.Reader.{GrantSeen, grantAt, Seen, Answer, read, structure, validity, readOf}
+use Rattle.descriptor_spec.specs.Code.{fieldsOf, readingOf}
+use Rattle.descriptor_spec.specs.Numbers.{numbersOf, numberOf}
+use Rattle.descriptor_spec.specs.Promises.{DescriptorHanded}
+use Rattle.descriptor_spec.proofs.Promises.{answered-exactly, hands-back}
 use Rattle.resource.proofs.Laws.{terminal-length}
 use Rattle.entries.proofs.ValueCode.{lent-levels}
-use Rattle.narrowing.specs.declared.Narrowing.{Narrowing}
-use Rattle.narrowing.specs.declared.Narrowing.the-variants.{Accepted, NoParent, Structure, Validity, Constrained, Period, NotCovered}
+use Rattle.narrowing_spec.specs.declared.Narrowing.{Narrowing}
+use Rattle.narrowing_spec.specs.declared.Narrowing.the-variants.{Accepted, NoParent, Structure, Validity, Constrained, Period, NotCovered}
 use Rattle.narrowing.specs.declared.search.Found.{Found}
 use Rattle.narrowing.specs.declared.search.Found.the-variants.{At, Nothing}
 use Rattle.narrowing.specs.Code.{below, escapeIn, orNext, comparedIn, firstIn}
-use Rattle.narrowing.specs.Narrow.{compared, withParent, underParent, narrow}
+use Rattle.narrowing_spec.specs.Narrow.{compared, withParent, underParent, narrow}
 use Rattle.narrowing.proofs.AgreeLaws.{scan-agrees}
 
 -- ---- both descriptors

@@ -15,9 +15,9 @@ use Rattle.octets.specs.Bytes.{same}
 use Rattle.resource.specs.Pattern.{Levels, done, deep, name, star}
 use Rattle.resource.specs.Cover.{matchesFresh, covers}
 use Rattle.octets.proofs.Tests.{no-flag}
-use Rattle.descriptor.specs.Reader.{hasMode}
+use Rattle.descriptor_spec.specs.Reader.{hasMode}
 use Rattle.narrowing.specs.declared.range.Range.{Range}
-use Rattle.narrowing.specs.Escape.{canTake}
+use Rattle.narrowing_spec.specs.Escape.{canTake}
 use Rattle.narrowing.specs.Range.{range, inRange, most, freshRange, coverRange, marked}
 
 -- ---- ranges

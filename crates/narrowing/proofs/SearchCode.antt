@@ -9,12 +9,12 @@ use native.Mathlib.Omega.{arith}
 use lib.Dec.{eqb}
 use borrow.Author.Tests.{not-true, not-false}
 use Rattle.exact.specs.Reads.{got, refused}
-use Rattle.descriptor.specs.Reader.{hasMode, GrantSeen, grantAt}
+use Rattle.descriptor_spec.specs.Reader.{hasMode, GrantSeen, grantAt}
 use Rattle.narrowing.specs.declared.search.Found.the-variants.{At, Nothing}
-use Rattle.narrowing.specs.Escape.{least, orLimit}
+use Rattle.narrowing_spec.specs.Escape.{least, orLimit}
 use Rattle.narrowing.specs.Range.{textRange, marked}
 use Rattle.narrowing.specs.Code.{below, markedAt, lacksAt, lowestFrom}
-use Rattle.narrowing.proofs.LeastLaws.{least-some}
+use Rattle.narrowing_spec.proofs.Laws.{least-below}
 
 -- ---- one mode
 
@@ -85,7 +85,7 @@ module _ (d : List ℕ) (mask from to m : ℕ) where
       let n : 4 - m ≡ suc (4 - (m + 1)) = omega arith in
       let o : least (lacksAt d m) from (to - from) ≡ none =
       miss-none (least (lacksAt d m) from (to - from)) k to f l
-      (λ j q. omega (arith, least-some (lacksAt d m) from (to - from) j q .below)) in
+      (λ j q. omega (arith, least-below (lacksAt d m) from (to - from) j q)) in
       rw (n, e, o, lowestFrom)
 
   -- no mode is left

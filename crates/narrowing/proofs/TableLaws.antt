@@ -14,7 +14,7 @@ use Rattle.exact.specs.Reads.{got, refused}
 use Rattle.resource.specs.Level.{levels}
 use Rattle.resource.specs.Pattern.{endsDeep}
 use Rattle.resource.specs.Text.{levelsOf}
-use Rattle.descriptor.specs.Reader.{GrantSeen, grantAt}
+use Rattle.descriptor_spec.specs.Reader.{GrantSeen, grantAt}
 use Rattle.descriptor.proofs.GrantBounds.{pattern-room}
 use Rattle.narrowing.specs.declared.search.Found.the-variants.{Nothing}
 use Rattle.narrowing.specs.Range.{textRange, marked}

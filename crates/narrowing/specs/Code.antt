@@ -15,15 +15,15 @@ use Rattle.octets.specs.Span.{Span}
 use Rattle.resource.specs.Level.{levels}
 use Rattle.resource.specs.Pattern.{endsDeep}
 use Rattle.resource.specs.Text.{levelsOf}
-use Rattle.descriptor.specs.declared.Fields.{Fields}
-use Rattle.descriptor.specs.Reader.{hasMode, grantAt}
-use Rattle.descriptor.specs.Modes.{modeCount}
-use Rattle.narrowing.specs.declared.Narrowing.{Narrowing}
-use Rattle.narrowing.specs.declared.Narrowing.the-variants.{Accepted, Constrained, Period, NotCovered}
+use Rattle.descriptor_spec.specs.declared.Fields.{Fields}
+use Rattle.descriptor_spec.specs.Reader.{hasMode, grantAt}
+use Rattle.descriptor_spec.specs.Modes.{modeCount}
+use Rattle.narrowing_spec.specs.declared.Narrowing.{Narrowing}
+use Rattle.narrowing_spec.specs.declared.Narrowing.the-variants.{Accepted, Constrained, Period, NotCovered}
 use Rattle.narrowing.specs.declared.range.Range.{Range}
 use Rattle.narrowing.specs.declared.search.Found.{Found}
 use Rattle.narrowing.specs.declared.search.Found.the-variants.{At, Nothing}
-use Rattle.narrowing.specs.Escape.{least}
+use Rattle.narrowing_spec.specs.Escape.{least}
 use Rattle.narrowing.specs.Range.{most, textRange, marked}
 
 -- the levels of a pattern's part of s: what follows the terminal id and "/"

@@ -1,38 +1,18 @@
-// Narrowing a child under a parent, as document 01 has it. What is promised is in specs/Promises.antt.
-
+// The functions that narrow a child under a parent. What narrowing is and what is promised of it is in `narrowing_spec`.
 mod range;
 mod search;
 
 use descriptor::Fields;
 use descriptor::Reading;
+pub use narrowing_spec::Narrowing;
+pub use narrowing_spec::NarrowingNumbers;
 use resource::sizes::TERMINAL_SIZE;
 ghost use mathlib.Core.Path.{_≡_};
 ghost use Prim.Native.Nat.{_+_, _≤_};
 ghost use lib.ListN.{length};
 ghost use Rattle.resource.specs.Identifier.{terminalSize};
-ghost use Rattle.narrowing.specs.Narrow.{narrow as narrowed};
+ghost use Rattle.narrowing_spec.specs.Narrow.{narrow as narrowed};
 ghost use Rattle.narrowing.specs.Code.{comparedIn};
-
-// What narrowing answers: 0; 21, the parent doesn't read; 1 or 2, the child; 19, a constraint pair in either; 18, the child's period is not
-// within the parent's; 20, some path escapes, with the grant's place, the mode and the levels.
-pub enum Narrowing {
-    Accepted,
-    NoParent,
-    Structure,
-    Validity,
-    Constrained,
-    Period,
-    NotCovered { grant: u64, mode: u64, levels: u64 },
-}
-
-// A narrowing in document 01's numbers, as include/cap.h has them: the answer; and with 20 the grant's place, the mode and the levels.
-#[repr(C)]
-pub struct NarrowingNumbers {
-    pub answer: u64,
-    pub grant: u64,
-    pub mode: u64,
-    pub levels: u64,
-}
 
 // Both read: 19, then 18, then 20, else 0.
 fn compared(s: &[u8], v: Fields, t: &[u8], w: Fields) -> Narrowing

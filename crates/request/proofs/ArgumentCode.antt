@@ -12,10 +12,10 @@ use Rattle.octets.proofs.Tests.{and-left, and-right}
 use Rattle.resource.specs.Identifier.{isFay, isTerminal}
 use Rattle.resource.specs.Text.{resourceOk}
 use Rattle.steps.specs.Key.{isVerdict}
-use Rattle.descriptor.specs.Allowed.{idSize}
+use Rattle.descriptor_spec.specs.Allowed.{idSize}
 use Rattle.octets.proofs.PartLaws.{lent-part}
-use Rattle.descriptor.specs.Modes.{highestMode}
-use Rattle.request.specs.Request.{Request, wellFormed, listedAmong, isListed}
+use Rattle.descriptor_spec.specs.Modes.{highestMode}
+use Rattle.request_spec.specs.Request.{Request, wellFormed, listedAmong, isListed}
 
 -- ---- the arguments
 
@@ -59,21 +59,6 @@ module _ (q : Request) where
       pub list-left : isTerminal (q .terminal) ≡ true → resourceOk (q .resource) ≡ true → eqb (length (q .revoked) % idSize) 0
           ≡ wellFormed q
       list-left f g = sym (texts-left ∙ rw (e, f, g))
-
-  module _ (w : wellFormed q ≡ true) where
-    -- the mode of well-formed arguments is one of the four
-    pub formed-mode : q .mode ≤ highestMode
-    unfolding wellFormed
-    formed-mode = leb-true (q .mode) highestMode (and-left (leb (q .mode) highestMode) _ (and-right (isVerdict (q .verdict)) _ w))
-
-    -- their resource is a resource id
-    pub formed-resource : resourceOk (q .resource) ≡ true
-    unfolding wellFormed
-    formed-resource =
-        and-left (resourceOk (q .resource)) (eqb (length (q .revoked) % idSize) 0)
-        (and-right (isTerminal (q .terminal)) _
-        (and-right (isFay (q .fay)) _
-        (and-right (eqb (length (q .id)) idSize) _ (and-right (leb (q .mode) highestMode) _ (and-right (isVerdict (q .verdict)) _ w)))))
 
 -- ---- the list of ids
 

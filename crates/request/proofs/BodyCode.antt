@@ -5,12 +5,12 @@ use Prim.Native.Nat.{ℕ, _+_, _-_, _≤_}
 use lib.ListN.{length, take, drop}
 use Rattle.octets.specs.Bytes.{AreBytes, part}
 use Rattle.octets.proofs.PartLaws.{lent-part}
-use Rattle.descriptor.specs.declared.Fields.{Fields}
-use Rattle.image.specs.declared.Held.the-variants.{Body}
-use Rattle.image.specs.declared.ImageCheck.the-variants.{Sound}
-use Rattle.image.specs.Edition1.{checkOf}
-use Rattle.image.specs.Laws.{HeldFits, CheckFits}
-use Rattle.image.proofs.Laws.{read-in, check-inside}
+use Rattle.descriptor_spec.specs.declared.Fields.{Fields}
+use Rattle.image_spec.specs.declared.Held.the-variants.{Body}
+use Rattle.image_spec.specs.declared.ImageCheck.the-variants.{Sound}
+use Rattle.image_spec.specs.Edition1.{checkOf}
+use Rattle.image_spec.specs.Laws.{HeldFits, CheckFits}
+use Rattle.image_spec.proofs.Laws.{read-in, check-inside}
 use Rattle.request.specs.Code.{BodyFits}
 
 module _ (s id : List ℕ) (n end at len : ℕ) (f : Fields) (bytes : AreBytes s) (e : Sound n end (Body at len f) ≡ checkOf s id) where

@@ -8,26 +8,26 @@ use borrow.Author.Tests.{eq-eqb, ne-eqb}
 use Rattle.resource.specs.Identifier.{levelsPlace, terminalSize}
 use Rattle.octets.specs.Bytes.{part, same}
 use Rattle.octets.proofs.PartLaws.{part-to-end, lent-part}
-use Rattle.descriptor.specs.declared.Fields.{Fields}
+use Rattle.descriptor_spec.specs.declared.Fields.{Fields}
 use Rattle.steps.specs.Order.{orElse, inOrder}
 use Rattle.steps.specs.Key.{bad, noKey, isThat, keyOpen}
 use Rattle.steps.specs.Laws.{Decides, passes, fails, mapped}
 use Rattle.steps.proofs.Laws.{decided, same-end, order-append, order-staged, passed-by}
-use Rattle.image.specs.declared.Held.the-variants.{Missing, Body}
-use Rattle.image.specs.declared.ImageCheck.{ImageCheck}
-use Rattle.image.specs.declared.ImageCheck.the-variants.{Sound, Unsound}
-use Rattle.image.specs.Check.{isSound, isHeld}
-use Rattle.image.specs.Edition1.{checkOf}
-use Rattle.request.specs.declared.Decision.{Decision}
-use Rattle.request.specs.declared.Decision.the-variants as answers
+use Rattle.image_spec.specs.declared.Held.the-variants.{Missing, Body}
+use Rattle.image_spec.specs.declared.ImageCheck.{ImageCheck}
+use Rattle.image_spec.specs.declared.ImageCheck.the-variants.{Sound, Unsound}
+use Rattle.image_spec.specs.Check.{isSound, isHeld}
+use Rattle.image_spec.specs.Edition1.{checkOf}
+use Rattle.request_spec.specs.declared.Decision.{Decision}
+use Rattle.request_spec.specs.declared.Decision.the-variants as answers
 use Rattle.request.specs.declared.Environment.{Environment}
 use Rattle.request.specs.declared.decide.Applicability.{Applicability}
 use Rattle.request.specs.declared.decide.Applicability.the-variants.{Applies, Refused}
-use Rattle.request.specs.declared.search.Matched.{Matched}
-use Rattle.request.specs.declared.search.Matched.the-variants.{IsAt, Nothing}
-use Rattle.request.specs.Request.{Request, wellFormed, isListed}
-use Rattle.request.specs.Decision.{revocationSteps, descriptorSteps, keySteps, laterSteps, stepsBy, grantedBy, factsOf, firstFrom}
-use Rattle.request.specs.Decision.{matchedOn, decidedOn, factsIn, matchedIn, stepsOf, decisionOf, numbersOf}
+use Rattle.request_spec.specs.declared.Matched.{Matched}
+use Rattle.request_spec.specs.declared.Matched.the-variants.{IsAt, Nothing}
+use Rattle.request_spec.specs.Request.{Request, wellFormed, isListed}
+use Rattle.request_spec.specs.Decision.{revocationSteps, descriptorSteps, keySteps, laterSteps, stepsBy, grantedBy, factsOf, firstFrom}
+use Rattle.request_spec.specs.Decision.{matchedOn, decidedOn, factsIn, matchedIn, stepsOf, decisionOf, numbersOf}
 use Rattle.request.specs.Code.{appliesWith, applicabilityOf, signedBy}
 
 -- the code compares a part that it lends

@@ -2,14 +2,3 @@ pub mod SearchCode
 pub mod ArgumentCode
 pub mod DecideCode
 pub mod BodyCode
-pub mod ListedLaws
-pub mod HeldLaws
-pub mod GrantLaws
-pub mod MeaningLaws
-pub mod ServingLaws
-pub mod UnderLaws
-pub mod NumberLaws
-pub mod BoundaryLaws
-pub mod GivenLaws
-pub mod StoredLaws
-pub mod Promises

@@ -17,10 +17,10 @@ use Rattle.resource.specs.Code.{stepOf}
 use Rattle.resource.specs.Text.{levelsMatch}
 use Rattle.resource.specs.Laws.{Stepped}
 use Rattle.resource.proofs.Laws.{step-decides}
-use Rattle.descriptor.specs.Reader.{hasMode, GrantSeen, grantAt}
+use Rattle.descriptor_spec.specs.Reader.{hasMode, GrantSeen, grantAt}
 use Rattle.entries.proofs.ValueCode.{lent-levels}
-use Rattle.request.specs.declared.search.Matched.the-variants.{IsAt, Nothing}
-use Rattle.request.specs.Decision.{serves, orNext, firstFrom}
+use Rattle.request_spec.specs.declared.Matched.the-variants.{IsAt, Nothing}
+use Rattle.request_spec.specs.Decision.{serves, orNext, firstFrom}
 use Rattle.request.specs.Code.{eligible}
 
 -- ---- the mode and the constraint pairs

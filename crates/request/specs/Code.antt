@@ -5,18 +5,18 @@ use Prim.Native.Nat.{ℕ, _+_, _≤_, min}
 use lib.ListN.{length}
 use lib.Dec.{eqb}
 use Rattle.resource.specs.Identifier.{faySize, terminalSize}
-use Rattle.descriptor.specs.declared.Fields.{Fields}
-use Rattle.descriptor.specs.Reader.{hasMode}
+use Rattle.descriptor_spec.specs.declared.Fields.{Fields}
+use Rattle.descriptor_spec.specs.Reader.{hasMode}
 use Rattle.steps.specs.Order.{inOrder}
 use Rattle.steps.specs.Laws.{mapped}
-use Rattle.request.specs.declared.Decision.{Decision}
-use Rattle.request.specs.declared.Decision.the-variants as answers
+use Rattle.request_spec.specs.declared.Decision.{Decision}
+use Rattle.request_spec.specs.declared.Decision.the-variants as answers
 use Rattle.request.specs.declared.Environment.{Environment}
 use Rattle.request.specs.declared.decide.Applicability.{Applicability}
 use Rattle.request.specs.declared.decide.Applicability.the-variants.{Applies, Refused}
-use Rattle.request.specs.declared.search.Matched.{Matched}
-use Rattle.request.specs.declared.search.Matched.the-variants.{IsAt, Nothing}
-use Rattle.request.specs.Decision.{descriptorSteps, keySteps, factsOf, matchedOn}
+use Rattle.request_spec.specs.declared.Matched.{Matched}
+use Rattle.request_spec.specs.declared.Matched.the-variants.{IsAt, Nothing}
+use Rattle.request_spec.specs.Decision.{descriptorSteps, keySteps, factsOf, matchedOn}
 
 -- the identifiers that the steps look at lie in the body
 pub record BodyFits (b : List ℕ) (f : Fields) : Type 0 where

@@ -1,5 +1,1 @@
-pub mod Request
-pub mod Decision
-pub mod Meaning
 pub mod Code
-pub mod Promises

@@ -1,11 +1,11 @@
 // The steps of a request, one after the other.
 use crate::Decision;
 use crate::Environment;
-use crate::search::Matched;
 use descriptor::Fields;
-use descriptor::sizes::HIGHEST_MODE;
-use descriptor::sizes::ID_SIZE;
+use descriptor_spec::sizes::HIGHEST_MODE;
+use descriptor_spec::sizes::ID_SIZE;
 use octets::same_bytes;
+use request_spec::Matched;
 use resource::sizes::FAY_SIZE;
 use resource::sizes::LEVELS_PLACE;
 use resource::sizes::TERMINAL_SIZE;
@@ -15,9 +15,9 @@ ghost use Prim.Native.Nat.{_+_, _≤_, min};
 ghost use lib.ListN.{length};
 ghost use Rattle.resource.specs.Identifier.{terminalSize};
 ghost use Rattle.resource.specs.Text.{resourceOk};
-ghost use Rattle.descriptor.specs.Modes.{highestMode};
-ghost use Rattle.request.specs.Request.{requestOf, wellFormed, isListed};
-ghost use Rattle.request.specs.Decision.{matchedOn, decidedOn};
+ghost use Rattle.descriptor_spec.specs.Modes.{highestMode};
+ghost use Rattle.request_spec.specs.Request.{requestOf, wellFormed, isListed};
+ghost use Rattle.request_spec.specs.Decision.{matchedOn, decidedOn};
 ghost use Rattle.request.specs.Code.{BodyFits, applicabilityOf, signedBy};
 
 // What the steps 9 to 13 answer: the grant that serves, with its mask, or the refusal of the first step that fails.

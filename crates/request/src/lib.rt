@@ -1,42 +1,17 @@
-// The decision of a request, as document 01 has it. Nothing is written. What is promised is in specs/Promises.antt.
+// The functions that decide a request. What a decision is and what is promised of it is in `request_spec`.
 mod decide;
 mod search;
 
 use descriptor::Fields;
 use image::Held;
 use image::ImageCheck;
+pub use request_spec::Decision;
+pub use request_spec::DecisionNumbers;
 use steps::Window;
 ghost use mathlib.Core.Path.{_≡_};
 ghost use Prim.Native.Nat.{_+_, _≤_, _<_};
-ghost use Rattle.request.specs.Request.{requestOf};
-ghost use Rattle.request.specs.Decision.{decisionOf};
-
-// What a request answers: granted, with the grant's place, its mask and the session's end; or the refusal of the first step that fails:
-// 15 malformed arguments, 16 bad image, 7 id not held, 8 revoked, 9 not yet valid, 10 expired, 11 another subject, 12 another
-// terminal, 13 no grant serves, 14 the key is not valid, 4 bad signature.
-pub enum Decision {
-    Granted { grant: u64, mask: u64, end: u64 },
-    Malformed,
-    BadImage,
-    NotFound,
-    Revoked,
-    NotYetValid,
-    Expired,
-    SubjectMismatch,
-    TerminalMismatch,
-    Insufficient,
-    KeyInvalid,
-    BadSignature,
-}
-
-// A decision in document 01's numbers, as include/cap.h has them: the answer; and with 0 the grant's place, its mask and the session's end.
-#[repr(C)]
-pub struct DecisionNumbers {
-    pub answer: u64,
-    pub grant: u64,
-    pub mask: u64,
-    pub session_end: u64,
-}
+ghost use Rattle.request_spec.specs.Request.{requestOf};
+ghost use Rattle.request_spec.specs.Decision.{decisionOf};
 
 // What the host says beside the request itself: the clock and the session length, in seconds; its verdict on the signature, and the
 // window in which the key is valid.

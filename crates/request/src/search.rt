@@ -1,19 +1,14 @@
 // The first grant that serves a request. Document 01: the search ends at the first grant that matches.
 use descriptor::GrantFields;
 use descriptor::GrantRead;
+use request_spec::Matched;
 use resource::LevelStep;
 use resource::sizes::LEVELS_PLACE;
 ghost use mathlib.Core.Path.{_≡_};
 ghost use Prim.Native.Nat.{_≤_};
-ghost use Rattle.descriptor.specs.Modes.{highestMode};
-ghost use Rattle.request.specs.Decision.{firstFrom};
+ghost use Rattle.descriptor_spec.specs.Modes.{highestMode};
+ghost use Rattle.request_spec.specs.Decision.{firstFrom};
 ghost use Rattle.request.specs.Code.{eligible};
-
-// A grant's place, counted from 0, and its mask; or there is none.
-pub(crate) enum Matched {
-    IsAt { grant: u64, mask: u64 },
-    Nothing,
-}
 
 // Whether a grant has the mode and no constraint pair.
 fn is_eligible(mask: u64, pairs: u64, mode: u64) -> bool

@@ -1,6 +1,5 @@
 -- What the stages that only look answer is what the steps in order come to (specs/Code.antt, specs/Submission.antt). Assumes nothing.
 use mathlib.Core.Path.{_≡_, refl, sym, ap}
-use mathlib.Core.Logic.{_⊎_, inl, inr, ⊎-elim}
 use mathlib.Core.Bool.{Bool, true, false}
 use mathlib.Core.List.{List}
 use Prim.Native.Nat.{ℕ, _+_, _<_}
@@ -8,49 +7,29 @@ use native.Mathlib.Omega.{arith}
 use lib.Dec.{leb}
 use Rattle.octets.specs.Bytes.{part, same}
 use Rattle.octets.proofs.Tests.{by-cond}
-use Rattle.descriptor.specs.declared.Fields.{Fields}
-use Rattle.descriptor.specs.declared.Reading.{Reading}
-use Rattle.descriptor.specs.declared.Reading.the-variants.{Read, Structure, Validity}
+use Rattle.descriptor_spec.specs.declared.Fields.{Fields}
+use Rattle.descriptor_spec.specs.declared.Reading.{Reading}
+use Rattle.descriptor_spec.specs.declared.Reading.the-variants.{Read, Structure, Validity}
 use Rattle.steps.specs.declared.Window.{Window}
 use Rattle.steps.specs.Order.{Step, inOrder}
 use Rattle.steps.specs.Key.{bad, noKey, isVerdict, isThat, keyOpen}
 use Rattle.steps.specs.Laws.{allPass, failsBy}
 use Rattle.steps.proofs.Laws.{passed-end, all-pass, failed-by}
-use Rattle.image.specs.declared.Held.{Held}
-use Rattle.image.specs.declared.Held.the-variants.{Missing, Body}
-use Rattle.image.specs.declared.ImageCheck.{ImageCheck}
-use Rattle.image.specs.declared.ImageCheck.the-variants.{Sound, Unsound}
-use Rattle.image.specs.Image.{rowOf, reading, idOf}
-use Rattle.image.specs.Check.{isHeld}
-use Rattle.image.specs.Edition1.{checkOf, rowsHeld, hasRoom}
-use Rattle.submission.specs.declared.Submission.{Submission}
-use Rattle.submission.specs.declared.Submission.the-variants as answers
+use Rattle.image_spec.specs.declared.Held.{Held}
+use Rattle.image_spec.specs.declared.Held.the-variants.{Missing, Body}
+use Rattle.image_spec.specs.declared.ImageCheck.{ImageCheck}
+use Rattle.image_spec.specs.declared.ImageCheck.the-variants.{Sound, Unsound}
+use Rattle.image_spec.specs.Image.{rowOf, reading, idOf}
+use Rattle.image_spec.specs.Check.{isHeld}
+use Rattle.image_spec.specs.Edition1.{checkOf, rowsHeld, hasRoom}
+use Rattle.submission_spec.specs.declared.Submission.{Submission}
+use Rattle.submission_spec.specs.declared.Submission.the-variants as answers
 use Rattle.submission.specs.declared.choose.Choice.{Choice}
 use Rattle.submission.specs.declared.choose.Choice.the-variants.{Answer, Store}
 use Rattle.submission.specs.declared.choose.Admission.{Admission}
-use Rattle.submission.specs.Submission.{longestLead, stepsBy, numberOf, afterAnswer}
+use Rattle.submission_spec.specs.Submission.{longestLead, stepsBy, numberOf, afterAnswer}
 use Rattle.submission.specs.Code.{admitted, placed, whenAdmitted, chosenRead, chosenUnread, chosenBy, choiceOf}
-use Rattle.submission.proofs.StepLaws.{number-is}
-
--- ---- the buffer after a refusal
-
--- every byte is as it was, or the answer is 0
-pub kept-or-done : (d b : List ℕ) (held : Bool) (a : Submission) → (afterAnswer d b held a ≡ d) ⊎ (a ≡ answers.Done)
-kept-or-done d b true a = inl refl
-kept-or-done d b false answers.Done = inr refl
-kept-or-done d b false answers.Structure = inl refl
-kept-or-done d b false answers.Validity = inl refl
-kept-or-done d b false answers.UnknownIssuer = inl refl
-kept-or-done d b false answers.BadSignature = inl refl
-kept-or-done d b false answers.Duplicate = inl refl
-kept-or-done d b false answers.Full = inl refl
-kept-or-done d b false answers.KeyInvalid = inl refl
-kept-or-done d b false answers.Malformed = inl refl
-kept-or-done d b false answers.BadImage = inl refl
-
--- an answer that is not 0 leaves every byte as it was
-pub refused-keeps : (d b : List ℕ) (held : Bool) (a : Submission) → (a ≡ answers.Done → ⊥) → afterAnswer d b held a ≡ d
-refused-keeps d b held a other = ⊎-elim (λ e. e) (λ e. absurd (other e)) (kept-or-done d b held a)
+use Rattle.submission_spec.proofs.Laws.{numbers-tell, refused-keeps}
 
 -- ---- what a choice says
 
@@ -75,7 +54,7 @@ refuses : (d b : List ℕ) (clock verdict : ℕ) (window : Window) (r : Reading)
     → failsBy numberOf (numberOf a) (stepsBy d b clock verdict window r v) ≡ true → ChoiceIs d b clock verdict window r v (Answer a)
 refuses d b clock verdict window r v a n e =
     let steps : List (Step Submission) = stepsBy d b clock verdict window r v in (
-      sym (number-is (inOrder steps answers.Done) a (failed-by numberOf (numberOf a) steps answers.Done e)),
+      sym (numbers-tell (inOrder steps answers.Done) a (failed-by numberOf (numberOf a) steps answers.Done e)),
       refused-keeps d b
           (isHeld v) a (λ z. omega (arith, ap numberOf z)),
     )

@@ -1,9 +1,3 @@
 pub mod SubmitCode
 pub mod ChoiceLaws
-pub mod StepLaws
-pub mod StoredLaws
 pub mod SubmitLaws
-pub mod NumberLaws
-pub mod LastLaws
-pub mod Laws
-pub mod Promises

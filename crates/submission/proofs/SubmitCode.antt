@@ -7,30 +7,30 @@ use Prim.Native.Nat.{ℕ, _+_, _-_, _≤_, _<_}
 use lib.ListN.{length, take, drop, replicate}
 use borrow.Author.Tests.{le-leb, lt-leb, eq-eqb, ne-eqb, not-true, not-false}
 use Rattle.octets.specs.Bytes.{part, same}
-use Rattle.descriptor.specs.declared.Fields.{Fields}
-use Rattle.descriptor.specs.declared.Reading.{Reading}
-use Rattle.descriptor.specs.declared.Reading.the-variants.{Read, Structure, Validity}
-use Rattle.descriptor.specs.Reader.{readOf}
-use Rattle.descriptor.specs.Code.{readingOf}
+use Rattle.descriptor_spec.specs.declared.Fields.{Fields}
+use Rattle.descriptor_spec.specs.declared.Reading.{Reading}
+use Rattle.descriptor_spec.specs.declared.Reading.the-variants.{Read, Structure, Validity}
+use Rattle.descriptor_spec.specs.Reader.{readOf}
+use Rattle.descriptor_spec.specs.Code.{readingOf}
 use Rattle.steps.specs.declared.Window.{Window}
 use Rattle.steps.specs.Key.{isVerdict, isThat, keyOpen}
-use Rattle.image.specs.declared.Held.{Held}
-use Rattle.image.specs.declared.Held.the-variants.{Missing, Body}
-use Rattle.image.specs.declared.ImageCheck.{ImageCheck}
-use Rattle.image.specs.declared.ImageCheck.the-variants.{Sound, Unsound}
-use Rattle.image.specs.Image.{reading, idIn, idOf}
-use Rattle.image.specs.Edition1.{checkOf}
-use Rattle.image.specs.Laws.{HeldFits}
-use Rattle.image.proofs.Laws.{read-in}
-use Rattle.descriptor.specs.Allowed.{idSize}
+use Rattle.image_spec.specs.declared.Held.{Held}
+use Rattle.image_spec.specs.declared.Held.the-variants.{Missing, Body}
+use Rattle.image_spec.specs.declared.ImageCheck.{ImageCheck}
+use Rattle.image_spec.specs.declared.ImageCheck.the-variants.{Sound, Unsound}
+use Rattle.image_spec.specs.Image.{reading, idIn, idOf}
+use Rattle.image_spec.specs.Edition1.{checkOf}
+use Rattle.image_spec.specs.Laws.{HeldFits}
+use Rattle.image_spec.proofs.Laws.{read-in}
+use Rattle.descriptor_spec.specs.Allowed.{idSize}
 use Rattle.octets.proofs.PartLaws.{lent-part}
-use Rattle.submission.specs.declared.Submission.{Submission}
-use Rattle.submission.specs.declared.Submission.the-variants as answers
+use Rattle.submission_spec.specs.declared.Submission.{Submission}
+use Rattle.submission_spec.specs.declared.Submission.the-variants as answers
 use Rattle.submission.specs.declared.choose.Choice.{Choice}
 use Rattle.submission.specs.declared.choose.Choice.the-variants.{Answer, Store}
 use Rattle.submission.specs.declared.choose.Admission.{Admission}
 use Rattle.submission.specs.declared.choose.Admission.the-variants.{Refused, Admitted}
-use Rattle.submission.specs.Submission.{longestLead}
+use Rattle.submission_spec.specs.Submission.{longestLead}
 use Rattle.submission.specs.Code.{admitted, placed, whenAdmitted, chosenRead, chosenUnread, chosenBy, choiceOf}
 
 -- ---- the beginning, the issuer, the key and the signature

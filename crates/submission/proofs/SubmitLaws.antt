@@ -6,39 +6,23 @@ use mathlib.Core.List.{List}
 use Prim.Native.Nat.{ℕ}
 use lib.ListN.{length}
 use Rattle.octets.specs.Bytes.{AreBytes}
-use Rattle.descriptor.specs.declared.Fields.{Fields}
+use Rattle.descriptor_spec.specs.declared.Fields.{Fields}
 use Rattle.steps.specs.declared.Window.{Window}
-use Rattle.image.specs.declared.Held.the-variants.{Missing}
-use Rattle.image.specs.declared.ImageCheck.{ImageCheck}
-use Rattle.image.specs.declared.Added.{Added}
-use Rattle.image.specs.declared.Added.the-variants.{Done, Full}
-use Rattle.image.specs.Image.{Row, rowOf, reading, idOf}
-use Rattle.image.specs.Check.{isHeld}
-use Rattle.image.specs.Edition1.{imageOf, checkOf, rowsHeld, addedOf, afterAdd, hasRoom, withBody}
-use Rattle.image.proofs.Laws.{check-says, body-added}
-use Rattle.submission.specs.declared.Submission.{Submission}
-use Rattle.submission.specs.declared.Submission.the-variants as answers
+use Rattle.image_spec.specs.declared.Held.the-variants.{Missing}
+use Rattle.image_spec.specs.declared.ImageCheck.{ImageCheck}
+use Rattle.image_spec.specs.declared.Added.{Added}
+use Rattle.image_spec.specs.declared.Added.the-variants.{Done, Full}
+use Rattle.image_spec.specs.Image.{Row, rowOf, reading, idOf}
+use Rattle.image_spec.specs.Check.{isHeld}
+use Rattle.image_spec.specs.Edition1.{imageOf, checkOf, rowsHeld, addedOf, afterAdd, hasRoom, withBody}
+use Rattle.image_spec.proofs.Laws.{check-says, body-added}
+use Rattle.submission_spec.specs.declared.Submission.{Submission}
+use Rattle.submission_spec.specs.declared.Submission.the-variants as answers
 use Rattle.submission.specs.declared.choose.Choice.{Choice}
 use Rattle.submission.specs.declared.choose.Choice.the-variants.{Answer, Store}
-use Rattle.submission.specs.Submission.{steps, submitted, afterAnswer, afterOf}
+use Rattle.submission_spec.specs.Submission.{steps, submitted, afterAnswer, afterOf}
 use Rattle.submission.specs.Code.{choiceOf, storedAs}
 use Rattle.submission.proofs.ChoiceLaws.{Storing, ChoiceIs, choice-is}
-
--- ---- the buffer after a submission
-
--- where the id is held the buffer is as it was
-pub after-held : (d b : List ℕ) (clock verdict : ℕ) (window : Window) → isHeld (checkOf d (idOf b)) ≡ true
-    → afterOf d b clock verdict window ≡ d
-unfolding afterOf
-after-held d b clock verdict window e = ap (λ (t : Bool). afterAnswer d b t (submitted d b clock verdict window)) e
-
--- where the id is not held, the answer 0 leaves the buffer with the body added last
-pub after-new : (d b : List ℕ) (clock verdict : ℕ) (window : Window) → isHeld (checkOf d (idOf b)) ≡ false
-    → submitted d b clock verdict window ≡ answers.Done → afterOf d b clock verdict window ≡ withBody d (rowsHeld d) (rowOf b)
-unfolding afterOf
-after-new d b clock verdict window e f = ap₂ (afterAnswer d b) e f
-
--- ---- what a choice comes to
 
 -- an answer is the submission's, and the buffer is as it was
 pub choice-answer : (d b : List ℕ) (clock verdict : ℕ) (window : Window) (a : Submission) → choiceOf d b clock verdict window ≡ Answer a

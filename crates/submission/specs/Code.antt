@@ -5,26 +5,26 @@ use mathlib.Core.List.{List}
 use Prim.Native.Nat.{ℕ, _+_}
 use lib.Dec.{leb}
 use Rattle.octets.specs.Bytes.{part, same}
-use Rattle.descriptor.specs.declared.Fields.{Fields}
-use Rattle.descriptor.specs.declared.Reading.{Reading}
-use Rattle.descriptor.specs.declared.Reading.the-variants.{Read, Structure, Validity}
+use Rattle.descriptor_spec.specs.declared.Fields.{Fields}
+use Rattle.descriptor_spec.specs.declared.Reading.{Reading}
+use Rattle.descriptor_spec.specs.declared.Reading.the-variants.{Read, Structure, Validity}
 use Rattle.steps.specs.declared.Window.{Window}
 use Rattle.steps.specs.Key.{bad, noKey, isVerdict, isThat, keyOpen}
-use Rattle.image.specs.declared.Held.{Held}
-use Rattle.image.specs.declared.Held.the-variants.{Missing, Body}
-use Rattle.image.specs.declared.ImageCheck.{ImageCheck}
-use Rattle.image.specs.declared.ImageCheck.the-variants.{Sound, Unsound}
-use Rattle.image.specs.declared.Added.{Added}
-use Rattle.image.specs.declared.Added.the-variants.{Done, Full}
-use Rattle.image.specs.Image.{reading, idOf}
-use Rattle.image.specs.Edition1.{checkOf}
-use Rattle.submission.specs.declared.Submission.{Submission}
-use Rattle.submission.specs.declared.Submission.the-variants as answers
+use Rattle.image_spec.specs.declared.Held.{Held}
+use Rattle.image_spec.specs.declared.Held.the-variants.{Missing, Body}
+use Rattle.image_spec.specs.declared.ImageCheck.{ImageCheck}
+use Rattle.image_spec.specs.declared.ImageCheck.the-variants.{Sound, Unsound}
+use Rattle.image_spec.specs.declared.Added.{Added}
+use Rattle.image_spec.specs.declared.Added.the-variants.{Done, Full}
+use Rattle.image_spec.specs.Image.{reading, idOf}
+use Rattle.image_spec.specs.Edition1.{checkOf}
+use Rattle.submission_spec.specs.declared.Submission.{Submission}
+use Rattle.submission_spec.specs.declared.Submission.the-variants as answers
 use Rattle.submission.specs.declared.choose.Choice.{Choice}
 use Rattle.submission.specs.declared.choose.Choice.the-variants.{Answer, Store}
 use Rattle.submission.specs.declared.choose.Admission.{Admission}
 use Rattle.submission.specs.declared.choose.Admission.the-variants.{Refused, Admitted}
-use Rattle.submission.specs.Submission.{longestLead}
+use Rattle.submission_spec.specs.Submission.{longestLead}
 
 -- ---- the stages that only look
 

@@ -1,4 +1,1 @@
-pub mod Submission
 pub mod Code
-pub mod Promises
-pub mod Laws

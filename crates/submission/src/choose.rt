@@ -2,16 +2,16 @@
 use crate::Submission;
 use descriptor::Fields;
 use descriptor::Reading;
-use descriptor::sizes::ID_SIZE;
+use descriptor_spec::sizes::ID_SIZE;
 use image::Held;
 use image::ImageCheck;
 use steps::Window;
 ghost use mathlib.Core.Path.{_≡_};
 ghost use Prim.Native.Nat.{_+_, _≤_};
 ghost use lib.ListN.{length, replicate};
-ghost use Rattle.image.specs.Edition1.{checkOf};
-ghost use Rattle.descriptor.specs.Allowed.{idSize};
-ghost use Rattle.image.specs.Laws.{HeldFits, CheckFits};
+ghost use Rattle.image_spec.specs.Edition1.{checkOf};
+ghost use Rattle.descriptor_spec.specs.Allowed.{idSize};
+ghost use Rattle.image_spec.specs.Laws.{HeldFits, CheckFits};
 ghost use Rattle.octets.specs.Bytes.{AreBytes};
 ghost use Rattle.submission.specs.Code.{admitted, placed, chosenRead, chosenUnread, choiceOf};
 

@@ -1,6 +1,6 @@
 -- `cap_descriptor_read` meets its contract. Assumes nothing.
 use mathlib.Core.Path.{ap, _∙_}
-use Rattle.descriptor.specs.Numbers.{numbersOf}
+use Rattle.descriptor_spec.specs.Numbers.{numbersOf}
 use Rattle.octets.proofs.BytesLaws.{are-bytes}
 use borrow.Author.Needs.{needs}
 use Rattle.cap.proofs.cap_descriptor_read.Statement.{statement}

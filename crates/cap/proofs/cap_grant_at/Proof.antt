@@ -1,6 +1,6 @@
 -- `cap_grant_at` meets its contract. Assumes nothing.
 use mathlib.Core.Path.{ap, _∙_}
-use Rattle.descriptor.specs.Numbers.{grantNumbers}
+use Rattle.descriptor_spec.specs.Numbers.{grantNumbers}
 use Rattle.octets.proofs.BytesLaws.{are-bytes}
 use borrow.Author.Needs.{needs}
 use Rattle.cap.proofs.cap_grant_at.Statement.{statement}

@@ -1,6 +1,6 @@
 -- `cap_image_new` meets its contract. Assumes nothing.
 use mathlib.Core.Path.{ap, _∙_}
-use Rattle.image.specs.NewImage.{numberOf}
+use Rattle.image_spec.specs.NewImage.{numberOf}
 use Rattle.octets.proofs.BytesLaws.{are-bytes}
 use borrow.Author.Needs.{needs}
 use Rattle.cap.proofs.cap_image_new.Statement.{statement}

@@ -1,6 +1,6 @@
 -- `cap_narrow` meets its contract. Assumes nothing.
 use mathlib.Core.Path.{ap, _∙_}
-use Rattle.narrowing.specs.Narrow.{numbersOf}
+use Rattle.narrowing_spec.specs.Narrow.{numbersOf}
 use Rattle.octets.proofs.BytesLaws.{are-bytes}
 use borrow.Author.Needs.{needs}
 use Rattle.cap.proofs.cap_narrow.Statement.{statement}

@@ -3,9 +3,9 @@ use mathlib.Core.Path.{_≡_, ap, _∙_}
 use mathlib.Core.List.{List}
 use Prim.Native.Nat.{ℕ}
 use Rattle.steps.specs.declared.Window.{Window}
-use Rattle.request.specs.declared.Decision.{Decision}
-use Rattle.request.specs.Request.{requestOf}
-use Rattle.request.specs.Decision.{decisionOf, numbersOf}
+use Rattle.request_spec.specs.declared.Decision.{Decision}
+use Rattle.request_spec.specs.Request.{requestOf}
+use Rattle.request_spec.specs.Decision.{decisionOf, numbersOf}
 use Rattle.octets.proofs.BytesLaws.{are-bytes}
 use borrow.Author.Needs.{needs}
 use Rattle.cap.proofs.cap_request.Statement.{statement}

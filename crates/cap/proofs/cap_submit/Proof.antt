@@ -3,8 +3,8 @@ use mathlib.Core.Path.{_≡_, ap, _∙_}
 use mathlib.Core.List.{List}
 use Prim.Native.Nat.{ℕ}
 use Rattle.steps.specs.declared.Window.{Window}
-use Rattle.submission.specs.declared.Submission.{Submission}
-use Rattle.submission.specs.Submission.{submitted, afterOf, numberOf}
+use Rattle.submission_spec.specs.declared.Submission.{Submission}
+use Rattle.submission_spec.specs.Submission.{submitted, afterOf, numberOf}
 use Rattle.octets.proofs.BytesLaws.{are-bytes}
 use borrow.Author.Needs.{needs}
 use Rattle.cap.proofs.cap_submit.Statement.{statement}

@@ -8,11 +8,11 @@ use borrow.Author.Tests.{not-true, not-false}
 use borrow.Author.Needs.{needs}
 use Rattle.octets.specs.Bytes.{AreBytes}
 use Rattle.octets.proofs.BytesLaws.{are-bytes}
-use Rattle.image.specs.declared.Held.the-variants.{Body}
-use Rattle.image.specs.declared.ImageCheck.the-variants.{Sound}
-use Rattle.image.specs.Edition1.{checkOf}
-use Rattle.request.specs.Request.{Request, requestOf, wellFormed}
-use Rattle.request.proofs.ArgumentCode.{formed-mode, formed-resource}
+use Rattle.image_spec.specs.declared.Held.the-variants.{Body}
+use Rattle.image_spec.specs.declared.ImageCheck.the-variants.{Sound}
+use Rattle.image_spec.specs.Edition1.{checkOf}
+use Rattle.request_spec.specs.Request.{Request, requestOf, wellFormed}
+use Rattle.request_spec.proofs.Laws.{formed-arguments}
 use Rattle.request.proofs.DecideCode.{decide-malformed, decide-unsound, decide-missing, decide-body}
 use Rattle.request.proofs.BodyCode.{held-inside, held-fits}
 use Rattle.request.proofs.request.Statement.{statement}
@@ -80,7 +80,7 @@ on-body-requires c κs =
     let h = c .before .before in
     let e = before-match h .before .before .before in
     let w = formed e in
-    (formed-resource _ w, formed-mode _ w, held-fits _ _ _ _ _ _ _ (bytes (at2 e)) (checkAnswer h))
+    (formed-arguments _ w .1, formed-arguments _ w .0, held-fits _ _ _ _ _ _ _ (bytes (at2 e)) (checkAnswer h))
 
 returns-2 : tie.Need-returns-2
 returns-2 c =

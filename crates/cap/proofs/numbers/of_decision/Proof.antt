@@ -1,6 +1,6 @@
 -- `of_decision` meets its contract. Assumes nothing.
 use mathlib.Core.Path.{sym, ap, _∙_}
-use Rattle.request.specs.Decision.{numbersOf}
+use Rattle.request_spec.specs.Decision.{numbersOf}
 use borrow.Author.Needs.{needs}
 use Rattle.cap.proofs.numbers.of_decision.Statement.{statement}
 use Rattle.cap.proofs.numbers.of_decision.Tie as tie

@@ -1,6 +1,6 @@
 -- `of_finding` meets its contract. Assumes nothing.
 use mathlib.Core.Path.{sym, ap, _∙_}
-use Rattle.image.specs.Check.{numbersOf}
+use Rattle.image_spec.specs.Check.{numbersOf}
 use borrow.Author.Needs.{needs}
 use Rattle.cap.proofs.numbers.of_finding.Statement.{statement}
 use Rattle.cap.proofs.numbers.of_finding.Tie as tie

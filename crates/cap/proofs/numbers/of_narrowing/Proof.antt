@@ -1,6 +1,6 @@
 -- `of_narrowing` meets its contract. Assumes nothing.
 use mathlib.Core.Path.{sym, ap, _∙_}
-use Rattle.narrowing.specs.Narrow.{numbersOf}
+use Rattle.narrowing_spec.specs.Narrow.{numbersOf}
 use borrow.Author.Needs.{needs}
 use Rattle.cap.proofs.numbers.of_narrowing.Statement.{statement}
 use Rattle.cap.proofs.numbers.of_narrowing.Tie as tie

@@ -1,6 +1,6 @@
 -- `of_reading` meets its contract. Assumes nothing.
 use mathlib.Core.Path.{sym, ap, _∙_}
-use Rattle.descriptor.specs.Numbers.{numbersOf}
+use Rattle.descriptor_spec.specs.Numbers.{numbersOf}
 use borrow.Author.Needs.{needs}
 use Rattle.cap.proofs.numbers.of_reading.Statement.{statement}
 use Rattle.cap.proofs.numbers.of_reading.Tie as tie

@@ -6,7 +6,7 @@ use Rattle.exact.proofs.ReadsLaws.{took, stopped}
 use Rattle.entries.specs.Keys.{kModes, kConstraints, kResourcePattern}
 use Rattle.entries.specs.Code.{countRead, optionalRead}
 use Rattle.entries.proofs.ValueBounds.{string-ends}
-use Rattle.descriptor.specs.Reader.{grantAt}
+use Rattle.descriptor_spec.specs.Reader.{grantAt}
 use Rattle.descriptor.proofs.ModeCode.{modes-room}
 use borrow.Author.Needs.{needs}
 use Rattle.descriptor.proofs.grants.grant_at.Statement.{statement}

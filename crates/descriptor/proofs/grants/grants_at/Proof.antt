@@ -10,8 +10,9 @@ use Rattle.entries.specs.Keys.{kGrants}
 use Rattle.entries.specs.Value.{countAt, keyedAt}
 use Rattle.entries.specs.Code.{countRead}
 use Rattle.entries.proofs.ValueBounds.{count-room}
-use Rattle.descriptor.specs.Code.{grantRead, sumOf, sumRead}
-use Rattle.descriptor.specs.Reader.{grantsAt}
+use Rattle.descriptor_spec.specs.Code.{grantRead}
+use Rattle.descriptor.specs.Code.{sumOf, sumRead}
+use Rattle.descriptor_spec.specs.Reader.{grantsAt}
 use Rattle.descriptor.proofs.GrantBounds.{grant-room, more-room, grantsFrom, grants-begin, grants-next, grants-stop}
 use Rattle.descriptor.proofs.GrantBounds.{grants-done}
 use borrow.Author.Needs.{needs}

@@ -10,7 +10,7 @@ use Rattle.exact.proofs.CountedLaws.{many-got}
 use Rattle.entries.specs.Keys.{kModes}
 use Rattle.entries.specs.Value.{countAt, keyedAt}
 use Rattle.entries.specs.Code.{countRead}
-use Rattle.descriptor.specs.Reader.{modeAt, modesAt}
+use Rattle.descriptor_spec.specs.Reader.{modeAt, modesAt}
 use Rattle.descriptor.proofs.ModeCode.{mode-small, modes-no, modes-yes}
 use Rattle.descriptor.proofs.modes.modes_at.Statement.{statement}
 use Rattle.descriptor.proofs.modes.modes_at.Tie as tie

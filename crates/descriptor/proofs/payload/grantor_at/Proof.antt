@@ -3,7 +3,7 @@ use mathlib.Core.Path.{refl, sym, ap, _∙_}
 use Rattle.exact.proofs.ReadsLaws.{took, stopped}
 use Rattle.entries.specs.Keys.{kGrantorId, kNotBefore}
 use Rattle.entries.specs.Code.{countRead, optionalRead}
-use Rattle.descriptor.specs.Reader.{grantorAt}
+use Rattle.descriptor_spec.specs.Reader.{grantorAt}
 use borrow.Author.Needs.{needs}
 use Rattle.descriptor.proofs.payload.grantor_at.Statement.{statement}
 use Rattle.descriptor.proofs.payload.grantor_at.Tie as tie

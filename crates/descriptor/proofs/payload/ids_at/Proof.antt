@@ -5,7 +5,7 @@ use Rattle.cbor_item.specs.Head.{spanRead}
 use Rattle.exact.proofs.ReadsLaws.{took, stopped}
 use Rattle.entries.specs.Keys.{kTerminalId, kDescriptorId, kSubjectFayId}
 use Rattle.entries.proofs.ValueBounds.{string-ends}
-use Rattle.descriptor.specs.Reader.{idsAt}
+use Rattle.descriptor_spec.specs.Reader.{idsAt}
 use borrow.Author.Needs.{needs}
 use Rattle.descriptor.proofs.payload.ids_at.Statement.{statement}
 use Rattle.descriptor.proofs.payload.ids_at.Tie as tie

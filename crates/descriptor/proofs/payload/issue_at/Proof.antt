@@ -6,7 +6,7 @@ use Rattle.exact.proofs.ReadsLaws.{took, stopped}
 use Rattle.entries.specs.Keys.{kMetadata, kIssuedAt, kIssuerId, kNotAfter}
 use Rattle.entries.specs.Code.{countRead, optionalRead}
 use Rattle.entries.proofs.ValueBounds.{string-ends}
-use Rattle.descriptor.specs.Reader.{issueAt}
+use Rattle.descriptor_spec.specs.Reader.{issueAt}
 use borrow.Author.Needs.{needs}
 use Rattle.descriptor.proofs.payload.issue_at.Statement.{statement}
 use Rattle.descriptor.proofs.payload.issue_at.Tie as tie

@@ -3,7 +3,7 @@ use mathlib.Core.Path.{sym, ap, _∙_}
 use Rattle.exact.proofs.ReadsLaws.{took, stopped}
 use Rattle.entries.specs.Code.{countRead}
 use Rattle.descriptor.specs.Code.{grantsRead, issueRead, grantorRead, idsRead}
-use Rattle.descriptor.specs.Reader.{payloadAt}
+use Rattle.descriptor_spec.specs.Reader.{payloadAt}
 use Rattle.descriptor.proofs.GrantBounds.{grants-room}
 use Rattle.descriptor.proofs.PayloadBounds.{ids-room}
 use borrow.Author.Needs.{needs}

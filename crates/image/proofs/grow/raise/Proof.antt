@@ -4,7 +4,7 @@ use Prim.Native.Nat.{_-_, _≤_}
 use native.Mathlib.Omega.{arith}
 use lib.ListN.{length}
 use Rattle.octets.proofs.OverLaws.{put-length}
-use Rattle.image.specs.Grow.{raised}
+use Rattle.image_spec.specs.Grow.{raised}
 use Rattle.image.proofs.GrowCode.{raise-begin, raise-next, raise-end}
 use borrow.Author.Needs.{needs}
 use Rattle.image.proofs.grow.raise.Statement.{statement}

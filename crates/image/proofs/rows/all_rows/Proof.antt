@@ -3,12 +3,13 @@ use mathlib.Core.Path.{_≡_, sym, ap, _∙_}
 use Prim.Native.Nat.{_+_, _-_, _≤_}
 use native.Mathlib.Omega.{arith}
 use lib.ListN.{length}
-use Rattle.image.specs.declared.Held.the-variants.{Missing}
-use Rattle.descriptor.specs.Allowed.{idSize}
-use Rattle.image.specs.Layout.{rowPlace}
-use Rattle.image.specs.Check.{rowRead, rowsFrom, checkAnswer}
-use Rattle.image.proofs.RowPlaceLaws.{place-order, row-inside}
-use Rattle.image.proofs.RowsCode.{row-next-is, rows-stop, rows-done, rows-begin}
+use Rattle.image_spec.specs.declared.Held.the-variants.{Missing}
+use Rattle.descriptor_spec.specs.Allowed.{idSize}
+use Rattle.image_spec.specs.Layout.{rowPlace}
+use Rattle.image_spec.specs.Check.{rowsFrom, checkAnswer}
+use Rattle.image.specs.Code.{rowRead}
+use Rattle.image_spec.proofs.Laws.{rows-in-order, row-next}
+use Rattle.image.proofs.RowsCode.{row-inside, rows-stop, rows-done, rows-begin}
 use Rattle.image.proofs.CheckCode.{rows-kept}
 use borrow.Author.Needs.{needs}
 use Rattle.image.proofs.rows.all_rows.Statement.{statement}
@@ -38,7 +39,7 @@ row-at-requires c κs =
       s .pre .0,
       omega arith,
       omega
-          (arith, place-order (s .args .layout) (c .before .loop .i) (s .args .n) (c .loop-test .taken), s .pre .2),
+          (arith, rows-in-order (s .args .layout) (c .before .loop .i) (s .args .n) (c .loop-test .taken), s .pre .2),
       c .before .loop .inv .1,
     )
 
@@ -51,7 +52,7 @@ part-same-bytes-end c = omega (arith, inside c)
 sub-keep : tie.Need-sub-keep Inv-loop μ-loop
 sub-keep c =
     let f = c .before .before .before .before in
-    omega (arith, row-next-is _ _ _ _ _ _ (sym (ap rowRead (f .fields .given .1)) ∙ f .before .before .row-at .ensures) .0)
+    omega (arith, row-next _ _ _ _ _ _ (sym (ap rowRead (f .fields .given .1)) ∙ f .before .before .row-at .ensures) .0)
 
 returns : tie.Need-returns Inv-loop μ-loop
 returns c =
@@ -70,7 +71,7 @@ loop-again c =
     let l = t .before .loop in
     let e = sym (ap rowRead (f .fields .given .1)) ∙ r .row-at .ensures in (
       omega arith,
-      row-next-is _ _ _ _ _ _ e .1,
+      row-next _ _ _ _ _ _ e .1,
       l .inv .2 ∙ rows-kept _ _ _ _ _ _ _ _ _ _ _ _ (t .loop-test .taken) e
           (k .row-place2 .ensures .0) (c .before .same-bytes .ensures) (c .keep .ensures),
     )

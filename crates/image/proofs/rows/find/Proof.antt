@@ -1,6 +1,6 @@
 -- `find` meets its contract. Assumes nothing.
 use mathlib.Core.Path.{sym, ap, _∙_}
-use Rattle.image.specs.Check.{foundIn}
+use Rattle.image_spec.specs.Check.{foundIn}
 use Rattle.image.proofs.CheckCode.{find-bad, find-in}
 use borrow.Author.Needs.{needs}
 use Rattle.image.proofs.rows.find.Statement.{statement}

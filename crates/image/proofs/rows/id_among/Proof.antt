@@ -3,10 +3,9 @@ use mathlib.Core.Path.{_≡_, refl, sym, ap, _∙_}
 use Prim.Native.Nat.{_+_, _-_, _≤_}
 use native.Mathlib.Omega.{arith}
 use lib.ListN.{length}
-use Rattle.descriptor.specs.Allowed.{idSize}
-use Rattle.image.specs.Check.{idAmong}
-use Rattle.image.proofs.RowPlaceLaws.{row-inside}
-use Rattle.image.proofs.RowsCode.{among-next, among-hit, among-none}
+use Rattle.descriptor_spec.specs.Allowed.{idSize}
+use Rattle.image_spec.specs.Check.{idAmong}
+use Rattle.image.proofs.RowsCode.{row-inside, among-next, among-hit, among-none}
 use Rattle.image.proofs.CheckCode.{id-is}
 use borrow.Author.Needs.{needs}
 use Rattle.image.proofs.rows.id_among.Statement.{statement}

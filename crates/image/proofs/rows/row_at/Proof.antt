@@ -2,8 +2,8 @@
 use mathlib.Core.Path.{_≡_, sym, _∙_}
 use mathlib.Core.Logic.{inl, inr}
 use native.Mathlib.Omega.{arith}
-use Rattle.image.specs.Layout.{rowPlace}
-use Rattle.image.specs.Check.{onRead, rowAt}
+use Rattle.image_spec.specs.Layout.{rowPlace}
+use Rattle.image_spec.specs.Check.{onRead, rowAt}
 use Rattle.image.proofs.CheckCode.{afterRead, row-short, row-read, id-room, read-not, row-other, row-twice, row-good}
 use borrow.Author.Needs.{needs}
 use Rattle.image.proofs.rows.row_at.Statement.{statement}

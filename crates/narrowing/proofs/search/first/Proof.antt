@@ -4,9 +4,9 @@ use Prim.Native.Nat.{ℕ, _+_, _-_, _≤_}
 use native.Mathlib.Omega.{arith}
 use lib.ListN.{length}
 use Rattle.resource.specs.Identifier.{levelsPlace}
-use Rattle.descriptor.specs.declared.GrantRead.the-variants.{IsGrant}
-use Rattle.descriptor.specs.Code.{grantRead}
-use Rattle.descriptor.specs.Reader.{grantAt}
+use Rattle.descriptor_spec.specs.declared.GrantRead.the-variants.{IsGrant}
+use Rattle.descriptor_spec.specs.Code.{grantRead}
+use Rattle.descriptor_spec.specs.Reader.{grantAt}
 use Rattle.descriptor.proofs.GrantBounds.{pattern-room}
 use Rattle.narrowing.specs.Code.{Filled, firstIn}
 use Rattle.narrowing.proofs.NarrowCode.{first-begin, first-hit, first-next, first-none, first-done}

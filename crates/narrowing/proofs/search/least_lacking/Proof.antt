@@ -4,7 +4,7 @@ use mathlib.Core.Path.{_≡_, refl, sym, _∙_}
 use Prim.Native.Nat.{_-_, _≤_}
 use native.Mathlib.Omega.{arith}
 use borrow.Author.Needs.{needs}
-use Rattle.narrowing.specs.Escape.{least, orLimit}
+use Rattle.narrowing_spec.specs.Escape.{least, orLimit}
 use Rattle.narrowing.specs.Code.{lacksAt}
 use Rattle.narrowing.proofs.SearchCode.{least-hit, least-miss, least-end}
 use Rattle.narrowing.proofs.search.least_lacking.Statement.{statement}

@@ -7,9 +7,9 @@ use borrow.Author.Needs.{needs}
 use Rattle.resource.specs.Identifier.{faySize, terminalSize}
 use Rattle.octets.specs.Bytes.{part, same}
 use Rattle.steps.specs.Laws.{ends, passes, fails}
-use Rattle.request.specs.declared.search.Matched.{Matched}
-use Rattle.request.specs.declared.search.Matched.the-variants.{IsAt, Nothing}
-use Rattle.request.specs.Decision.{descriptorSteps, matchedOn}
+use Rattle.request_spec.specs.declared.Matched.{Matched}
+use Rattle.request_spec.specs.declared.Matched.the-variants.{IsAt, Nothing}
+use Rattle.request_spec.specs.Decision.{descriptorSteps, matchedOn}
 use Rattle.request.proofs.DecideCode.{lent-same, on-descriptor}
 use Rattle.request.proofs.decide.check_descriptor.Statement.{statement}
 use Rattle.request.proofs.decide.check_descriptor.Tie as tie

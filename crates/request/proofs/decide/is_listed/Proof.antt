@@ -5,7 +5,7 @@ use Prim.Native.Nat.{_/_, _≤_}
 use native.Mathlib.Omega.{arith}
 use lib.ListN.{length}
 use borrow.Author.Needs.{needs}
-use Rattle.request.specs.Request.{listedAmong, isListed}
+use Rattle.request_spec.specs.Request.{listedAmong, isListed}
 use Rattle.request.proofs.ArgumentCode.{listed-begin, listed-none, listed-hit, listed-next}
 use Rattle.request.proofs.decide.is_listed.Statement.{statement}
 use Rattle.request.proofs.decide.is_listed.Tie as tie

@@ -13,12 +13,12 @@ use Rattle.resource.specs.Text.{levelsMatch}
 use Rattle.octets.proofs.PartLaws.{part-shorter}
 use Rattle.resource.specs.Laws.{Goes, Stepped}
 use Rattle.resource.proofs.Laws.{step-decides, deep-matches, next-same}
-use Rattle.descriptor.specs.declared.GrantRead.the-variants.{IsGrant}
-use Rattle.descriptor.specs.Code.{grantRead}
-use Rattle.descriptor.specs.Reader.{grantAt}
+use Rattle.descriptor_spec.specs.declared.GrantRead.the-variants.{IsGrant}
+use Rattle.descriptor_spec.specs.Code.{grantRead}
+use Rattle.descriptor_spec.specs.Reader.{grantAt}
 use Rattle.descriptor.proofs.GrantBounds.{pattern-room}
-use Rattle.request.specs.declared.search.Matched.the-variants.{IsAt}
-use Rattle.request.specs.Decision.{firstFrom}
+use Rattle.request_spec.specs.declared.Matched.the-variants.{IsAt}
+use Rattle.request_spec.specs.Decision.{firstFrom}
 use Rattle.request.proofs.SearchCode.{first-begin, first-done, first-stop, first-not, first-miss, first-hit, differ-told}
 use Rattle.request.proofs.search.first_grant.Statement.{statement}
 use Rattle.request.proofs.search.first_grant.Tie as tie

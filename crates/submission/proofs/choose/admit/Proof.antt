@@ -2,7 +2,7 @@
 use mathlib.Core.Logic.{⊎-elim}
 use Prim.Native.Nat.{_+_, _≤_}
 use native.Mathlib.Omega.{arith}
-use Rattle.submission.specs.Submission.{longestLead}
+use Rattle.submission_spec.specs.Submission.{longestLead}
 use Rattle.submission.proofs.SubmitCode.{admit-late, admit-issuer, admit-key, admit-bad, admit-all}
 use borrow.Author.Needs.{needs}
 use Rattle.submission.proofs.choose.admit.Statement.{statement}

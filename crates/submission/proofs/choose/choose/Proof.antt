@@ -2,8 +2,8 @@
 use mathlib.Core.Path.{sym, subst}
 use native.Mathlib.Omega.{arith}
 use Rattle.octets.specs.Bytes.{AreBytes}
-use Rattle.image.specs.Laws.{CheckFits}
-use Rattle.image.proofs.Laws.{check-inside}
+use Rattle.image_spec.specs.Laws.{CheckFits}
+use Rattle.image_spec.proofs.Laws.{check-inside}
 use Rattle.octets.proofs.BytesLaws.{are-bytes}
 use Rattle.submission.proofs.SubmitCode.{id-room, choice-malformed, choice-read, choice-structure, choice-validity}
 use borrow.Author.Needs.{needs}

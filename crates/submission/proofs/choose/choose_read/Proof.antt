@@ -1,6 +1,6 @@
 -- `choose_read` meets its contract. Assumes nothing.
 use mathlib.Core.Path.{subst}
-use Rattle.image.specs.Laws.{CheckFits}
+use Rattle.image_spec.specs.Laws.{CheckFits}
 use Rattle.submission.proofs.SubmitCode.{read-unsound, read-refused, read-placed}
 use borrow.Author.Needs.{needs}
 use Rattle.submission.proofs.choose.choose_read.Statement.{statement}

@@ -1,0 +1,44 @@
+-- The statements of specs/Laws.antt, each from its law. Assumes nothing.
+use Rattle.descriptor_spec.specs.Laws.{ReadsExactly, ValidityExactly, StructureExactly, AnswersTold, SeenHanded, GrantsAllowed}
+use Rattle.descriptor_spec.specs.Laws.{MaskExactly, GrantsWalk, GrantsEnd, GrantsInTurn}
+use Rattle.descriptor_spec.proofs.grants.MaskLaws as mask
+use Rattle.descriptor_spec.proofs.whole.AnswerLaws as answer
+use Rattle.descriptor_spec.proofs.places.SeenLaws as seen
+use Rattle.descriptor_spec.proofs.places.TurnLaws as turn
+use Rattle.descriptor_spec.proofs.places.EndLaws as end
+use Rattle.descriptor_spec.proofs.handed.NumberLaws as number
+use Rattle.descriptor_spec.proofs.handed.BackLaws as back
+
+-- ---- reading
+
+pub reads-exactly : ReadsExactly
+reads-exactly = answer.reads-exactly
+
+pub validity-exactly : ValidityExactly
+validity-exactly = answer.validity-exactly
+
+pub structure-exactly : StructureExactly
+structure-exactly = answer.structure-exactly
+
+pub answers-told : AnswersTold
+answers-told = number.answers-told
+
+pub seen-handed : SeenHanded
+seen-handed = back.seen-handed
+
+-- ---- grants
+
+pub grants-allowed : GrantsAllowed
+grants-allowed = turn.grants-allowed
+
+pub mask-exactly : MaskExactly
+mask-exactly = mask.mask-exactly
+
+pub grants-walk : GrantsWalk
+grants-walk = seen.grants-walk
+
+pub grants-end : GrantsEnd
+grants-end = end.grants-end
+
+pub grants-in-turn : GrantsInTurn
+grants-in-turn = turn.grants-in-turn

@@ -1,0 +1,62 @@
+-- A reader of the promises does not need this page.
+-- What reading and the reader of a grant answer: the types of src/lib.rt for what is seen.
+use Rattle.octets.specs.Span.{Span, spanOf}
+use Rattle.exact.specs.Reads.{Got, got, refused}
+use Rattle.descriptor_spec.specs.declared.GrantFields.{GrantFields}
+use Rattle.descriptor_spec.specs.declared.GrantRead.{GrantRead}
+use Rattle.descriptor_spec.specs.declared.GrantRead.the-variants.{IsGrant, NoGrant}
+use Rattle.descriptor_spec.specs.declared.Part.{Part}
+use Rattle.descriptor_spec.specs.declared.Fields.{Fields}
+use Rattle.descriptor_spec.specs.declared.Reading.{Reading}
+use Rattle.descriptor_spec.specs.declared.Reading.the-variants.{Read, Structure, Validity}
+use Rattle.descriptor_spec.specs.Reader.{GrantSeen, Seen, Answer}
+use Rattle.descriptor_spec.specs.Reader.{read, structure, validity}
+
+-- what is seen of a grant
+abbrev pub grantOf : GrantFields → GrantSeen
+grantOf f = record {
+  mask = f .mask;
+  modes = f .modes;
+  constraints = f .constraints;
+  pairs = f .pairs;
+  pattern =
+      spanOf (f .pattern) (f .len);
+}
+
+abbrev pub grantRead : GrantRead → Got GrantSeen
+grantRead (IsGrant f next) = got (grantOf f) next
+grantRead NoGrant = refused
+
+-- a part of the bytes
+abbrev pub partOf : Span → Part
+partOf c = record { at = c .start; len = c .len }
+
+-- the fields of what is seen of a descriptor
+abbrev pub fieldsOf : Seen → Fields
+fieldsOf v =
+    record {
+      payload = partOf (v .covered);
+      «issued_at» = v .payload .issuedAt;
+      «not_before» = v .payload .notBefore;
+      «not_after» = v .payload .notAfter;
+      id = v .payload .id;
+      issuer = partOf (v .payload .issuer);
+      grantor = record { at = v .payload .grantor .at; len = v .payload .grantor .size };
+      fay = v .payload .fay;
+      terminal = v .payload .terminal;
+      grants = v .payload .grants .count;
+      first = v .payload .grants .start;
+      metadata = v .payload .metadata .at;
+      pairs = v .payload .metadata .size;
+      constraints = v .payload .grants .sum .pairs;
+      mask = v .payload .grants .sum .mask;
+      key = partOf (v .signature .keyId);
+      algorithm = v .signature .algorithm;
+      signature = partOf (v .signature .value);
+    }
+
+-- what reading answers
+abbrev pub readingOf : Answer → Reading
+readingOf (read v) = Read (fieldsOf v)
+readingOf structure = Structure
+readingOf validity = Validity

@@ -1,0 +1,9 @@
+pub mod Promises
+pub mod Laws
+pub mod Model
+pub mod Allowed
+pub mod Modes
+pub mod Reader
+pub mod View
+pub mod Numbers
+pub mod Code

@@ -1,0 +1,179 @@
+-- What the crates above stand on, in the code's own answers: for a layout, and at the end at edition 1. A reader of the promises does not
+-- need this page.
+use mathlib.Core.Path.{_≡_}
+use mathlib.Core.Logic.{_↔_, _⊎_}
+use mathlib.Core.Bool.{true, cond}
+use mathlib.Core.List.{List, [], _∷_, _++_}
+use mathlib.Core.Option.{none, some}
+use Prim.Native.Nat.{ℕ, _+_, _*_, _≤_, _<_}
+use lib.ListN.{length, getD}
+use Rattle.resource.specs.Identifier.{faySize, terminalSize}
+use Rattle.octets.specs.Bytes.{AreBytes, part}
+use Rattle.octets.specs.Number.{numberAt}
+use Rattle.exact.specs.Reads.{got}
+use Rattle.descriptor_spec.specs.declared.Fields.{Fields}
+use Rattle.descriptor_spec.specs.declared.Reading.the-variants.{Read}
+use Rattle.descriptor_spec.specs.Model.{Descriptor, encode}
+use Rattle.descriptor_spec.specs.Allowed.{Allowed, idSize}
+use Rattle.descriptor_spec.specs.Modes.{unionOf}
+use Rattle.image_spec.specs.declared.Held.{Held}
+use Rattle.image_spec.specs.declared.Held.the-variants.{Missing, Body}
+use Rattle.image_spec.specs.declared.ImageCheck.{ImageCheck}
+use Rattle.image_spec.specs.declared.ImageCheck.the-variants.{Sound, Unsound}
+use Rattle.image_spec.specs.declared.Added.the-variants.{Done, Full}
+use Rattle.image_spec.specs.declared.layout.Layout.{Layout}
+use Rattle.image_spec.specs.Layout.{modeEdition, headerWidth, editionPlace, modesPlace, edition1, rowSize, mostRows, rowPlace, LayoutOk}
+use Rattle.image_spec.specs.Image.{Row, rowOf, reading, isRead, idOf, modesOf, imageOf, RowsOk, Holds, bodyWith}
+use Rattle.image_spec.specs.Check.{rowLength, rowAt, checkOf, rowsHeld}
+use Rattle.image_spec.specs.Grow.{addedOf, afterAdd, hasRoom, withBody}
+
+-- ---- where rows stand
+
+-- a row ends before any after it begins
+abbrev pub RowsInOrder : Type 0
+RowsInOrder = (l : Layout) (i n : ℕ) → i < n → rowPlace l i + rowSize l ≤ rowPlace l n
+
+-- the offsets of bodies of at most 32768 bytes each fit 4 bytes
+abbrev pub OffsetsFit : Type 0
+OffsetsFit = (l : Layout) → LayoutOk l → (n : ℕ) → n ≤ mostRows l → rowPlace l n + 32768 * n < 4294967296
+
+-- the body after that of a row that passes the check begins where that ends, within the bytes
+abbrev pub RowNext : Type 0
+RowNext = (l : Layout) (s : List ℕ) (i at : ℕ) (f : Fields) (next : ℕ) → got f next ≡ rowAt l s i at
+    → (next ≡ at + rowLength s (rowPlace l i)) × (next ≤ length s)
+
+-- ---- a body that reads
+
+-- what is known of a body of which f was read: it is short, and its identifiers lie in it
+pub record BodyIn (b : List ℕ) (f : Fields) : Type 0 where
+  pub short : length b ≤ 32768
+  pub filled : 0 < length b
+  pub id : f .id + idSize ≤ length b
+  pub fay : f .fay + faySize ≤ length b
+  pub terminal : f .terminal + terminalSize ≤ length b
+  pub mask : f .mask < 16
+
+-- it is known of every body of which something was read
+abbrev pub ReadIn : Type 0
+ReadIn = (b : List ℕ) (f : Fields) → reading b ≡ Read f → BodyIn b f
+
+-- such a body is the encoding of an allowed descriptor, and has its id and modes
+abbrev pub BodyRead : Type 0
+BodyRead = (b : List ℕ) → AreBytes b → isRead (reading b) ≡ true
+    → (d : Descriptor) × Allowed d × (b ≡ encode d) × (idOf b ≡ d .payload .id) × (modesOf b ≡ unionOf (d .payload .grants))
+
+-- the encoding of an allowed descriptor is read, with its beginning and its id
+abbrev pub EncodingRead : Type 0
+EncodingRead = (d : Descriptor) → AreBytes (encode d) → Allowed d
+    → (f : Fields) × (reading (encode d) ≡ Read f) × (f .«not_before» ≡ d .payload .notBefore) × (idOf (encode d) ≡ d .payload .id)
+
+-- ---- the body with an id
+
+-- the body that has an id is that of a row in the list, and has it
+abbrev pub BodyWithExactlyFor : Layout → Type 0
+BodyWithExactlyFor l = (id : List ℕ) (rs : List Row) (b : List ℕ) → RowsOk l rs
+    → (bodyWith id rs ≡ some b) ↔ ((idOf b ≡ id) × ((i : ℕ) × (i < length rs) × (getD rs i (rowOf []) .body ≡ b)))
+
+-- the rows that a buffer holds are those that stand in it
+abbrev pub RowsNamedFor : Layout → Type 0
+RowsNamedFor l = (s : List ℕ) (rs : List Row) → Holds l s rs → rowsHeld l s ≡ rs
+
+-- ---- what a check says
+
+-- the body of `len` bytes at `at` in s, of which f was read, is the one with the id
+pub record HeldBody (s id : List ℕ) (rs : List Row) (at len : ℕ) (f : Fields) : Type 0 where
+  pub which : bodyWith id rs ≡ some (part s at len)
+  pub inside : at + len ≤ length s
+  pub reads : reading (part s at len) ≡ Read f
+
+-- what is held is the body with the id, or none has it
+abbrev pub HeldIs : List ℕ → List ℕ → List Row → Held → Type 0
+HeldIs s id rs Missing = bodyWith id rs ≡ none
+HeldIs s id rs (Body at len f) = HeldBody s id rs at len f
+
+-- the check of an image says how many rows it has, where it ends, and which body has the id
+abbrev pub CheckTellsFor : Layout → Type 0
+CheckTellsFor l = (s id : List ℕ) (rs : List Row) → Holds l s rs
+    → (h : Held) × (checkOf l s id ≡ Sound (length rs) (length (imageOf l rs)) h) × HeldIs s id rs h
+
+-- what is so of an image that a check calls sound
+pub record SoundCheck (l : Layout) (s id : List ℕ) (n end : ℕ) (h : Held) : Type 0 where
+  pub holds : Holds l s (rowsHeld l s)
+  pub rows : n ≡ length (rowsHeld l s)
+  pub ends : end ≡ length (imageOf l (rowsHeld l s))
+  pub held : HeldIs s id (rowsHeld l s) h
+
+-- bytes that a check calls sound hold the rows that stand in them, and what it says of them is so
+abbrev pub CheckSaysFor : Layout → Type 0
+CheckSaysFor l = (s id : List ℕ) → AreBytes s → (n end : ℕ) (h : Held) → checkOf l s id ≡ Sound n end h → SoundCheck l s id n end h
+
+-- bytes that a check calls unsound hold no list of rows
+abbrev pub CheckUnsoundFor : Layout → Type 0
+CheckUnsoundFor l = (s id : List ℕ) → AreBytes s → (checkOf l s id ≡ Unsound) ↔ ((rs : List Row) → Holds l s rs → ⊥)
+
+-- a check calls an image of other editions unsound
+abbrev pub EditionsCheckedFor : Layout → Type 0
+EditionsCheckedFor l = (s id : List ℕ)
+    → (numberAt s editionPlace headerWidth ≡ l .edition → ⊥) ⊎ (numberAt s modesPlace headerWidth ≡ modeEdition → ⊥)
+    → checkOf l s id ≡ Unsound
+
+-- the body that is held lies in the image, and its fields are those that were read of it
+abbrev pub HeldFits : List ℕ → Held → Type 0
+HeldFits s Missing = Unit {0}
+HeldFits s (Body at len f) = (at + len ≤ length s) × (reading (part s at len) ≡ Read f)
+
+-- the image ends in the buffer, and so does what is held
+abbrev pub CheckFits : List ℕ → ImageCheck → Type 0
+CheckFits s (Sound n end h) = (end ≤ length s) × HeldFits s h
+CheckFits s Unsound = Unit {0}
+
+-- the places that a check answers lie in the image
+abbrev pub CheckInsideFor : Layout → Type 0
+CheckInsideFor l = (s id : List ℕ) → AreBytes s → CheckFits s (checkOf l s id)
+
+-- ---- one body more
+
+-- A body that reads is added to a buffer that holds rows exactly where there is room for it; the buffer is then the image of the rows and
+-- the new one, and beyond it what stood there. Else no byte is changed.
+abbrev pub BodyAddedFor : Layout → Type 0
+BodyAddedFor l = (d : List ℕ) (rs : List Row) (r : Row) (f : Fields) → Holds l d rs → reading (r .body) ≡ Read f
+    → (addedOf l d (length rs) (length (imageOf l rs)) (r .body) (f .id) ≡ cond (hasRoom l d rs r) Done Full)
+    × (afterAdd l d (length rs) (length (imageOf l rs)) (r .body) (f .id) (f .mask) ≡ cond (hasRoom l d rs r) (withBody l d rs r) d)
+
+-- where there is room, and none of the rows has its id, the larger buffer holds the rows and the new one; its id then has its body, and
+-- any other id what it had
+pub record OneMoreFor (l : Layout) : Type 0 where
+  pub holds : (d : List ℕ) (rs : List Row) (r : Row) → Holds l d rs → hasRoom l d rs r ≡ true → isRead (reading (r .body)) ≡ true
+      → bodyWith (idOf (r .body)) rs ≡ none
+      → Holds l (withBody l d rs r) (rs ++ (r ∷ []))
+  pub mine : (rs : List Row) (r : Row) → bodyWith (idOf (r .body)) rs ≡ none → bodyWith (idOf (r .body)) (rs ++ (r ∷ [])) ≡ some (r .body)
+  pub others : (id : List ℕ) (rs : List Row) (r : Row) → (idOf (r .body) ≡ id → ⊥) → bodyWith id (rs ++ (r ∷ [])) ≡ bodyWith id rs
+
+-- ---- at edition 1
+
+abbrev pub BodyWithExactly : Type 0
+BodyWithExactly = BodyWithExactlyFor edition1
+
+abbrev pub RowsNamed : Type 0
+RowsNamed = RowsNamedFor edition1
+
+abbrev pub CheckTells : Type 0
+CheckTells = CheckTellsFor edition1
+
+abbrev pub CheckSays : Type 0
+CheckSays = CheckSaysFor edition1
+
+abbrev pub CheckUnsound : Type 0
+CheckUnsound = CheckUnsoundFor edition1
+
+abbrev pub EditionsChecked : Type 0
+EditionsChecked = EditionsCheckedFor edition1
+
+abbrev pub CheckInside : Type 0
+CheckInside = CheckInsideFor edition1
+
+abbrev pub BodyAdded : Type 0
+BodyAdded = BodyAddedFor edition1
+
+abbrev pub OneMore : Type 0
+OneMore = OneMoreFor edition1

@@ -1,0 +1,88 @@
+-- The sizes, places, limits and editions of a stored image, each named once. A reader of the promises does not need this page: they have
+-- the numbers.
+use Prim.Native.Nat.{ℕ, _+_, _-_, _*_, _≤_, _<_}
+use Rattle.image_spec.specs.declared.layout.Layout.{Layout}
+
+-- ---- what is the same in every edition
+
+-- the edition of the modes' numbers: read 0, write 1, execute 2, configure 3
+abbrev pub modeEdition : ℕ
+modeEdition = 1
+
+-- the bytes of the header
+abbrev pub headerSize : ℕ
+headerSize = 8
+
+-- the bytes of each of the four numbers of the header
+abbrev pub headerWidth : ℕ
+headerWidth = 2
+
+-- where the image edition stands in the header
+abbrev pub editionPlace : ℕ
+editionPlace = 0
+
+-- where the mode edition stands in the header
+abbrev pub modesPlace : ℕ
+modesPlace = 2
+
+-- where the row count stands in the header
+abbrev pub countPlace : ℕ
+countPlace = 4
+
+-- where zero stands in the header
+abbrev pub headerZero : ℕ
+headerZero = 6
+
+-- the bytes of a body's offset, and of its length
+abbrev pub bodyWidth : ℕ
+bodyWidth = 4
+
+-- the bytes of a mask
+abbrev pub maskWidth : ℕ
+maskWidth = 1
+
+-- where the body's offset stands in a row
+abbrev pub offsetPlace : ℕ
+offsetPlace = 16
+
+-- where the body's length stands in a row
+abbrev pub lengthPlace : ℕ
+lengthPlace = 20
+
+-- where the mask stands in a row
+abbrev pub maskPlace : ℕ
+maskPlace = 24
+
+-- where zero stands in a row, up to the row's end
+abbrev pub zeroPlace : ℕ
+zeroPlace = 25
+
+-- ---- what an edition fixes
+
+-- edition 1: rows of 32 bytes, at most 64 of them
+abbrev pub edition1 : Layout
+edition1 = record { edition = 1; «row_size» = 32; «most_rows» = 64 }
+
+-- the bytes of a row
+abbrev pub rowSize : Layout → ℕ
+rowSize l = l .«row_size»
+
+-- the most rows
+abbrev pub mostRows : Layout → ℕ
+mostRows l = l .«most_rows»
+
+-- the bytes of zero in a row
+abbrev pub zeroSize : Layout → ℕ
+zeroSize l = rowSize l - zeroPlace
+
+-- where row i stands; where the bodies of so many rows begin
+unfoldable pub rowPlace : Layout → ℕ → ℕ
+rowPlace l i = headerSize + rowSize l * i
+
+-- what an edition may fix: its number and a row count fit their bytes in the header, a row has room for its fields, and every offset fits
+-- its bytes in a row
+pub record LayoutOk (l : Layout) : Type 0 where
+  pub numbered : l .edition < 65536
+  pub wide : zeroPlace ≤ rowSize l
+  pub narrow : rowSize l ≤ 1024
+  pub few : mostRows l < 65536

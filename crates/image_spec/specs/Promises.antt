@@ -1,0 +1,136 @@
+-- What is promised of stored images, and nothing else. Each statement `NameOfIt` is proved in proofs/Promises.antt as `name-of-it`.
+-- Document 01, "The stored image"; the numbers of a lookup are those of include/cap.h.
+use mathlib.Core.Path.{_≡_}
+use mathlib.Core.Logic.{_↔_, _⊎_}
+use mathlib.Core.List.{List, [], _∷_, _++_}
+use mathlib.Core.Option.{none, some}
+use Prim.Native.Nat.{ℕ, _+_, _*_, _/_, _%_, _≤_, _<_}
+use lib.ListN.{length, drop}
+use Rattle.octets.specs.Bytes.{AreBytes, part}
+use Rattle.octets.specs.Span.{spanOf}
+use Rattle.octets.specs.Number.{numberAt}
+use Rattle.descriptor_spec.specs.Model.{Descriptor, encode}
+use Rattle.descriptor_spec.specs.Allowed.{Allowed}
+use Rattle.descriptor_spec.specs.Modes.{unionOf}
+use Rattle.descriptor_spec.specs.Reader.{readOf}
+use Rattle.descriptor_spec.specs.Code.{readingOf}
+use Rattle.descriptor_spec.specs.Numbers as descriptor
+use Rattle.image_spec.specs.declared.StoredNumbers.{StoredNumbers}
+use Rattle.image_spec.specs.Image.{Row, idOf, modesOf, joined, bodyWith}
+use Rattle.image_spec.specs.Check.{bodySpan, numbersOf}
+use Rattle.image_spec.specs.NewImage.{creationOf, numberOf}
+use Rattle.image_spec.specs.Edition1.{header, row, rowsOf, imageOf, Holds, findOf, afterNew}
+
+-- ---- the layout
+
+-- a number in 4 bytes, big-endian
+abbrev pub four : ℕ → List ℕ
+four n = (n / 16777216 % 256) ∷ (n / 65536 % 256) ∷ (n / 256 % 256) ∷ (n % 256) ∷ []
+
+-- Header, 8 bytes: image edition 1 (2 bytes), mode edition 1 (2), row count (2), zero (2). Rows of 32 bytes: descriptor id (16), body
+-- offset (4), body length (4), mask (1), zero (7). Bodies lie back to back in row order from 8 + 32 × rows.
+abbrev pub LayoutFixed : Type 0
+LayoutFixed =
+    ((n : ℕ) → header n ≡ 0 ∷ 1 ∷ 0 ∷ 1 ∷ (n / 256 % 256) ∷ (n % 256) ∷ 0 ∷ 0 ∷ [])
+    × ((b : List ℕ) → length (idOf b) ≡ 16)
+    × ((at : ℕ) (r : Row) → let b = r .body in
+    row at r ≡ idOf b ++ (four at ++ (four (length b) ++ (modesOf b ∷ 0 ∷ 0 ∷ 0 ∷ 0 ∷ 0 ∷ 0 ∷ 0 ∷ []))))
+    × ((at : ℕ) → rowsOf at [] ≡ [])
+    × ((at : ℕ) (r : Row) (rs : List Row) → rowsOf at (r ∷ rs) ≡ row at r ++ rowsOf (at + length (r .body)) rs)
+    × (joined [] ≡ [])
+    × ((r : Row) (rs : List Row) → joined (r ∷ rs) ≡ r .body ++ joined rs)
+    × ((rs : List Row) → imageOf rs ≡ header (length rs) ++ (rowsOf (8 + 32 * length rs) rs ++ joined rs))
+
+-- document 01's number of reading a body
+abbrev pub answerOf : List ℕ → ℕ
+answerOf b = descriptor.numberOf (readingOf (readOf b))
+
+-- a body that reads with 0 is the encoding of an allowed descriptor; its row has that descriptor's id, and the union of its modes as
+-- the mask
+abbrev pub RowOfBody : Type 0
+RowOfBody = (b : List ℕ) → AreBytes b → answerOf b ≡ 0
+    → (d : Descriptor) × Allowed d × (b ≡ encode d) × (idOf b ≡ d .payload .id) × (modesOf b ≡ unionOf (d .payload .grants))
+
+-- the bits 4 to 7 of a row's mask are 0
+abbrev pub MaskSmall : Type 0
+MaskSmall = (b : List ℕ) → modesOf b < 16
+
+-- ---- which rows a buffer holds
+
+-- each row of the list is so
+abbrev pub Every : (Row → Type 0) → List Row → Type 0
+Every P [] = Unit {0}
+Every P (r ∷ rs) = P r × Every P rs
+
+-- the ids of the rows differ
+abbrev pub IdsDiffer : List Row → Type 0
+IdsDiffer [] = Unit {0}
+IdsDiffer (r ∷ rs) = Every (λ q. idOf (q .body) ≡ idOf (r .body) → ⊥) rs × IdsDiffer rs
+
+-- a buffer holds the rows exactly when they are at most 64, each body reads with 0, their ids differ, and the buffer is their image,
+-- followed by anything
+abbrev pub HoldsExactly : Type 0
+HoldsExactly = (s : List ℕ) (rs : List Row)
+    → Holds s rs
+    ↔ ((length rs ≤ 64) × Every (λ r. answerOf (r .body) ≡ 0) rs × IdsDiffer rs × ((rest : List ℕ) × (s ≡ imageOf rs ++ rest)))
+
+-- it holds one list of rows
+abbrev pub BodiesOnce : Type 0
+BodiesOnce = (s : List ℕ) (rs qs : List Row) → Holds s rs → Holds s qs → rs ≡ qs
+
+-- the body with an id is that of the row whose id it is
+abbrev pub BodyOfId : Type 0
+BodyOfId = (id : List ℕ)
+    → (bodyWith id [] ≡ none)
+    × ((r : Row) (rs : List Row) → idOf (r .body) ≡ id → bodyWith id (r ∷ rs) ≡ some (r .body))
+    × ((r : Row) (rs : List Row) → (idOf (r .body) ≡ id → ⊥) → bodyWith id (r ∷ rs) ≡ bodyWith id rs)
+
+-- ---- a lookup
+
+-- a refusal's other numbers are 0
+abbrev pub refusal : ℕ → StoredNumbers
+refusal n = record { answer = n; «body_at» = 0; «body_len» = 0 }
+
+-- the answer is 0, and the numbers are the place and the length of the body b in s
+pub record FoundAt (s b : List ℕ) (n : StoredNumbers) : Type 0 where
+  pub answer : n .answer ≡ 0
+  pub bytes : part s (n .«body_at») (n .«body_len») ≡ b
+  pub len : n .«body_len» ≡ length b
+  pub inside : n .«body_at» + n .«body_len» ≤ length s
+
+-- 15: the id is not 16 bytes. 16: the buffer holds no list of rows. 7: no row has the id. Else 0, with the body of the row that has it.
+pub record LookupExactly : Type 0 where
+  pub bad-id : (s id : List ℕ) → (length id ≡ 16 → ⊥) → numbersOf (findOf s id) ≡ refusal 15
+  pub bad-image : (s id : List ℕ) → AreBytes s → length id ≡ 16 → ((rs : List Row) → Holds s rs → ⊥)
+      → numbersOf (findOf s id) ≡ refusal 16
+  pub not-held : (s id : List ℕ) (rs : List Row) → length id ≡ 16 → Holds s rs → bodyWith id rs ≡ none
+      → numbersOf (findOf s id) ≡ refusal 7
+  pub held : (s id : List ℕ) (rs : List Row) (b : List ℕ) → length id ≡ 16 → Holds s rs → bodyWith id rs ≡ some b
+      → FoundAt s b (numbersOf (findOf s id))
+
+-- an image is sound, which is that a lookup of an id of 16 bytes is not answered 16, exactly when the buffer holds a list of rows
+abbrev pub SoundExactly : Type 0
+SoundExactly = (s id : List ℕ) → AreBytes s → length id ≡ 16 → (numbersOf (findOf s id) .answer ≡ 16 → ⊥)
+    ↔ ((rs : List Row) × Holds s rs)
+
+-- an image whose image edition or mode edition is another than 1 is answered 16, whatever else it holds
+abbrev pub EditionsKnown : Type 0
+EditionsKnown = (s id : List ℕ) → length id ≡ 16 → (numberAt s 0 2 ≡ 1 → ⊥) ⊎ (numberAt s 2 2 ≡ 1 → ⊥)
+    → numbersOf (findOf s id) ≡ refusal 16
+
+-- the part that is handed back for a lookup has the place and the length of its numbers; for a refusal that is the empty part at the start
+abbrev pub BodyHanded : Type 0
+BodyHanded = (s id : List ℕ) → AreBytes s
+    → bodySpan s (findOf s id) ≡ spanOf (numbersOf (findOf s id) .«body_at») (numbersOf (findOf s id) .«body_len»)
+
+-- ---- a new image
+
+-- a new image writes 00 01 00 01 00 00 00 00 and no other byte, which is the image of no rows; a buffer under 8 bytes gives 17, and
+-- is left as it was
+abbrev pub NewImage : Type 0
+NewImage =
+    ((d : List ℕ) → 8 ≤ length d
+    → (numberOf (creationOf d) ≡ 0)
+    × (afterNew d ≡ 0x00 ∷ 0x01 ∷ 0x00 ∷ 0x01 ∷ 0x00 ∷ 0x00 ∷ 0x00 ∷ 0x00 ∷ drop 8 d)
+    × (afterNew d ≡ imageOf [] ++ drop 8 d))
+    × ((d : List ℕ) → length d < 8 → (numberOf (creationOf d) ≡ 17) × (afterNew d ≡ d))

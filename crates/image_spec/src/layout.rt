@@ -1,0 +1,43 @@
+// The sizes, limits, places and editions of a stored image, each named once.
+
+// What an edition of the image fixes: its number, the bytes of a row, and the most rows.
+pub struct Layout {
+    pub edition: u64,
+    pub row_size: usize,
+    pub most_rows: u64,
+}
+
+pub const EDITION1: Layout = Layout {
+    edition: 1,
+    row_size: 32,
+    most_rows: 64,
+};
+
+pub const MODE_EDITION: u64 = 1;
+
+pub const HEADER_SIZE: usize = 8;
+
+// The bytes of each of the four numbers of the header, and where they stand.
+pub const HEADER_WIDTH: usize = 2;
+
+pub const EDITION_PLACE: usize = 0;
+
+pub const MODES_PLACE: usize = 2;
+
+pub const COUNT_PLACE: usize = 4;
+
+pub const HEADER_ZERO: usize = 6;
+
+// The bytes of a body's offset and of its length, and of a mask.
+pub const BODY_WIDTH: usize = 4;
+
+pub const MASK_WIDTH: usize = 1;
+
+// Where the fields after the id stand in a row; zero goes up to the row's end.
+pub const OFFSET_PLACE: usize = 16;
+
+pub const LENGTH_PLACE: usize = 20;
+
+pub const MASK_PLACE: usize = 24;
+
+pub const ZERO_PLACE: usize = 25;

@@ -1,0 +1,50 @@
+// The stored image of document 01: a table of contents, then the bodies. What is promised is in specs/Promises.antt. No function: here are
+// the layout and the types of what is answered; `image` has the functions.
+pub mod layout;
+
+use descriptor_spec::Fields;
+
+// The body with an id: where it lies in the image, how long it is, and what was read of it; or there is none.
+pub enum Held {
+    Missing,
+    Body {
+        at: usize,
+        len: usize,
+        fields: Fields,
+    },
+}
+
+// What a check of an image answers: how many rows it has, where it ends, and the body that was looked for; or that it is not sound.
+pub enum ImageCheck {
+    Sound { rows: u64, end: usize, held: Held },
+    Unsound,
+}
+
+// What a lookup answers: the body's place and length; 15, the id is not 16 bytes; 16, the image is not sound; 7, the id is not held.
+pub enum Finding {
+    Found { at: usize, len: usize },
+    Malformed,
+    BadImage,
+    NotFound,
+}
+
+// A lookup in document 01's numbers, as include/cap.h has them: the answer, 0, 15, 16 or 7; and with 0 the place and the length of the
+// body.
+#[repr(C)]
+pub struct StoredNumbers {
+    pub answer: u64,
+    pub body_at: u64,
+    pub body_len: u64,
+}
+
+// What making a new image answers: 0 or 17.
+pub enum Creation {
+    Done,
+    TooShort,
+}
+
+// What adding a body answers: it was added, or there is no room for it.
+pub enum Added {
+    Done,
+    Full,
+}

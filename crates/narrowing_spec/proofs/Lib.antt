@@ -1,0 +1,12 @@
+pub mod LeastLaws
+pub mod CoveredLaws
+pub mod SearchLaws
+pub mod RuleLaws
+pub mod ReadLaws
+pub mod NumberLaws
+pub mod EscapeLaws
+pub mod NarrowLaws
+pub mod Promises
+pub mod Laws
+pub mod Cases
+pub mod OrderLaws

@@ -1,0 +1,13 @@
+pub mod ArgumentLaws
+pub mod ListedLaws
+pub mod HeldLaws
+pub mod GrantLaws
+pub mod MeaningLaws
+pub mod ServingLaws
+pub mod UnderLaws
+pub mod NumberLaws
+pub mod BoundaryLaws
+pub mod GivenLaws
+pub mod StoredLaws
+pub mod Promises
+pub mod Laws

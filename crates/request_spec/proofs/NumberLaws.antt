@@ -1,0 +1,158 @@
+-- The numbers that a request is answered, by what the image holds under the id (specs/Promises.antt): the order of the steps. Assumes
+-- nothing.
+use mathlib.Core.Path.{_≡_, refl, sym, ap, _∙_}
+use mathlib.Core.Bool.{Bool, true, false, false≢true}
+use mathlib.Core.List.{List, []}
+use Prim.Native.Nat.{ℕ, _+_}
+use native.Mathlib.Omega.{arith}
+use Rattle.octets.proofs.Tests.{and-left}
+use Rattle.resource.specs.Pattern.{Path}
+use Rattle.resource.specs.Text.{resourceOk, pathOf}
+use Rattle.descriptor_spec.specs.Model.{Grant, Descriptor}
+use Rattle.descriptor_spec.specs.Allowed.{Allowed}
+use Rattle.steps.specs.Order.{Step, orElse, inOrder}
+use Rattle.steps.specs.Key.{isVerdict, isThat, keyOpen}
+use Rattle.steps.specs.Laws.{mapped, passesBy}
+use Rattle.steps.proofs.Laws.{order-mapped, passed-end, same-end, passed-by, not-by}
+use Rattle.steps.proofs.Promises as order
+use Rattle.image_spec.specs.declared.ImageCheck.the-variants.{Unsound}
+use Rattle.image_spec.specs.Edition1.{checkOf}
+use Rattle.image_spec.proofs.Laws.{editions-checked}
+use Rattle.request_spec.specs.declared.Decision.{Decision}
+use Rattle.request_spec.specs.declared.Decision.the-variants as answers
+use Rattle.request_spec.specs.declared.DecisionNumbers.{DecisionNumbers}
+use Rattle.request_spec.specs.declared.Matched.{Matched}
+use Rattle.request_spec.specs.declared.Matched.the-variants.{IsAt, Nothing}
+use Rattle.request_spec.specs.Request.{Request, wellFormed}
+use Rattle.request_spec.specs.Decision.{Facts, revocationSteps, descriptorSteps, keySteps, laterSteps, stepsBy, grantedBy, factsIn}
+use Rattle.request_spec.specs.Decision.{decisionOf}
+use Rattle.request_spec.specs.Decision.{numbersOf}
+use Rattle.request_spec.specs.Meaning.{firstServing, factsOfDescriptor, decidedFor}
+use Rattle.request_spec.specs.Promises.{Stored, badImage, notHeld, held, Among, refusal, someServes, firstPlace, firstMask, stepsFor}
+use Rattle.request_spec.specs.Promises.{grantedFor, answerFor, DecidedExactly, GrantedExactly, RefusedExactly, RefusalsZero}
+use Rattle.request_spec.specs.Promises.{EditionsRefused}
+use Rattle.request_spec.proofs.HeldLaws.{decidedBy, decided-in, missingBy, decided-on-none}
+use Rattle.request_spec.proofs.MeaningLaws.{decided-on-descriptor}
+use Rattle.request_spec.proofs.UnderLaws.{held-found, none-found, unsound}
+use Rattle.request_spec.proofs.ServingLaws.{some-found, found-first}
+
+-- the answer's number
+abbrev pub answerOf : DecisionNumbers → ℕ
+answerOf n = n .answer
+
+-- ---- the numbers by what is held
+
+-- the numbers of a decision by the steps are those of the steps with their numbers
+by-numbers : (q : Request) (sound there : Bool) (x : Facts) (m : Matched)
+    → numbersOf (decidedBy q sound there x m) ≡ inOrder (mapped numbersOf (stepsBy q sound there x m)) (numbersOf (grantedBy q x m))
+by-numbers q sound there x m = order-mapped numbersOf (stepsBy q sound there x m) (grantedBy q x m)
+
+-- an image that a check calls unsound
+unsound-numbers : (s : List ℕ) (q : Request) → checkOf s (q .id) ≡ Unsound → numbersOf (decisionOf s q) ≡ answerFor q badImage
+unfolding inOrder orElse stepsBy laterSteps wellFormed isVerdict resourceOk
+unsound-numbers s q e = ap numbersOf (decided-in s q Unsound e) ∙ by-numbers q false false (factsIn s Unsound) Nothing
+
+-- a sound image that does not hold the id
+missing-numbers : (q : Request) → numbersOf (missingBy q) ≡ answerFor q notHeld
+unfolding inOrder orElse stepsBy laterSteps wellFormed isVerdict resourceOk
+missing-numbers q = by-numbers q true false (record { notBefore = 0; notAfter = 0; fay = []; terminal = [] }) Nothing
+
+-- what is granted on a descriptor, where some grant of it serves
+granted-numbers : (q : Request) (d : Descriptor) → Allowed d → someServes (d .payload .grants) (q .mode) (pathOf (q .resource)) ≡ true
+    → numbersOf (grantedBy q (factsOfDescriptor d) (firstServing (d .payload .grants) (q .mode) (pathOf (q .resource)) 0))
+    ≡ grantedFor q (held d)
+unfolding grantedBy
+granted-numbers q d a e =
+    let gs : List Grant = d .payload .grants in
+    let x : Path = pathOf (q .resource) in
+    let z : 0 + firstPlace gs (q .mode) x ≡ firstPlace gs (q .mode) x = omega arith in
+    ap (λ (m : Matched). numbersOf (grantedBy q (factsOfDescriptor d) m)) (found-first gs (q .mode) x 0 (a .formed .payload .grants) e)
+    ∙ ap (λ (i : ℕ). numbersOf (grantedBy q (factsOfDescriptor d) (IsAt i (firstMask gs (q .mode) x)))) z
+
+-- the steps on a descriptor that is held, with their numbers
+held-steps : (q : Request) (d : Descriptor)
+    → mapped numbersOf (stepsBy q true true (factsOfDescriptor d) (firstServing (d .payload .grants) (q .mode) (pathOf (q .resource)) 0))
+    ≡ stepsFor q (held d)
+unfolding stepsBy laterSteps revocationSteps descriptorSteps keySteps wellFormed isVerdict isThat keyOpen resourceOk
+held-steps q d = rw (some-found (d .payload .grants) (q .mode) (pathOf (q .resource)) 0)
+
+-- a descriptor that is held
+held-numbers : (q : Request) (d : Descriptor) → Allowed d → numbersOf (decidedFor q d) ≡ answerFor q (held d)
+unfolding decidedFor
+held-numbers q d a =
+    let m : Matched = firstServing (d .payload .grants) (q .mode) (pathOf (q .resource)) 0 in
+    let r : DecisionNumbers = numbersOf (grantedBy q (factsOfDescriptor d) m) in
+    by-numbers q true true (factsOfDescriptor d) m
+    ∙ ap (λ (steps : List (Step DecisionNumbers)). inOrder steps r) (held-steps q d)
+    ∙ same-end (stepsFor q (held d)) r (grantedFor q (held d))
+    (λ p. granted-numbers q d a (and-left _ true (passed-by answerOf 13 (stepsFor q (held d)) p)))
+
+-- `DecidedExactly`
+pub decided-exactly : DecidedExactly
+decided-exactly s q badImage u = unsound-numbers s q (unsound s (q .id) u)
+decided-exactly s q notHeld u = ap numbersOf (decided-on-none s q (u .0) (u .1) (none-found s (q .id) u)) ∙ missing-numbers q
+decided-exactly s q (held d) u =
+    let a : Among (u .0) (q .id) d = u .2 in
+    ap numbersOf (decided-on-descriptor s q (u .0) d (u .1) (a .bytes) (a .allowed) (held-found s (q .id) d u))
+    ∙ held-numbers q d (a .allowed)
+
+-- ---- the order of the steps
+
+-- no step has the number 0
+never-zero : (q : Request) (x : Stored) → passesBy answerOf 0 (stepsFor q x) ≡ true
+never-zero q badImage = refl
+never-zero q notHeld = refl
+never-zero q (held d) = refl
+
+-- what follows the steps has the number 0
+pub granted-zero : (q : Request) (x : Stored) → grantedFor q x .answer ≡ 0
+granted-zero q badImage = refl
+granted-zero q notHeld = refl
+granted-zero q (held d) = refl
+
+-- `GrantedExactly`
+pub granted-exactly : GrantedExactly
+granted-exactly s q x u =
+    let e = ap answerOf (decided-exactly s q x u) in (
+      λ z. not-by answerOf 0 (stepsFor q x) (grantedFor q x) (never-zero q x) (sym e ∙ z) .0,
+      λ a. e ∙ ap answerOf (passed-end (stepsFor q x) (grantedFor q x) a) ∙ granted-zero q x,
+    )
+
+-- the numbers of a decision other than 0 are a refusal's
+refused-zero : (x : Decision) → (numbersOf x .answer ≡ 0 → ⊥) → numbersOf x ≡ refusal (numbersOf x .answer)
+refused-zero (answers.Granted grant mask end) n = absurd (n refl)
+refused-zero answers.Malformed n = refl
+refused-zero answers.BadImage n = refl
+refused-zero answers.NotFound n = refl
+refused-zero answers.Revoked n = refl
+refused-zero answers.NotYetValid n = refl
+refused-zero answers.Expired n = refl
+refused-zero answers.SubjectMismatch n = refl
+refused-zero answers.TerminalMismatch n = refl
+refused-zero answers.Insufficient n = refl
+refused-zero answers.KeyInvalid n = refl
+refused-zero answers.BadSignature n = refl
+
+-- `RefusalsZero`
+pub refusals-zero : RefusalsZero
+refusals-zero s q n = refused-zero (decisionOf s q) n
+
+-- `RefusedExactly`
+pub refused-exactly : RefusedExactly
+refused-exactly s q x n u other =
+    let e = decided-exactly s q x u in
+    let k = order.fail-exactly DecisionNumbers (stepsFor q x) (grantedFor q x) (refusal n)
+    (λ f. other (ap answerOf f ∙ granted-zero q x)) in (
+      λ z. k .0 (sym e ∙ refusals-zero s q (λ f. other (sym z ∙ f)) ∙ ap refusal z),
+      λ f. ap answerOf (e ∙ k .1 f),
+    )
+
+-- `EditionsRefused`
+pub editions-refused : EditionsRefused
+unfolding inOrder orElse
+editions-refused s q other =
+    let e = unsound-numbers s q (editions-checked s (q .id) other) in (
+      λ z. false≢true (passed-by answerOf 16 (stepsFor q badImage)
+          (not-by answerOf 0 (stepsFor q badImage) (refusal 0) (never-zero q badImage) (sym (ap answerOf e) ∙ z) .0)),
+      λ f. e ∙ rw f,
+    )

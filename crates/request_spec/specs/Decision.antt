@@ -1,0 +1,162 @@
+-- The decision of a request, as the code takes it: the steps in document 01's order. These definitions compute. A reader of the
+-- promises does not need this page.
+use mathlib.Core.Bool.{Bool, true, false, not, cond, _&&_}
+use mathlib.Core.List.{List, [], _∷_, _++_}
+use Prim.Native.Nat.{ℕ, zero, suc, _+_, _-_, min}
+use lib.ListN.{take, drop}
+use lib.Dec.{leb, ltb, eqb}
+use Rattle.resource.specs.Identifier.{faySize, levelsPlace, terminalSize}
+use Rattle.octets.specs.Bytes.{part, same}
+use Rattle.exact.specs.Reads.{got, refused}
+use Rattle.resource.specs.Text.{levelsMatch}
+use Rattle.descriptor_spec.specs.declared.Fields.{Fields}
+use Rattle.descriptor_spec.specs.Reader.{hasMode, GrantSeen, grantAt}
+use Rattle.steps.specs.declared.Window.{Window}
+use Rattle.steps.specs.Order.{Step, step, inOrder}
+use Rattle.steps.specs.Key.{bad, noKey, isThat, keyOpen}
+use Rattle.image_spec.specs.declared.Held.the-variants.{Missing, Body}
+use Rattle.image_spec.specs.declared.ImageCheck.{ImageCheck}
+use Rattle.image_spec.specs.declared.ImageCheck.the-variants.{Sound, Unsound}
+use Rattle.image_spec.specs.Check.{isSound, isHeld}
+use Rattle.image_spec.specs.Edition1.{checkOf}
+use Rattle.request_spec.specs.declared.Decision.{Decision}
+use Rattle.request_spec.specs.declared.DecisionNumbers.{DecisionNumbers}
+use Rattle.request_spec.specs.declared.Decision.the-variants as answers
+use Rattle.request_spec.specs.declared.Matched.{Matched}
+use Rattle.request_spec.specs.declared.Matched.the-variants.{IsAt, Nothing}
+use Rattle.request_spec.specs.Request.{Request, wellFormed, isListed}
+
+-- ---- the steps
+
+-- what the steps look at in a descriptor: not_before, not_after, the subject's fay id and the terminal id
+pub record Facts : Type 0 where
+  pub notBefore : ℕ
+  pub notAfter : ℕ
+  pub fay : List ℕ
+  pub terminal : List ℕ
+
+-- a grant serves the request
+abbrev pub isMatched : Matched → Bool
+isMatched (IsAt grant mask) = true
+isMatched Nothing = false
+
+-- 8: the id is revoked
+unfoldable pub revocationSteps : Request → List (Step Decision)
+revocationSteps q = step (not (isListed (q .revoked) (q .id))) answers.Revoked ∷ []
+
+-- 9 to 13: the descriptor's period, its subject, its terminal, and a grant that serves
+unfoldable pub descriptorSteps : Facts → List ℕ → List ℕ → ℕ → Matched → List (Step Decision)
+descriptorSteps x fay terminal clock m =
+    step (leb (x .notBefore) clock) answers.NotYetValid
+    ∷ step (ltb clock (x .notAfter)) answers.Expired
+    ∷ step (same (x .fay) fay) answers.SubjectMismatch
+    ∷ step (same (x .terminal) terminal) answers.TerminalMismatch
+    ∷ step (isMatched m) answers.Insufficient
+    ∷ []
+
+-- 14 and 4: the key and the signature
+unfoldable pub keySteps : ℕ → Window → ℕ → List (Step Decision)
+keySteps verdict window clock =
+    step (not (isThat verdict noKey) && keyOpen window clock) answers.KeyInvalid
+    ∷ step (not (isThat verdict bad)) answers.BadSignature
+    ∷ []
+
+-- the steps on a descriptor that was found, by its facts and the first grant that serves
+unfoldable pub laterSteps : Request → Facts → Matched → List (Step Decision)
+laterSteps q x m =
+    revocationSteps q ++ (descriptorSteps x (q .fay) (q .terminal) (q .clock) m ++ keySteps (q .verdict) (q .window) (q .clock))
+
+-- all steps: the arguments, the image, that the id is held, and those
+unfoldable pub stepsBy : Request → Bool → Bool → Facts → Matched → List (Step Decision)
+stepsBy q sound held x m =
+    step (wellFormed q) answers.Malformed
+    ∷ step sound answers.BadImage
+    ∷ step held answers.NotFound
+    ∷ laterSteps q x m
+
+-- granted: the grant's place, its mask, and the session's end, the smaller of not_after and the clock and the session length together
+unfoldable pub grantedBy : Request → Facts → Matched → Decision
+grantedBy q x (IsAt grant mask) = answers.Granted grant mask (min (x .notAfter) (q .clock + q .session))
+grantedBy q x Nothing = answers.Insufficient
+
+-- ---- from the bytes of an image
+
+-- the facts of a body of which f was read
+abbrev pub factsOf : List ℕ → Fields → Facts
+factsOf b f = record {
+  notBefore = f .«not_before»;
+  notAfter = f .«not_after»;
+  fay = part b (f .fay) faySize;
+  terminal =
+      part b (f .terminal) terminalSize;
+}
+
+-- a grant that was seen in b serves: it has the mode, no constraint pair, and its levels match those of the resource
+unfoldable pub serves : List ℕ → List ℕ → ℕ → GrantSeen → Bool
+serves b r mode g = hasMode (g .mask) mode &&
+    (eqb (g .pairs) 0 && levelsMatch (part b (g .pattern .start + levelsPlace) (g .pattern .len - levelsPlace)) r)
+
+-- a grant with its place and mask, or what the next ones have
+abbrev pub orNext : Bool → ℕ → ℕ → Matched → Matched
+orNext true i mask rest = IsAt i mask
+orNext false i mask rest = rest
+
+-- the first of the n grants from a place of b on that serves, of which i came before
+unfoldable pub firstFrom : List ℕ → List ℕ → ℕ → ℕ → ℕ → ℕ → Matched
+firstFrom b r mode zero at i = Nothing
+firstFrom b r mode (suc n) at i =
+    elim (grantAt b at) [ got g next ↦ orNext (serves b r mode g) i (g .mask) (firstFrom b r mode n next (i + 1)) | refused ↦ Nothing ]
+
+-- the first grant of a body that serves; none where the resource is another terminal's
+unfoldable pub matchedOn : List ℕ → Fields → List ℕ → ℕ → Matched
+matchedOn b f resource mode =
+    cond (same (part b (f .terminal) terminalSize) (take terminalSize resource))
+    (firstFrom b (drop levelsPlace resource) mode (f .grants) (f .first) 0) Nothing
+
+-- the decision on a body of which f was read
+unfoldable pub decidedOn : Request → List ℕ → Fields → Decision
+decidedOn q b f =
+    let x = factsOf b f in
+    let m = matchedOn b f (q .resource) (q .mode) in
+    inOrder (laterSteps q x m) (grantedBy q x m)
+
+-- the facts of the body that was found
+abbrev pub factsIn : List ℕ → ImageCheck → Facts
+factsIn s (Sound n end (Body at len f)) = factsOf (part s at len) f
+factsIn s (Sound n end Missing) = record { notBefore = 0; notAfter = 0; fay = []; terminal = [] }
+factsIn s Unsound = record { notBefore = 0; notAfter = 0; fay = []; terminal = [] }
+
+-- its first grant that serves
+abbrev pub matchedIn : List ℕ → Request → ImageCheck → Matched
+matchedIn s q (Sound n end (Body at len f)) = matchedOn (part s at len) f (q .resource) (q .mode)
+matchedIn s q (Sound n end Missing) = Nothing
+matchedIn s q Unsound = Nothing
+
+-- the steps of a request to the image s
+unfoldable pub stepsOf : List ℕ → Request → List (Step Decision)
+stepsOf s q = let v = checkOf s (q .id) in stepsBy q (isSound v) (isHeld v) (factsIn s v) (matchedIn s q v)
+
+-- the decision: the first failing step's refusal, or granted
+unfoldable pub decisionOf : List ℕ → Request → Decision
+decisionOf s q = let v = checkOf s (q .id) in inOrder (stepsOf s q) (grantedBy q (factsIn s v) (matchedIn s q v))
+
+-- ---- document 01's numbers
+
+-- a refusal's other numbers are 0
+abbrev pub refusal : ℕ → DecisionNumbers
+refusal n = record { answer = n; grant = 0; mask = 0; «session_end» = 0 }
+
+-- the answer, and what is granted
+abbrev pub numbersOf : Decision → DecisionNumbers
+numbersOf (answers.Granted grant mask end) = record { answer = 0; grant = grant; mask = mask; «session_end» = end }
+numbersOf answers.Malformed = refusal 15
+numbersOf answers.BadImage = refusal 16
+numbersOf answers.NotFound = refusal 7
+numbersOf answers.Revoked = refusal 8
+numbersOf answers.NotYetValid = refusal 9
+numbersOf answers.Expired = refusal 10
+numbersOf answers.SubjectMismatch = refusal 11
+numbersOf answers.TerminalMismatch = refusal 12
+numbersOf answers.Insufficient = refusal 13
+numbersOf answers.KeyInvalid = refusal 14
+numbersOf answers.BadSignature = refusal 4

@@ -1,0 +1,5 @@
+pub mod Request
+pub mod Decision
+pub mod Meaning
+pub mod Promises
+pub mod Laws

@@ -1,0 +1,227 @@
+-- What is promised of requests, and nothing else. Each statement `NameOfIt` is proved in proofs/Promises.antt as `name-of-it`.
+use mathlib.Core.Path.{_≡_}
+use mathlib.Core.Logic.{_↔_, _⊎_}
+use mathlib.Core.Bool.{Bool, true, false, not, cond, _&&_, _||_}
+use mathlib.Core.List.{List, [], _∷_}
+use Prim.Native.Nat.{ℕ, _+_, _*_, _%_, _≤_, _<_, min}
+use lib.ListN.{length, getD}
+use lib.Dec.{leb, ltb, eqb}
+use Rattle.octets.specs.Bytes.{AreBytes, part, same}
+use Rattle.octets.specs.Number.{numberAt}
+use Rattle.resource.specs.Identifier.{isFay, isTerminal}
+use Rattle.resource.specs.Pattern.{Path, admits}
+use Rattle.resource.specs.Text.{isResource, pathOf, patternOf}
+use Rattle.entries.specs.Model.{pairCount}
+use Rattle.descriptor_spec.specs.Model.{Grant, Descriptor, encode}
+use Rattle.descriptor_spec.specs.Allowed.{isIn, Allowed}
+use Rattle.descriptor_spec.specs.Modes.{unionOf}
+use Rattle.steps.specs.declared.Window.{Window}
+use Rattle.steps.specs.Order.{Step, step, inOrder, AllPass, FirstFails}
+use Rattle.image_spec.specs.Image.{Row, rowOf}
+use Rattle.image_spec.specs.Edition1.{Holds}
+use Rattle.submission_spec.specs.Submission.{submitted, afterOf, numberOf}
+use Rattle.request_spec.specs.declared.DecisionNumbers.{DecisionNumbers}
+use Rattle.request_spec.specs.Request.{Request, requestOf, isListed}
+use Rattle.request_spec.specs.Decision.{decisionOf, numbersOf}
+
+-- ---- the arguments
+
+-- the arguments of the call, in its order
+abbrev pub ArgumentsInOrder : Type 0
+ArgumentsInOrder = (id fay terminal resource : List ℕ) (mode clock session : ℕ) (revoked : List ℕ) (verdict : ℕ) (window : Window)
+    → requestOf id fay terminal resource mode clock session revoked verdict window
+    ≡ record {
+      id = id;
+      fay = fay;
+      terminal = terminal;
+      resource = resource;
+      mode = mode;
+      clock = clock;
+      session = session;
+      revoked = revoked;
+      verdict = verdict;
+      window = window;
+    }
+
+-- an id is in the revocation list exactly when it is one of its parts of 16 bytes
+abbrev pub ListedExactly : Type 0
+ListedExactly = (revoked id : List ℕ) → (isListed revoked id ≡ true)
+    ↔ ((i : ℕ) × (16 * (i + 1) ≤ length revoked) × (part revoked (16 * i) 16 ≡ id))
+
+-- ---- what an image holds under an id
+
+-- the image is bad; it is sound and the id is not held; the id is held, with this descriptor
+pub data Stored : Type 0 where
+  badImage : Stored
+  notHeld : Stored
+  held : Descriptor → Stored
+
+-- the body of one of the rows is the encoding of the allowed descriptor d, and d has the id
+pub record Among (rs : List Row) (id : List ℕ) (d : Descriptor) : Type 0 where
+  pub allowed : Allowed d
+  pub bytes : AreBytes (encode d)
+  pub named : d .payload .id ≡ id
+  pub place : ℕ
+  pub inside : place < length rs
+  pub there : getD rs place (rowOf []) .body ≡ encode d
+
+-- what the bytes s hold under the id: they are the image of no list of rows; or of rows of which none has the id; or of rows of which
+-- that of d has it
+abbrev pub Under : List ℕ → List ℕ → Stored → Type 0
+Under s id badImage = AreBytes s × ((rs : List Row) → Holds s rs → ⊥)
+Under s id notHeld = (rs : List Row) × Holds s rs × AreBytes s × ((d : Descriptor) → Among rs id d → ⊥)
+Under s id (held d) = (rs : List Row) × Holds s rs × Among rs id d
+
+-- any bytes hold one of the three under any id
+abbrev pub AllStored : Type 0
+AllStored = (s id : List ℕ) → AreBytes s → (x : Stored) × Under s id x
+
+-- ---- the steps in document 01's order, with their numbers
+
+-- a refusal's other numbers are 0
+abbrev pub refusal : ℕ → DecisionNumbers
+refusal n = record { answer = n; grant = 0; mask = 0; «session_end» = 0 }
+
+-- the arguments are well formed: the verdict is not above 2, the mode not above 3, the id 16 bytes; the fay, terminal and resource ids
+-- are well formed, the last at most 256 bytes; the revocation list is a multiple of 16
+abbrev pub formed : Request → Bool
+formed q =
+    leb (q .verdict) 2
+    && (leb (q .mode) 3
+    && (eqb (length (q .id)) 16
+    && (isFay (q .fay)
+    && (isTerminal (q .terminal) && ((leb (length (q .resource)) 256 && isResource (q .resource)) && eqb (length (q .revoked) % 16) 0)))))
+
+-- a grant serves: it has the mode, a matching pattern and no constraint pair
+abbrev pub grantServes : Grant → ℕ → Path → Bool
+grantServes g m x = isIn m (g .modes) && (admits (patternOf (g .pattern)) x && eqb (pairCount (g .constraints)) 0)
+
+-- some grant serves
+abbrev pub someServes : List Grant → ℕ → Path → Bool
+someServes [] m x = false
+someServes (g ∷ gs) m x = grantServes g m x || someServes gs m x
+
+-- the key is valid: not before valid_from and, where there is a valid_until, not after it
+abbrev pub keyValid : Window → ℕ → Bool
+keyValid window clock = leb (window .from) clock && (not (window .bounded) || leb clock (window .until))
+
+-- the steps, by what the image holds under the id
+abbrev pub stepsFor : Request → Stored → List (Step DecisionNumbers)
+stepsFor q badImage = step (formed q) (refusal 15) ∷ step false (refusal 16) ∷ []
+stepsFor q notHeld = step (formed q) (refusal 15) ∷ step true (refusal 16) ∷ step false (refusal 7) ∷ []
+stepsFor q (held d) =
+    step (formed q) (refusal 15)
+    ∷ step true (refusal 16)
+    ∷ step true (refusal 7)
+    ∷ step (not (isListed (q .revoked) (q .id))) (refusal 8)
+    ∷ step (leb (d .payload .notBefore) (q .clock)) (refusal 9)
+    ∷ step (ltb (q .clock) (d .payload .notAfter)) (refusal 10)
+    ∷ step (same (d .payload .fay) (q .fay)) (refusal 11)
+    ∷ step (same (d .payload .terminal) (q .terminal)) (refusal 12)
+    ∷ step (someServes (d .payload .grants) (q .mode) (pathOf (q .resource))) (refusal 13)
+    ∷ step (not (eqb (q .verdict) 2) && keyValid (q .window) (q .clock)) (refusal 14)
+    ∷ step (not (eqb (q .verdict) 1)) (refusal 4)
+    ∷ []
+
+-- the place of the first grant that serves, counted from 0
+abbrev pub firstPlace : List Grant → ℕ → Path → ℕ
+firstPlace [] m x = 0
+firstPlace (g ∷ gs) m x = cond (grantServes g m x) 0 (firstPlace gs m x + 1)
+
+-- its mask
+abbrev pub firstMask : List Grant → ℕ → Path → ℕ
+firstMask [] m x = 0
+firstMask (g ∷ gs) m x = cond (grantServes g m x) (unionOf (g ∷ [])) (firstMask gs m x)
+
+-- granted: that grant's place, its mask, and the session's end, the smaller of not_after and now + the host's session length; where the
+-- id is not held a step fails, and nothing is granted
+abbrev pub grantedFor : Request → Stored → DecisionNumbers
+grantedFor q badImage = refusal 0
+grantedFor q notHeld = refusal 0
+grantedFor q (held d) =
+    record {
+      answer = 0;
+      grant = firstPlace (d .payload .grants) (q .mode) (pathOf (q .resource));
+      mask = firstMask (d .payload .grants) (q .mode) (pathOf (q .resource));
+      «session_end» = min (d .payload .notAfter) (q .clock + q .session);
+    }
+
+-- the numbers that a request is answered, by what the image holds under the id
+abbrev pub answerFor : Request → Stored → DecisionNumbers
+answerFor q x = inOrder (stepsFor q x) (grantedFor q x)
+
+-- ---- the order of the steps
+
+-- a request is answered the refusal of the first step that fails, or granted, by what the image holds under the id
+abbrev pub DecidedExactly : Type 0
+DecidedExactly = (s : List ℕ) (q : Request) (x : Stored) → Under s (q .id) x → numbersOf (decisionOf s q) ≡ answerFor q x
+
+-- the answer is 0 exactly when every step passes
+abbrev pub GrantedExactly : Type 0
+GrantedExactly = (s : List ℕ) (q : Request) (x : Stored) → Under s (q .id) x → (numbersOf (decisionOf s q) .answer ≡ 0)
+    ↔ AllPass (stepsFor q x)
+
+-- and another answer exactly when it is that of the first step that fails
+abbrev pub RefusedExactly : Type 0
+RefusedExactly = (s : List ℕ) (q : Request) (x : Stored) (n : ℕ) → Under s (q .id) x → (n ≡ 0 → ⊥)
+    → (numbersOf (decisionOf s q) .answer ≡ n) ↔ FirstFails (stepsFor q x) (refusal n)
+
+-- whatever the image is, a refusal's other numbers are 0
+abbrev pub RefusalsZero : Type 0
+RefusalsZero = (s : List ℕ) (q : Request) → (numbersOf (decisionOf s q) .answer ≡ 0 → ⊥)
+    → numbersOf (decisionOf s q) ≡ refusal (numbersOf (decisionOf s q) .answer)
+
+-- an image whose image edition or mode edition is another than 1 grants nothing; it is answered 16, where the arguments are well formed
+abbrev pub EditionsRefused : Type 0
+EditionsRefused = (s : List ℕ) (q : Request) → (numberAt s 0 2 ≡ 1 → ⊥) ⊎ (numberAt s 2 2 ≡ 1 → ⊥)
+    → (numbersOf (decisionOf s q) .answer ≡ 0 → ⊥) × (formed q ≡ true → numbersOf (decisionOf s q) ≡ refusal 16)
+
+-- ---- what is granted
+
+-- the grant g of d at the place i serves the request, and none before it does
+pub record FirstServes (q : Request) (d : Descriptor) (i : ℕ) (g : Grant) : Type 0 where
+  pub place : i < length (d .payload .grants)
+  pub there : getD (d .payload .grants) i g ≡ g
+  pub serves : grantServes g (q .mode) (pathOf (q .resource)) ≡ true
+  pub first : (j : ℕ) (h : Grant) → j < i → getD (d .payload .grants) j h ≡ h → grantServes h (q .mode) (pathOf (q .resource)) ≡ false
+
+-- where the answer is 0 a descriptor is held under the id, and the numbers are the place of its first grant that serves, that grant's
+-- mask, and the smaller of not_after and now + the host's session length
+abbrev pub GrantedGives : Type 0
+GrantedGives = (s : List ℕ) (q : Request) → AreBytes s → numbersOf (decisionOf s q) .answer ≡ 0
+    → (d : Descriptor) × Under s (q .id) (held d)
+    × ((g : Grant) × FirstServes q d (numbersOf (decisionOf s q) .grant) g × (numbersOf (decisionOf s q) .mask ≡ unionOf (g ∷ [])))
+    × (numbersOf (decisionOf s q) .«session_end» ≡ min (d .payload .notAfter) (q .clock + q .session))
+
+-- ---- both sides of not_before and not_after
+
+-- now = not_before is answered neither 9 nor 10; one second before it 9 is answered, where the steps before pass
+abbrev pub BeginBoundary : Type 0
+BeginBoundary = (s : List ℕ) (q : Request) (d : Descriptor) → Under s (q .id) (held d)
+    → (q .clock ≡ d .payload .notBefore → (numbersOf (decisionOf s q) .answer ≡ 9 → ⊥) × (numbersOf (decisionOf s q) .answer ≡ 10 → ⊥))
+    × (q .clock + 1 ≡ d .payload .notBefore → formed q ≡ true → isListed (q .revoked) (q .id) ≡ false
+    → numbersOf (decisionOf s q) ≡ refusal 9)
+
+-- one second before not_after is answered neither 9 nor 10; now = not_after is answered 10, where the steps before pass
+abbrev pub EndBoundary : Type 0
+EndBoundary = (s : List ℕ) (q : Request) (d : Descriptor) → Under s (q .id) (held d)
+    → (q .clock + 1 ≡ d .payload .notAfter → (numbersOf (decisionOf s q) .answer ≡ 9 → ⊥) × (numbersOf (decisionOf s q) .answer ≡ 10 → ⊥))
+    × (q .clock ≡ d .payload .notAfter → formed q ≡ true → isListed (q .revoked) (q .id) ≡ false → numbersOf (decisionOf s q) ≡ refusal 10)
+
+-- ---- with submission
+
+-- what was submitted with the answer 0 is an allowed descriptor's encoding, and after it a request for its id is decided on that very
+-- descriptor
+abbrev pub StoredDecided : Type 0
+StoredDecided = (d b : List ℕ) (clock verdict : ℕ) (window : Window) → AreBytes d → AreBytes b
+    → numberOf (submitted d b clock verdict window) ≡ 0
+    → (c : Descriptor) × Allowed c × (b ≡ encode c)
+    × ((q : Request) → q .id ≡ c .payload .id
+    → Under (afterOf d b clock verdict window) (q .id) (held c)
+    × (numbersOf (decisionOf (afterOf d b clock verdict window) q) ≡ answerFor q (held c)))
+
+-- after a submission, whatever it answered, a request for an id that what was submitted does not have is answered as before it
+abbrev pub OthersDecided : Type 0
+OthersDecided = (d b : List ℕ) (clock verdict : ℕ) (window : Window) (q : Request) → AreBytes d → AreBytes b
+    → ((c : Descriptor) → Allowed c → b ≡ encode c → q .id ≡ c .payload .id → ⊥)
+    → numbersOf (decisionOf (afterOf d b clock verdict window) q) ≡ numbersOf (decisionOf d q)

@@ -1,0 +1,48 @@
+-- The promises of specs/Promises.antt, each from its law. Assumes nothing.
+use Rattle.submission_spec.specs.Promises.{AlwaysMeets, SubmittedExactly, DoneExactly, RefusedExactly, EditionsRefused, RefusalKeeps}
+use Rattle.submission_spec.specs.Promises.{RepeatKeeps, LastSteps, StoredFound, OthersFound, LeadBoundary, RowBoundary}
+use Rattle.submission_spec.proofs.NumberLaws as number
+use Rattle.submission_spec.proofs.StoredLaws as stored
+use Rattle.submission_spec.proofs.LastLaws as last
+
+pub always-meets : AlwaysMeets
+always-meets = number.always-meets
+
+-- ---- the steps in order
+
+pub submitted-exactly : SubmittedExactly
+submitted-exactly = number.submitted-exactly
+
+pub done-exactly : DoneExactly
+done-exactly = number.done-exactly
+
+pub refused-exactly : RefusedExactly
+refused-exactly = number.refused-exactly
+
+pub editions-refused : EditionsRefused
+editions-refused = stored.editions-refused
+
+-- ---- the buffer after
+
+pub refusal-keeps : RefusalKeeps
+refusal-keeps = stored.refusal-keeps
+
+pub repeat-keeps : RepeatKeeps
+repeat-keeps = stored.repeat-keeps
+
+pub last-steps : LastSteps
+last-steps = last.last-steps
+
+pub stored-found : StoredFound
+stored-found = last.stored-found
+
+pub others-found : OthersFound
+others-found = last.others-found
+
+-- ---- both sides of a line
+
+pub lead-boundary : LeadBoundary
+lead-boundary = last.lead-boundary
+
+pub row-boundary : RowBoundary
+row-boundary = last.row-boundary

@@ -1,0 +1,3 @@
+pub mod Submission
+pub mod Promises
+pub mod Laws

@@ -1,0 +1,205 @@
+-- What is promised of submission, and nothing else. Each statement `NameOfIt` is proved in proofs/Promises.antt as `name-of-it`.
+-- Document 01, "Submission, in this order".
+use mathlib.Core.Path.{_≡_}
+use mathlib.Core.Logic.{_↔_, _⊎_}
+use mathlib.Core.Bool.{Bool, true, false, not, _&&_, _||_}
+use mathlib.Core.List.{List, [], _∷_, _++_}
+use mathlib.Core.Option.{Option, none, some}
+use Prim.Native.Nat.{ℕ, _+_, _≤_, _<_}
+use lib.ListN.{length, drop}
+use lib.Dec.{leb, ltb, eqb}
+use Rattle.octets.specs.Bytes.{AreBytes, part, same}
+use Rattle.octets.specs.Number.{numberAt}
+use Rattle.descriptor_spec.specs.Model.{Descriptor, encode}
+use Rattle.descriptor_spec.specs.Allowed.{Allowed}
+use Rattle.steps.specs.declared.Window.{Window}
+use Rattle.steps.specs.Order.{Step, step, inOrder, AllPass, FirstFails}
+use Rattle.image_spec.specs.Image.{Row, rowOf, idOf, bodyWith}
+use Rattle.image_spec.specs.Check.{numbersOf}
+use Rattle.image_spec.specs.Edition1.{imageOf, Holds, findOf}
+use Rattle.image_spec.specs.Promises.{answerOf, FoundAt}
+use Rattle.submission_spec.specs.Submission.{submitted, afterOf, numberOf}
+
+-- ---- what is submitted to what
+
+-- what a buffer holds: no list of rows, or these rows
+pub data Stored : Type 0 where
+  badImage : Stored
+  rows : List Row → Stored
+
+-- what is submitted: bytes that reading answers with 1, or with 2, or the encoding of an allowed descriptor
+pub data Body : Type 0 where
+  structure : Body
+  validity : Body
+  descriptor : Descriptor → Body
+
+-- the buffer d holds that
+abbrev pub IsStored : List ℕ → Stored → Type 0
+IsStored d badImage = (rs : List Row) → Holds d rs → ⊥
+IsStored d (rows rs) = Holds d rs
+
+-- the bytes b are that
+abbrev pub IsBody : List ℕ → Body → Type 0
+IsBody b structure = answerOf b ≡ 1
+IsBody b validity = answerOf b ≡ 2
+IsBody b (descriptor c) = Allowed c × (b ≡ encode c)
+
+-- the bytes d and b are a buffer that holds s, and x
+pub record Meets (d b : List ℕ) (s : Stored) (x : Body) : Type 0 where
+  pub buffer-bytes : AreBytes d
+  pub body-bytes : AreBytes b
+  pub stored : IsStored d s
+  pub body : IsBody b x
+
+-- every buffer and every body are one of these
+abbrev pub AlwaysMeets : Type 0
+AlwaysMeets = (d b : List ℕ) → AreBytes d → AreBytes b → (s : Stored) × (x : Body) × Meets d b s x
+
+-- ---- the steps in order
+
+-- the body that is held under an id, if any, is these bytes
+abbrev pub isSame : Option (List ℕ) → List ℕ → Bool
+isSame none b = true
+isSame (some c) b = same c b
+
+-- a body is held under an id
+abbrev pub isHeld : Option (List ℕ) → Bool
+isHeld none = false
+isHeld (some c) = true
+
+-- The steps of a submission to a buffer of `room` bytes, each with its number. 15: host verdict above 2. 16. Then 1 or 2 from reading;
+-- 2 if not_before > now + 86,400. 3: verdict 2. 14: now < valid_from, or there is a valid_until and now > valid_until. 4: verdict 1.
+-- Then, if the id is held, other bytes 5. 6 exactly when it is not, and 64 rows are held or the larger image exceeds the buffer.
+abbrev pub stepsFor : Stored → Body → ℕ → ℕ → ℕ → Window → List (Step ℕ)
+stepsFor badImage x room clock verdict window =
+    step (leb verdict 2) 15
+    ∷ step false 16
+    ∷ []
+stepsFor (rows rs) structure room clock verdict window =
+    step (leb verdict 2) 15
+    ∷ step true 16
+    ∷ step false 1
+    ∷ []
+stepsFor (rows rs) validity room clock verdict window =
+    step (leb verdict 2) 15
+    ∷ step true 16
+    ∷ step true 1
+    ∷ step false 2
+    ∷ []
+stepsFor (rows rs) (descriptor c) room clock verdict window =
+    step (leb verdict 2) 15
+    ∷ step true 16
+    ∷ step true 1
+    ∷ step true 2
+    ∷ step (leb (c .payload .notBefore) (clock + 86400)) 2
+    ∷ step (not (eqb verdict 2)) 3
+    ∷ step (leb (window .from) clock && (not (window .bounded) || leb clock (window .until))) 14
+    ∷ step (not (eqb verdict 1)) 4
+    ∷ step (isSame (bodyWith (c .payload .id) rs) (encode c)) 5
+    ∷ step (isHeld (bodyWith (c .payload .id) rs) || (ltb (length rs) 64 && leb (length (imageOf (rs ++ (rowOf (encode c) ∷ [])))) room)) 6
+    ∷ []
+
+-- the number that is answered is that of the first step that fails, or 0
+abbrev pub SubmittedExactly : Type 0
+SubmittedExactly = (d b : List ℕ) (clock verdict : ℕ) (window : Window) (s : Stored) (x : Body) → Meets d b s x
+    → numberOf (submitted d b clock verdict window) ≡ inOrder (stepsFor s x (length d) clock verdict window) 0
+
+-- it is 0 exactly when every step passes
+abbrev pub DoneExactly : Type 0
+DoneExactly = (d b : List ℕ) (clock verdict : ℕ) (window : Window) (s : Stored) (x : Body) → Meets d b s x
+    → (numberOf (submitted d b clock verdict window) ≡ 0) ↔ AllPass (stepsFor s x (length d) clock verdict window)
+
+-- and another exactly when that is the number of the first step that fails
+abbrev pub RefusedExactly : Type 0
+RefusedExactly = (d b : List ℕ) (clock verdict : ℕ) (window : Window) (s : Stored) (x : Body) → Meets d b s x → (n : ℕ) → (n ≡ 0 → ⊥)
+    → (numberOf (submitted d b clock verdict window) ≡ n) ↔ FirstFails (stepsFor s x (length d) clock verdict window) n
+
+-- an image whose image edition or mode edition is another than 1 is answered 16, and left as it was
+abbrev pub EditionsRefused : Type 0
+EditionsRefused = (d b : List ℕ) (clock verdict : ℕ) (window : Window) → verdict ≤ 2 → (numberAt d 0 2 ≡ 1 → ⊥) ⊎ (numberAt d 2 2 ≡ 1 → ⊥)
+    → (numberOf (submitted d b clock verdict window) ≡ 16) × (afterOf d b clock verdict window ≡ d)
+
+-- ---- the buffer after
+
+-- a refusal leaves every byte as it was
+abbrev pub RefusalKeeps : Type 0
+RefusalKeeps = (d b : List ℕ) (clock verdict : ℕ) (window : Window) → (numberOf (submitted d b clock verdict window) ≡ 0 → ⊥)
+    → afterOf d b clock verdict window ≡ d
+
+-- so does a repeat: a body is held under the id
+abbrev pub RepeatKeeps : Type 0
+RepeatKeeps = (d b : List ℕ) (clock verdict : ℕ) (window : Window) (rs : List Row) (c : List ℕ) → Holds d rs
+    → bodyWith (idOf b) rs ≡ some c
+    → afterOf d b clock verdict window ≡ d
+
+-- the number that is answered, and the buffer after it
+abbrev pub Gives : List ℕ → List ℕ → ℕ → ℕ → Window → ℕ → List ℕ → Type 0
+Gives d b clock verdict window n after = (numberOf (submitted d b clock verdict window) ≡ n) × (afterOf d b clock verdict window ≡ after)
+
+-- the rows with that of the descriptor c added last
+abbrev pub larger : List Row → Descriptor → List Row
+larger rs c = rs ++ (rowOf (encode c) ∷ [])
+
+-- the buffer d holds the rows, c is allowed, and the clock is in the key's window
+pub record Ready (d : List ℕ) (rs : List Row) (c : Descriptor) (clock : ℕ) (window : Window) : Type 0 where
+  pub holds : Holds d rs
+  pub allowed : Allowed c
+  pub bytes : AreBytes (encode c)
+  pub opened : window .from ≤ clock
+  pub lasts : window .bounded ≡ true → clock ≤ window .until
+
+-- where the signature is good and the steps before pass: if the id is held, the same bytes give 0 and no change, other bytes 5; 6 if 64
+-- rows are held or the larger image exceeds the buffer; else the row and body are added last, and bytes beyond the new end stay
+pub record LastSteps : Type 0 where
+  pub same-held : (d : List ℕ) (rs : List Row) (c : Descriptor) (clock : ℕ) (window : Window)
+      → Ready d rs c clock window → c .payload .notBefore ≤ clock + 86400
+      → bodyWith (c .payload .id) rs ≡ some (encode c)
+      → Gives d (encode c) clock 0 window 0 d
+  pub other-held : (d : List ℕ) (rs : List Row) (c : Descriptor) (clock : ℕ) (window : Window)
+      → Ready d rs c clock window → c .payload .notBefore ≤ clock + 86400
+      → (b : List ℕ) → bodyWith (c .payload .id) rs ≡ some b → (b ≡ encode c → ⊥)
+      → Gives d (encode c) clock 0 window 5 d
+  pub no-room : (d : List ℕ) (rs : List Row) (c : Descriptor) (clock : ℕ) (window : Window)
+      → Ready d rs c clock window → c .payload .notBefore ≤ clock + 86400
+      → bodyWith (c .payload .id) rs ≡ none → (length rs ≡ 64) ⊎ (length d < length (imageOf (larger rs c)))
+      → Gives d (encode c) clock 0 window 6 d
+  pub stores : (d : List ℕ) (rs : List Row) (c : Descriptor) (clock : ℕ) (window : Window)
+      → Ready d rs c clock window → c .payload .notBefore ≤ clock + 86400
+      → bodyWith (c .payload .id) rs ≡ none → length rs < 64 → length (imageOf (larger rs c)) ≤ length d
+      → Gives d (encode c) clock 0 window 0 (imageOf (larger rs c) ++ drop (length (imageOf (larger rs c))) d)
+      × Holds (afterOf d (encode c) clock 0 window) (larger rs c)
+
+-- what was stored is what a lookup then finds
+abbrev pub StoredFound : Type 0
+StoredFound = (d b : List ℕ) (clock verdict : ℕ) (window : Window) (rs : List Row) → Holds d rs
+    → numberOf (submitted d b clock verdict window) ≡ 0
+    → let after = afterOf d b clock verdict window in
+    FoundAt after b (numbersOf (findOf after (idOf b)))
+
+-- and every other id is answered what it was answered before, with the same bytes
+abbrev pub OthersFound : Type 0
+OthersFound = (d b : List ℕ) (clock verdict : ℕ) (window : Window) (rs : List Row) (id : List ℕ) → Holds d rs → length id ≡ 16
+    → (idOf b ≡ id → ⊥)
+    → let after = afterOf d b clock verdict window in
+    let n = numbersOf (findOf after id) in
+    let m = numbersOf (findOf d id) in
+    (n .answer ≡ m .answer) × (part after (n .«body_at») (n .«body_len») ≡ part d (m .«body_at») (m .«body_len»))
+
+-- ---- both sides of a line
+
+-- not_before = now + 86,400 is stored; one more gives 2
+abbrev pub LeadBoundary : Type 0
+LeadBoundary = (d : List ℕ) (rs : List Row) (c : Descriptor) (clock : ℕ) (window : Window) → Ready d rs c clock window
+    → bodyWith (c .payload .id) rs ≡ none → length rs < 64 → length (imageOf (larger rs c)) ≤ length d
+    → (c .payload .notBefore ≡ clock + 86400
+    → (numberOf (submitted d (encode c) clock 0 window) ≡ 0) × Holds (afterOf d (encode c) clock 0 window) (larger rs c))
+    × (c .payload .notBefore ≡ clock + 86401 → Gives d (encode c) clock 0 window 2 d)
+
+-- the 64th row is stored; the 65th gives 6
+abbrev pub RowBoundary : Type 0
+RowBoundary = (d : List ℕ) (rs : List Row) (c : Descriptor) (clock : ℕ) (window : Window) → Ready d rs c clock window
+    → c .payload .notBefore ≤ clock + 86400 → bodyWith (c .payload .id) rs ≡ none → length (imageOf (larger rs c)) ≤ length d
+    → (length rs ≡ 63
+    → (numberOf (submitted d (encode c) clock 0 window) ≡ 0) × Holds (afterOf d (encode c) clock 0 window) (larger rs c)
+    × (length (larger rs c) ≡ 64))
+    × (length rs ≡ 64 → Gives d (encode c) clock 0 window 6 d)

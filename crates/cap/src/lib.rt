@@ -12,7 +12,7 @@ use request::Environment;
 use resource::MatchingNumbers;
 ghost use mathlib.Core.Path.{_≡_};
 ghost use Rattle.octets.specs.Bytes.{AreBytes};
-ghost use Rattle.cbor_item.specs.Item as items;
+ghost use Rattle.cbor_item_spec.specs.Item as items;
 ghost use Rattle.resource.specs.Text as texts;
 ghost use Rattle.descriptor_spec.specs.Reader.{readOf};
 ghost use Rattle.descriptor_spec.specs.Code.{readingOf};

@@ -18,7 +18,7 @@ use resource::MatchingNumbers;
 use steps::Window;
 use submission::Submission;
 ghost use mathlib.Core.Path.{_≡_};
-ghost use Rattle.cbor_item.specs.Item as items;
+ghost use Rattle.cbor_item_spec.specs.Item as items;
 ghost use Rattle.resource.specs.Text as texts;
 ghost use Rattle.descriptor_spec.specs.Code.{grantRead};
 ghost use Rattle.descriptor_spec.specs.Numbers as descriptors;

@@ -10,9 +10,9 @@ use Prim.Native.String.{String}
 use lib.ListN.{length, take, getD}
 use lib.Dec.{eqb}
 use Rattle.octets.specs.Bytes.{AreBytes, part, Has}
-use Rattle.cbor_item.specs.Encoding.{head}
+use Rattle.cbor_item_spec.specs.Encoding.{head}
 use Rattle.exact.specs.Reads.{encAll, OptOk}
-use Rattle.cbor_item.specs.Unicode.{Utf8}
+use Rattle.cbor_item_spec.specs.Unicode.{Utf8}
 use Rattle.resource.specs.Characters.{codes}
 use Rattle.resource.specs.Identifier.{isFay, isTerminal}
 use Rattle.resource.specs.Text.{isPattern}

@@ -7,7 +7,7 @@ use lib.ListN.{length, take}
 use lib.Bits.{bitOr}
 use Rattle.octets.specs.Span.{spanOf}
 use Rattle.exact.specs.Reads.{encOpt, encAll}
-use Rattle.cbor_item.specs.Encoding.{head}
+use Rattle.cbor_item_spec.specs.Encoding.{head}
 use Rattle.entries.specs.declared.value.Kind.the-variants.{Text}
 use Rattle.entries.specs.Keys.{kGrants, kMetadata, kIssuedAt, kIssuerId, kNotAfter, kGrantorId, kNotBefore, kTerminalId, kDescriptorId}
 use Rattle.entries.specs.Keys.{kSubjectFayId, kModes, kConstraints, kResourcePattern}

@@ -10,7 +10,7 @@ use Rattle.octets.specs.Bytes.{AreBytes, Has, hasAt}
 use Rattle.exact.specs.Reads.{Got, got, refused, Reads, bind, optAt, encOpt, OptOk, viewOpt}
 use Rattle.exact.proofs.ReadsLaws.{mapped}
 use Rattle.exact.proofs.OptionalLaws.{optional}
-use Rattle.cbor_item.specs.Head.{encodeString}
+use Rattle.cbor_item_spec.specs.Head.{encodeString}
 use Rattle.entries.specs.declared.value.Kind.{Kind}
 use Rattle.entries.specs.declared.value.Optional.{Optional}
 use Rattle.entries.specs.Model.{Pair, pairCount, size, encPairs}

@@ -14,7 +14,7 @@ use Rattle.octets.proofs.TruthLaws.{T-true}
 use Rattle.exact.specs.Reads.{Reads, encAll}
 use Rattle.exact.proofs.ReadsLaws.{recast, seq, mapped, checked}
 use Rattle.exact.proofs.CountedLaws.{counted}
-use Rattle.cbor_item.specs.Encoding.{head}
+use Rattle.cbor_item_spec.specs.Encoding.{head}
 use Rattle.entries.specs.declared.value.Kind.the-variants.{Text}
 use Rattle.entries.specs.Model.{Pair, encText, encPair, encPairs}
 use Rattle.entries.specs.Allowed.{PairOk, keyOf, PairsOk}

@@ -14,8 +14,8 @@ use Rattle.octets.proofs.TruthLaws.{T-true}
 use Rattle.exact.specs.Reads.{Got, got}
 use Rattle.exact.specs.Holds.{Holds}
 use Rattle.exact.proofs.HoldsLaws.{held, holds-map, holds-bind, holds-guard, holds-many}
-use Rattle.cbor_item.specs.Laws.{HeadTo, SpanTo}
-use Rattle.cbor_item.proofs.Laws.{heads-end, spans-end}
+use Rattle.cbor_item_spec.specs.Laws.{HeadTo, SpanTo}
+use Rattle.cbor_item_spec.proofs.Laws.{heads-end, spans-end}
 use Rattle.entries.specs.declared.value.Kind.{Kind}
 use Rattle.entries.specs.declared.value.Kind.the-variants.{Text}
 use Rattle.entries.specs.declared.value.Optional.{Optional}

@@ -14,9 +14,9 @@ use Rattle.octets.proofs.TruthLaws.{T-true, T-false}
 use Rattle.exact.specs.Reads.{Got, got, refused, guard}
 use Rattle.exact.proofs.HoldsLaws.{held}
 use Rattle.exact.proofs.ReadsLaws.{took, passed, failed}
-use Rattle.cbor_item.specs.Head.{spanAt}
-use Rattle.cbor_item.specs.Laws.{SpanTo}
-use Rattle.cbor_item.proofs.Laws.{spans-end}
+use Rattle.cbor_item_spec.specs.Head.{spanAt}
+use Rattle.cbor_item_spec.specs.Laws.{SpanTo}
+use Rattle.cbor_item_spec.proofs.Laws.{spans-end}
 use Rattle.entries.specs.declared.value.Optional.{Optional}
 use Rattle.entries.specs.Value.{stringAt, oneOf, absent, orAbsent}
 

@@ -13,10 +13,10 @@ use Rattle.octets.proofs.BytesLaws.{has-right, has-part, has-clash, hasAt-yes, 
 use Rattle.octets.proofs.TruthLaws.{T-true, eqb-test, leb-test, and-test}
 use Rattle.exact.specs.Reads.{got, Reads, found, lacks}
 use Rattle.exact.proofs.ReadsLaws.{recast, refine}
-use Rattle.cbor_item.specs.Encoding.{head}
-use Rattle.cbor_item.specs.Utf8.{isUtf8}
-use Rattle.cbor_item.specs.Head.{headOf, encodeString}
-use Rattle.cbor_item.proofs.Promises.{heads-exact, spans-exact, utf8-exact}
+use Rattle.cbor_item_spec.specs.Encoding.{head}
+use Rattle.cbor_item_spec.specs.Utf8.{isUtf8}
+use Rattle.cbor_item_spec.specs.Head.{headOf, encodeString}
+use Rattle.cbor_item_spec.proofs.Promises.{heads-exact, spans-exact, utf8-exact}
 use Rattle.resource.specs.Identifier.{isFay, isTerminal}
 use Rattle.resource.specs.Text.{patternOk}
 use Rattle.resource.proofs.Laws.{terminal-length, fay-length, pattern-short}

@@ -7,7 +7,7 @@ use mathlib.Core.Logic.{_⊎_}
 use Prim.Native.Nat.{ℕ, _^_, _≤_, _<_}
 use lib.ListN.{length}
 use Rattle.octets.specs.Order.{before}
-use Rattle.cbor_item.specs.Unicode.{Utf8}
+use Rattle.cbor_item_spec.specs.Unicode.{Utf8}
 use Rattle.exact.specs.Reads.{AllFrom}
 use Rattle.resource.specs.Identifier.{isFay, isTerminal}
 use Rattle.resource.specs.Text.{patternOk}

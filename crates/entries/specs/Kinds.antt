@@ -5,7 +5,7 @@ use mathlib.Core.List.{List}
 use Prim.Native.Nat.{ℕ}
 use lib.ListN.{length}
 use lib.Dec.{leb}
-use Rattle.cbor_item.specs.Utf8.{isUtf8}
+use Rattle.cbor_item_spec.specs.Utf8.{isUtf8}
 use Rattle.resource.specs.Identifier.{isFay, isTerminal}
 use Rattle.resource.specs.Text.{patternOk}
 use Rattle.entries.specs.declared.value.Kind.{Kind}

@@ -4,8 +4,8 @@ use mathlib.Core.List.{List, [], _++_}
 use mathlib.Core.Option.{Option, none, some}
 use Prim.Native.Nat.{ℕ}
 use lib.ListN.{length, getD}
-use Rattle.cbor_item.specs.Encoding.{head}
-use Rattle.cbor_item.specs.Head.{encodeString}
+use Rattle.cbor_item_spec.specs.Encoding.{head}
+use Rattle.cbor_item_spec.specs.Head.{encodeString}
 use Rattle.exact.specs.Reads.{encAll}
 use Rattle.entries.specs.Keys.{kKeyId, kAlgorithm, kSignatureValue, algorithms}
 

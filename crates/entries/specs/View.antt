@@ -6,7 +6,7 @@ use Prim.Native.Nat.{ℕ, _+_}
 use lib.ListN.{length}
 use Rattle.octets.specs.Span.{Span, spanOf}
 use Rattle.exact.specs.Reads.{viewOpt}
-use Rattle.cbor_item.specs.Encoding.{head}
+use Rattle.cbor_item_spec.specs.Encoding.{head}
 use Rattle.entries.specs.declared.value.Optional.{Optional}
 use Rattle.entries.specs.declared.value.Kind.{Kind}
 use Rattle.entries.specs.Keys.{kAlgorithm, kSignatureValue}

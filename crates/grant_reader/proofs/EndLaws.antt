@@ -6,7 +6,7 @@ use native.Mathlib.Omega.{arith}
 use lib.ListN.{length}
 use borrow.Author.Tests.{le-leb}
 use Rattle.exact.specs.Reads.{refused}
-use Rattle.cbor_item.specs.Head.{headAt}
+use Rattle.cbor_item_spec.specs.Head.{headAt}
 use Rattle.exact.proofs.ReadsLaws.{stopped}
 use Rattle.entries.specs.Value.{countAt}
 use Rattle.descriptor_spec.specs.Reader.{grantAt}

@@ -2,10 +2,10 @@
 use mathlib.Core.Path.{refl}
 use Rattle.octets.specs.Bytes.{part, same, hasAt}
 use Rattle.exact.specs.Reads.{bind, guard, many}
-use Rattle.cbor_item.specs.Utf8.{charsFrom, charAt, charLength, second3, second4}
+use Rattle.cbor_item_spec.specs.Utf8.{charsFrom, charAt, charLength, second3, second4}
 use Rattle.octets.specs.Number.{bigEndian, numberAt}
-use Rattle.cbor_item.specs.Encoding.{head}
-use Rattle.cbor_item.specs.Head.{headAt, wideHead, longHead, spanAt, spanIn}
+use Rattle.cbor_item_spec.specs.Encoding.{head}
+use Rattle.cbor_item_spec.specs.Head.{headAt, wideHead, longHead, spanAt, spanIn}
 use Rattle.resource.specs.Identifier.{isFay, isTerminal, hasForm, fayForm, terminalForm, uuidForm, isHex}
 use Rattle.resource.specs.Level.{isNameChar, allNameChars, levels, levelsOk}
 use Rattle.resource.specs.Text.{patternOk, isPattern, levelsOf, patternOf}
@@ -20,7 +20,7 @@ use Rattle.descriptor_spec.specs.Model.{modeNames, encMode, encModes, encGrant,
 use Rattle.descriptor_spec.specs.Reader.{hasMode, modeAt, modesAt, grantAt, moreAt, grantsAt, issueAt, grantorAt, idsAt, payloadFits}
 use Rattle.descriptor_spec.specs.Reader.{payloadAt, beforePayload, beforeKeyId, descriptorAt, readOf}
 use Rattle.octets.specs.Order.{before}
-use Rattle.cbor_item.proofs.Promises.{marked-items}
+use Rattle.cbor_item_spec.proofs.Promises.{marked-items}
 use Rattle.resource.proofs.Promises.{marked-matching}
 use Rattle.narrowing_spec.specs.Escape.{fewestNames, lowestMode, firstRule}
 use Rattle.narrowing_spec.specs.Narrow.{rulesAt, compared, narrow}

@@ -4,7 +4,7 @@ use mathlib.Core.List.{List, [], _∷_, _++_}
 use mathlib.Core.Option.{none}
 use Prim.Native.Nat.{ℕ}
 use lib.ListN.{replicate}
-use Rattle.cbor_item.specs.Promises.{MarkedItems}
+use Rattle.cbor_item_spec.specs.Promises.{MarkedItems}
 use Rattle.resource.specs.Characters.{codes}
 use Rattle.resource.specs.Promises.{T, MarkedMatching}
 use Rattle.descriptor_spec.specs.Model.{Grant, encode}

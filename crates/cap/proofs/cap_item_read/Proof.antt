@@ -1,6 +1,6 @@
 -- `cap_item_read` meets its contract. Assumes nothing.
 use mathlib.Core.Path.{ap, _∙_}
-use Rattle.cbor_item.specs.Item.{numbersOf}
+use Rattle.cbor_item_spec.specs.Item.{numbersOf}
 use Rattle.octets.proofs.BytesLaws.{are-bytes}
 use borrow.Author.Needs.{needs}
 use Rattle.cap.proofs.cap_item_read.Statement.{statement}

@@ -7,7 +7,7 @@ use lib.ListN.{length}
 use lib.Dec.{T, lit<}
 use Rattle.octets.specs.Bytes.{AreBytes, clash}
 use Rattle.exact.specs.Reads.{Reads}
-use Rattle.cbor_item.specs.Encoding.{head}
+use Rattle.cbor_item_spec.specs.Encoding.{head}
 use Rattle.octets.proofs.BytesLaws.{has-left, has-clash}
 use Rattle.exact.proofs.ReadsLaws.{recast, seq, keyed, refine}
 use Rattle.entries.specs.Keys.{kModes, kConstraints, kResourcePattern}

@@ -8,7 +8,7 @@ use lib.Dec.{lit<}
 use Rattle.resource.specs.Identifier.{terminalSize}
 use Rattle.octets.specs.Bytes.{AreBytes, part, Has, same}
 use Rattle.exact.specs.Reads.{Reads, encOpt, encAll, AllFrom, viewAll}
-use Rattle.cbor_item.specs.Encoding.{head}
+use Rattle.cbor_item_spec.specs.Encoding.{head}
 use Rattle.octets.proofs.BytesLaws.{has-left, has-right, part-take}
 use Rattle.exact.proofs.ReadsLaws.{recast, seq, keyed, refine, mapped}
 use Rattle.exact.proofs.CountedLaws.{counted}

@@ -10,7 +10,7 @@ use lib.Dec.{T, eqb, ltb, lit<, ltb→lt}
 use mir.Facts.{and-yes}
 use Rattle.octets.specs.Bytes.{AreBytes, clash}
 use Rattle.exact.specs.Reads.{Reads, encAll, AllFrom, viewAll}
-use Rattle.cbor_item.specs.Encoding.{head}
+use Rattle.cbor_item_spec.specs.Encoding.{head}
 use Rattle.exact.proofs.ReadsLaws.{recast, seq, keyed, refine}
 use Rattle.exact.proofs.CountedLaws.{counted}
 use Rattle.entries.specs.Keys.{kModes, mRead, mWrite, mExecute, mConfigure}

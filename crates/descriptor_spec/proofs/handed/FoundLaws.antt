@@ -6,7 +6,7 @@ use native.Mathlib.Omega.{arith}
 use lib.ListN.{length}
 use Rattle.octets.specs.Bytes.{AreBytes, Has}
 use Rattle.exact.specs.Reads.{Got, got, refused, Reads, found, lacks, encOpt}
-use Rattle.cbor_item.specs.Encoding.{head}
+use Rattle.cbor_item_spec.specs.Encoding.{head}
 use Rattle.octets.proofs.BytesLaws.{has-left, has-right}
 use Rattle.exact.proofs.ReadsLaws.{complete}
 use Rattle.entries.specs.Keys.{kModes, kConstraints, kResourcePattern}

@@ -7,8 +7,8 @@ use native.Mathlib.Omega.{arith}
 use lib.ListN.{length, length-append}
 use Rattle.octets.specs.Bytes.{Has}
 use Rattle.exact.specs.Reads.{encOpt}
-use Rattle.cbor_item.specs.Encoding.{head}
-use Rattle.cbor_item.specs.Head.{encodeString}
+use Rattle.cbor_item_spec.specs.Encoding.{head}
+use Rattle.cbor_item_spec.specs.Head.{encodeString}
 use Rattle.octets.proofs.BytesLaws.{has-left, has-right, has-part, all-has}
 use Rattle.entries.specs.declared.value.Kind.the-variants.{Text}
 use Rattle.entries.specs.Keys.{kMetadata, kIssuedAt, kIssuerId, kGrantorId, kAlgorithm, kSignatureValue}

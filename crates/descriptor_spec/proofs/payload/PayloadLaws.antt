@@ -12,7 +12,7 @@ use Rattle.octets.proofs.BytesLaws.{has-left, has-right, has-part}
 use Rattle.octets.proofs.TruthLaws.{eqb-test, leb-test, ltb-test, same-test, and-test}
 use Rattle.exact.specs.Reads.{Reads}
 use Rattle.exact.proofs.ReadsLaws.{recast, seq, refine}
-use Rattle.cbor_item.specs.Encoding.{head}
+use Rattle.cbor_item_spec.specs.Encoding.{head}
 use Rattle.resource.proofs.Laws.{terminal-length}
 use Rattle.entries.specs.declared.value.Kind.the-variants.{Text}
 use Rattle.entries.specs.Keys.{kMetadata, kGrantorId, kTerminalId}

@@ -8,7 +8,7 @@ use lib.Seq.{take-length}
 use lib.Dec.{T}
 use Rattle.octets.specs.Bytes.{Has, clash}
 use Rattle.exact.specs.Reads.{encOpt, encAll}
-use Rattle.cbor_item.specs.Encoding.{head}
+use Rattle.cbor_item_spec.specs.Encoding.{head}
 use Rattle.octets.proofs.BytesLaws.{has-left, has-right, has-clash}
 use Rattle.entries.specs.Keys.{kMetadata, kIssuedAt}
 use Rattle.entries.specs.Model.{Pair, size, encPairs}

@@ -5,7 +5,7 @@ use Prim.Native.Nat.{ℕ, _+_}
 use lib.ListN.{length}
 use Rattle.resource.specs.Identifier.{faySize, terminalSize}
 use Rattle.octets.specs.Bytes.{Has, part}
-use Rattle.cbor_item.specs.Encoding.{head}
+use Rattle.cbor_item_spec.specs.Encoding.{head}
 use Rattle.octets.proofs.BytesLaws.{has-left, has-right, has-part}
 use Rattle.entries.specs.Keys.{kTerminalId, kDescriptorId, kSubjectFayId}
 use Rattle.entries.specs.Model.{encBytes, encText}

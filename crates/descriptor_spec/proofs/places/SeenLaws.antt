@@ -7,7 +7,7 @@ use native.Mathlib.Omega.{arith}
 use lib.ListN.{length, take, getD, length-append}
 use Rattle.octets.specs.Bytes.{Has}
 use Rattle.exact.specs.Reads.{got, encAll}
-use Rattle.cbor_item.specs.Encoding.{head}
+use Rattle.cbor_item_spec.specs.Encoding.{head}
 use Rattle.octets.proofs.BytesLaws.{has-left, has-right, all-has}
 use Rattle.exact.proofs.ReadsLaws.{complete}
 use Rattle.exact.proofs.CountedLaws.{all-at}

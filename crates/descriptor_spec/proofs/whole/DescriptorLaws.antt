@@ -6,7 +6,7 @@ use native.Mathlib.Omega.{arith}
 use lib.ListN.{length, length-append}
 use Rattle.octets.specs.Bytes.{AreBytes}
 use Rattle.exact.specs.Reads.{Reads}
-use Rattle.cbor_item.specs.Encoding.{head}
+use Rattle.cbor_item_spec.specs.Encoding.{head}
 use Rattle.exact.proofs.ReadsLaws.{recast, seq, keyed, mapped}
 use Rattle.entries.specs.Keys.{kPayload, kVersion, kSignature, kKeyId}
 use Rattle.entries.specs.Model.{encSignature}

@@ -10,7 +10,7 @@ use lib.ListN.{length, take}
 use lib.Dec.{leb, ltb, eqb}
 use borrow.Author.Tests.{leb-true, le-leb, eqb-false, ne-eqb}
 use Rattle.resource.specs.Identifier.{terminalSize}
-use Rattle.cbor_item.specs.Encoding.{head}
+use Rattle.cbor_item_spec.specs.Encoding.{head}
 use Rattle.exact.specs.Reads.{OptOk, AllFrom}
 use Rattle.octets.proofs.Tests.{by-cond, and-left, and-right, and-both}
 use Rattle.resource.specs.Text.{isPattern, longestText, patternOk}

@@ -1,6 +1,6 @@
 -- `of_item` meets its contract. Assumes nothing.
 use mathlib.Core.Path.{sym, ap, _∙_}
-use Rattle.cbor_item.specs.Item.{numbersOf}
+use Rattle.cbor_item_spec.specs.Item.{numbersOf}
 use borrow.Author.Needs.{needs}
 use Rattle.cap.proofs.numbers.of_item.Statement.{statement}
 use Rattle.cap.proofs.numbers.of_item.Tie as tie

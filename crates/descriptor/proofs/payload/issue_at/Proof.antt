@@ -1,7 +1,7 @@
 -- `issue_at` meets its contract. Assumes nothing.
 use mathlib.Core.Path.{refl, sym, ap, _∙_}
 use native.Mathlib.Omega.{arith}
-use Rattle.cbor_item.specs.Head.{spanRead}
+use Rattle.cbor_item_spec.specs.Head.{spanRead}
 use Rattle.exact.proofs.ReadsLaws.{took, stopped}
 use Rattle.entries.specs.Keys.{kMetadata, kIssuedAt, kIssuerId, kNotAfter}
 use Rattle.entries.specs.Code.{countRead, optionalRead}

@@ -5,8 +5,8 @@ use native.Mathlib.Omega.{arith}
 use Rattle.octets.specs.Span.{spanOf}
 use Rattle.exact.specs.Reads.{got}
 use Rattle.exact.proofs.ReadsLaws.{stopped}
-use Rattle.cbor_item.specs.Head.{spanRead}
-use Rattle.cbor_item.specs.Laws.{SpanTo}
+use Rattle.cbor_item_spec.specs.Head.{spanRead}
+use Rattle.cbor_item_spec.specs.Laws.{SpanTo}
 use Rattle.entries.specs.declared.value.Kind.the-variants.{Text}
 use Rattle.entries.specs.Value.{kindAt}
 use Rattle.entries.specs.Reader.{pairAt}

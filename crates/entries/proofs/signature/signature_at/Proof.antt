@@ -1,7 +1,7 @@
 -- `signature_at` meets its contract. Assumes nothing.
 use mathlib.Core.Path.{sym, ap, _∙_}
 use native.Mathlib.Omega.{arith}
-use Rattle.cbor_item.specs.Head.{spanRead}
+use Rattle.cbor_item_spec.specs.Head.{spanRead}
 use Rattle.exact.proofs.ReadsLaws.{took, stopped}
 use Rattle.entries.specs.declared.value.Kind.the-variants.{Bytes}
 use Rattle.entries.specs.Keys.{kSignatureValue}

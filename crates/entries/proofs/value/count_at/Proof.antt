@@ -1,6 +1,6 @@
 -- `count_at` meets its contract. Assumes nothing.
 use mathlib.Core.Path.{refl, sym, ap, _∙_}
-use Rattle.cbor_item.specs.Head.{headRead}
+use Rattle.cbor_item_spec.specs.Head.{headRead}
 use Rattle.exact.proofs.ReadsLaws.{took, stopped}
 use Rattle.entries.specs.Value.{countAt}
 use Rattle.entries.proofs.ValueCode.{flag-yes, flag-no}

@@ -4,7 +4,7 @@ use Prim.Native.Nat.{_^_}
 use native.Mathlib.Omega.{arith}
 use Rattle.octets.proofs.BytesLaws.{T-of-not}
 use Rattle.exact.proofs.ReadsLaws.{took, stopped}
-use Rattle.cbor_item.specs.Head.{spanRead}
+use Rattle.cbor_item_spec.specs.Head.{spanRead}
 use Rattle.entries.specs.Value.{optKindAt}
 use Rattle.entries.proofs.ValueBounds.{key-end, string-room}
 use Rattle.entries.proofs.ValueCode.{or-there, or-absent}

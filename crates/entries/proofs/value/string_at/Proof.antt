@@ -6,7 +6,7 @@ use lib.ListN.{length}
 use Rattle.octets.specs.Span.{spanOf}
 use Rattle.exact.specs.Reads.{got}
 use Rattle.exact.proofs.ReadsLaws.{stopped}
-use Rattle.cbor_item.specs.Head.{spanRead, spanAt}
+use Rattle.cbor_item_spec.specs.Head.{spanRead, spanAt}
 use Rattle.entries.specs.Kinds.{majorOf, isKind}
 use Rattle.entries.specs.Value.{stringAt, kindAt}
 use Rattle.entries.proofs.ValueCode.{string-yes, string-no, span-bound}

@@ -5,8 +5,8 @@ use native.Mathlib.Omega.{arith}
 use lib.Pow.{shr-shr, shr-mod}
 use borrow.Author.Tests.{lt-ltb, le-ltb}
 use Rattle.octets.specs.Number.{bigEndian}
-use Rattle.cbor_item.specs.Encoding.{head}
-use Rattle.cbor_item.specs.Promises.{HeadsShortest}
+use Rattle.cbor_item_spec.specs.Encoding.{head}
+use Rattle.cbor_item_spec.specs.Promises.{HeadsShortest}
 
 -- heads are shortest
 pub shortest : HeadsShortest

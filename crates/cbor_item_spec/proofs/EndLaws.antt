@@ -10,8 +10,8 @@ use Rattle.octets.specs.Span.{Span}
 use Rattle.octets.specs.Number.{numberAt}
 use Rattle.exact.specs.Reads.{got}
 use Rattle.exact.specs.Holds.{Holds}
-use Rattle.cbor_item.specs.Head.{Head, longHead, wideHead, headAt, spanIn, spanAt}
-use Rattle.cbor_item.specs.Laws.{HeadTo, SpanTo}
+use Rattle.cbor_item_spec.specs.Head.{Head, longHead, wideHead, headAt, spanIn, spanAt}
+use Rattle.cbor_item_spec.specs.Laws.{HeadTo, SpanTo}
 use Rattle.octets.proofs.Tests.{by-cond}
 use Rattle.exact.proofs.HoldsLaws.{held, holds-map, holds-bind, holds-guard}
 
@@ -27,10 +27,10 @@ long-ends s at major w least here =
 wide-ends : (s : List ℕ) (at major info : ℕ) → at < length s → Holds (HeadTo s at) (wideHead s at major info)
 unfolding wideHead
 wide-ends s at major info here =
-    by-cond (Holds (HeadTo s at)) (eqb info 24) (λ e. long-ends s at major 1 24 here) λ e.
-    by-cond (Holds (HeadTo s at)) (eqb info 25) (λ e. long-ends s at major 2 (2 ^ 8) here) λ e.
-    by-cond (Holds (HeadTo s at)) (eqb info 26) (λ e. long-ends s at major 4 (2 ^ 16) here) λ e.
-    by-cond (Holds (HeadTo s at)) (eqb info 27) (λ e. long-ends s at major 8 (2 ^ 32) here) λ e. tt
+    by-cond (Holds (HeadTo s at)) (eqb info 24) (λ e. long-ends s at major _ _ here) λ e.
+    by-cond (Holds (HeadTo s at)) (eqb info 25) (λ e. long-ends s at major _ _ here) λ e.
+    by-cond (Holds (HeadTo s at)) (eqb info 26) (λ e. long-ends s at major _ _ here) λ e.
+    by-cond (Holds (HeadTo s at)) (eqb info 27) (λ e. long-ends s at major _ _ here) λ e. tt
 
 -- every head ends after its place and within s
 pub heads-end : (s : List ℕ) (at : ℕ) → Holds (HeadTo s at) (headAt s at)
@@ -40,21 +40,12 @@ heads-end s at =
     by-cond (Holds (HeadTo s at)) (ltb (getD s at 0 % 32) 24) (λ f. record { after = omega arith; fits = omega (arith, leb-false) }) λ f.
     wide-ends s at _ _ (leb-false _ _ e)
 
--- the same of a head that was answered
-pub head-in : (s : List ℕ) (at : ℕ) {h : Head} {next : ℕ} → got h next ≡ headAt s at → next ≤ length s
-head-in s at e = held (HeadTo s at) (heads-end s at) e .fits
-
 -- a string's content begins at its place and ends within s
-content-ends : (s : List ℕ) (start n : ℕ) → start ≤ length s → Holds (SpanTo s start) (spanIn s start n)
+pub contents-end : (s : List ℕ) (start n : ℕ) → start ≤ length s → Holds (SpanTo s start) (spanIn s start n)
 unfolding spanIn
-content-ends s start n h =
+contents-end s start n h =
     by-cond (Holds (SpanTo s start)) (ltb (length s - start) n) (λ e. tt) λ e.
     record { after = omega arith; ends = refl; fits = omega (arith, ltb-false) }
-
--- the same of a string that was answered
-pub span-in : (s : List ℕ) (start n : ℕ) {c : Span} {next : ℕ} → start ≤ length s → got c next ≡ spanIn s start n
-    → c .start + c .len ≤ length s
-span-in s start n h e = let t = held (SpanTo s start) (content-ends s start n h) e in omega (arith, t .ends, t .fits)
 
 -- every string begins after its place and ends within s
 pub spans-end : (s : List ℕ) (at major : ℕ) → Holds (SpanTo s at) (spanAt s at major)
@@ -62,5 +53,5 @@ unfolding spanAt
 spans-end s at major =
     holds-bind (HeadTo s at) (SpanTo s at) _ _ (heads-end s at)
     (λ h n i. holds-guard (SpanTo s at) (eqb (h .major) major) _
-    (λ t. holds-map (SpanTo s n) (SpanTo s at) (spanIn s n (h .number)) (content-ends s n (h .number) (i .fits))
+    (λ t. holds-map (SpanTo s n) (SpanTo s at) (spanIn s n (h .number)) (contents-end s n (h .number) (i .fits))
     (λ c m j. record { after = omega (arith, i .after, j .after); ends = j .ends; fits = j .fits })))

@@ -9,10 +9,10 @@ use lib.ListN.{length}
 use lib.Dec.{leb, eqb}
 use borrow.Author.Tests.{leb-true, le-leb, ltb-true, lt-ltb, eq-eqb}
 use Rattle.octets.proofs.Tests.{and-left, and-right, or-assoc}
-use Rattle.resource.specs.Identifier.{isFay, isTerminal}
-use Rattle.resource.specs.Pattern.{Path, IsPath, admits}
-use Rattle.resource.specs.Text.{isResource, pathOf, patternOf}
-use Rattle.resource.proofs.Promises.{resources-exact, resources-once}
+use Rattle.resource_spec.specs.Identifier.{isFay, isTerminal}
+use Rattle.resource_spec.specs.Pattern.{Path, IsPath, admits}
+use Rattle.resource_spec.specs.Text.{isResource, pathOf, patternOf}
+use Rattle.resource_spec.proofs.Promises.{resources-exact, resources-once}
 use Rattle.entries.specs.Model.{pairCount}
 use Rattle.descriptor_spec.specs.Model.{Grant, Descriptor, encode}
 use Rattle.descriptor_spec.specs.Allowed.{isIn}
@@ -21,7 +21,7 @@ use Rattle.request_spec.specs.Promises.{someServes, formed}
 use Rattle.narrowing_spec.specs.Meaning.{anyAdmits}
 use Rattle.narrowing_spec.specs.Promises.{NoPairs, Inside}
 use Rattle.narrowing_spec.proofs.Promises.{constrained-exactly, accepted-exactly}
-use Rattle.resource.specs.Characters.{oneOf}
+use Rattle.resource_spec.specs.Characters.{oneOf}
 use Rattle.steps.specs.Order.{Step, AllPass}
 use Rattle.request_spec.specs.declared.DecisionNumbers.{DecisionNumbers}
 use Rattle.agreement.specs.Promises.{numbered, AcceptedUnder, StepsAdmit}

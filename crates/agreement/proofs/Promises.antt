@@ -2,7 +2,7 @@
 use mathlib.Core.Path.{_≡_, refl}
 use mathlib.Core.List.{List, [], _∷_}
 use Prim.Native.Nat.{ℕ}
-use Rattle.resource.specs.Text.{pathOf}
+use Rattle.resource_spec.specs.Text.{pathOf}
 use Rattle.descriptor_spec.specs.Model.{Descriptor}
 use Rattle.request_spec.specs.Request.{Request}
 use Rattle.request_spec.specs.Promises.{held, stepsFor}

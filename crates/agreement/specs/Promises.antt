@@ -6,8 +6,8 @@ use mathlib.Core.Bool.{cond}
 use mathlib.Core.List.{List, [], _∷_}
 use Prim.Native.Nat.{ℕ}
 use Rattle.octets.specs.Bytes.{AreBytes}
-use Rattle.resource.specs.Characters.{oneOf}
-use Rattle.resource.specs.Text.{pathOf}
+use Rattle.resource_spec.specs.Characters.{oneOf}
+use Rattle.resource_spec.specs.Text.{pathOf}
 use Rattle.descriptor_spec.specs.Model.{Descriptor, encode}
 use Rattle.descriptor_spec.specs.Allowed.{Allowed}
 use Rattle.steps.specs.Order.{Step, AllPass}

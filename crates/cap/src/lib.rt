@@ -13,7 +13,7 @@ use resource::MatchingNumbers;
 ghost use mathlib.Core.Path.{_≡_};
 ghost use Rattle.octets.specs.Bytes.{AreBytes};
 ghost use Rattle.cbor_item_spec.specs.Item as items;
-ghost use Rattle.resource.specs.Text as texts;
+ghost use Rattle.resource_spec.specs.Text as texts;
 ghost use Rattle.descriptor_spec.specs.Reader.{readOf};
 ghost use Rattle.descriptor_spec.specs.Code.{readingOf};
 ghost use Rattle.descriptor_spec.specs.Numbers as descriptors;

@@ -8,7 +8,7 @@ use lib.Bits.{or-lt}
 use lib.Dec.{leb}
 use lib.ListN.{length, take, drop, length-take, length-drop}
 use lib.Seq.{take-take}
-use Rattle.resource.specs.Identifier.{levelsPlace, terminalSize}
+use Rattle.resource_spec.specs.Identifier.{levelsPlace, terminalSize}
 use Rattle.octets.specs.Bytes.{part, same}
 use Rattle.octets.proofs.SameLaws.{start-answer}
 use Rattle.exact.specs.Reads.{Got, got, refused, bind, many}
@@ -16,7 +16,7 @@ use Rattle.exact.specs.Holds.{Holds}
 use Rattle.exact.proofs.ReadsLaws.{took, stopped}
 use Rattle.exact.proofs.HoldsLaws.{held, holds-map, holds-bind, holds-guard, holds-many}
 use Rattle.exact.proofs.CountedLaws.{many-zero, many-got, many-refused}
-use Rattle.resource.proofs.Laws.{pattern-short}
+use Rattle.resource_spec.proofs.Laws.{pattern-short}
 use Rattle.entries.specs.declared.value.Kind.the-variants.{Pattern}
 use Rattle.entries.specs.Keys.{kModes, kGrants, kConstraints, kResourcePattern}
 use Rattle.entries.specs.Kinds.{isKind}

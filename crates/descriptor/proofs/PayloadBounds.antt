@@ -9,13 +9,13 @@ use lib.ListN.{length}
 use lib.Dec.{T, ltb, leb, eqb, ltb→lt}
 use mir.Facts.{and-yes}
 use borrow.Author.Tests.{leb-true}
-use Rattle.resource.specs.Identifier.{faySize, terminalSize}
+use Rattle.resource_spec.specs.Identifier.{faySize, terminalSize}
 use Rattle.octets.specs.Bytes.{part, same}
 use Rattle.octets.proofs.Tests.{and-left}
 use Rattle.exact.specs.Reads.{got}
 use Rattle.exact.specs.Holds.{Holds}
 use Rattle.exact.proofs.HoldsLaws.{held, holds-map, holds-bind, holds-then, holds-guard}
-use Rattle.resource.proofs.Laws.{terminal-length, fay-length}
+use Rattle.resource_spec.proofs.Laws.{terminal-length, fay-length}
 use Rattle.entries.specs.declared.value.Kind.the-variants.{Text, Bytes, Terminal, Fay}
 use Rattle.entries.specs.Keys.{kMetadata, kIssuedAt, kIssuerId, kNotAfter, kGrantorId, kNotBefore, kTerminalId, kDescriptorId}
 use Rattle.entries.specs.Keys.{kSubjectFayId}

@@ -1,10 +1,10 @@
 // Terminal ids.
-use resource::sizes::TERMINAL_SIZE;
+use resource_spec::sizes::TERMINAL_SIZE;
 ghost use mathlib.Core.Path.{_≡_};
 ghost use Prim.Native.Nat.{_+_, _≤_};
 ghost use lib.ListN.{length};
 ghost use Rattle.octets.specs.Bytes.{part, same};
-ghost use Rattle.resource.specs.Identifier.{terminalSize};
+ghost use Rattle.resource_spec.specs.Identifier.{terminalSize};
 
 // Whether the terminal ids that stand at a and at b are equal.
 pub(crate) fn equal_terminals(s: &[u8], a: usize, b: usize) -> bool

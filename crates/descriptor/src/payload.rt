@@ -21,7 +21,7 @@ ghost use mathlib.Core.Path.{_≡_};
 ghost use Prim.Native.Nat.{_+_, _≤_};
 ghost use lib.ListN.{length};
 ghost use Rattle.exact.specs.Reads.{got, guard};
-ghost use Rattle.resource.specs.Identifier.{terminalSize};
+ghost use Rattle.resource_spec.specs.Identifier.{terminalSize};
 ghost use Rattle.descriptor_spec.specs.Reader.{issueAt, grantorAt, idsAt, payloadFits, payloadAt};
 ghost use Rattle.descriptor.specs.Code.{issueRead, grantorRead, idsRead, payloadOf, payloadRead};
 

@@ -7,8 +7,8 @@ use Prim.Native.Nat.{ℕ, _-_, _≤_, _<_}
 use lib.ListN.{length, take}
 use lib.Dec.{eqb}
 use Rattle.exact.specs.Reads.{OptOk, AllFrom}
-use Rattle.resource.specs.Identifier.{isFay, isTerminal, terminalSize}
-use Rattle.resource.specs.Text.{patternOk}
+use Rattle.resource_spec.specs.Identifier.{isFay, isTerminal, terminalSize}
+use Rattle.resource_spec.specs.Text.{patternOk}
 use Rattle.entries.specs.Allowed.{TextOk, TimeOk, PairsOk, SignatureOk}
 use Rattle.descriptor_spec.specs.Model.{Grant, Payload, Descriptor, encode}
 

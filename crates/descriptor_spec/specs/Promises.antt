@@ -13,9 +13,9 @@ use Rattle.octets.specs.Bytes.{AreBytes, part, Has}
 use Rattle.cbor_item_spec.specs.Encoding.{head}
 use Rattle.exact.specs.Reads.{encAll, OptOk}
 use Rattle.cbor_item_spec.specs.Unicode.{Utf8}
-use Rattle.resource.specs.Characters.{codes}
-use Rattle.resource.specs.Identifier.{isFay, isTerminal}
-use Rattle.resource.specs.Text.{isPattern}
+use Rattle.resource_spec.specs.Characters.{codes}
+use Rattle.resource_spec.specs.Identifier.{isFay, isTerminal}
+use Rattle.resource_spec.specs.Text.{isPattern}
 use Rattle.descriptor_spec.specs.declared.DescriptorNumbers.{DescriptorNumbers}
 use Rattle.descriptor_spec.specs.declared.GrantNumbers.{GrantNumbers}
 use Rattle.entries.specs.Keys.{kPayload, kVersion, kSignature, kGrants, kMetadata, kIssuedAt, kIssuerId, kNotAfter, kGrantorId}

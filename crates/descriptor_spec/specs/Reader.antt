@@ -9,7 +9,7 @@ use lib.Bits.{bitOr}
 use Rattle.octets.specs.Bytes.{part, same}
 use Rattle.octets.specs.Span.{Span, spanOf}
 use Rattle.exact.specs.Reads.{Got, got, refused, bind, guard, many}
-use Rattle.resource.specs.Identifier.{terminalSize}
+use Rattle.resource_spec.specs.Identifier.{terminalSize}
 use Rattle.entries.specs.declared.value.Kind.the-variants.{Text, Bytes, Terminal, Fay, Pattern}
 use Rattle.entries.specs.declared.value.Optional.{Optional}
 use Rattle.entries.specs.Keys.{kPayload, kVersion, kSignature, kGrants, kMetadata, kIssuedAt, kIssuerId, kNotAfter, kGrantorId, kNotBefore}

@@ -6,7 +6,7 @@ use Prim.Native.Nat.{ℕ, suc, _+_, _-_, _≤_}
 use native.Mathlib.Nat.{add-sub-cancel-left}
 use native.Mathlib.Omega.{arith}
 use lib.ListN.{length, take, drop}
-use Rattle.resource.specs.Identifier.{levelsPlace}
+use Rattle.resource_spec.specs.Identifier.{levelsPlace}
 use Rattle.octets.specs.Bytes.{part, hasAt}
 use Rattle.octets.specs.Span.{spanOf}
 use Rattle.octets.proofs.Tests.{no-flag}

@@ -17,9 +17,9 @@ use Rattle.cbor_item_spec.specs.Encoding.{head}
 use Rattle.cbor_item_spec.specs.Utf8.{isUtf8}
 use Rattle.cbor_item_spec.specs.Head.{headOf, encodeString}
 use Rattle.cbor_item_spec.proofs.Promises.{heads-exact, spans-exact, utf8-exact}
-use Rattle.resource.specs.Identifier.{isFay, isTerminal}
-use Rattle.resource.specs.Text.{patternOk}
-use Rattle.resource.proofs.Laws.{terminal-length, fay-length, pattern-short}
+use Rattle.resource_spec.specs.Identifier.{isFay, isTerminal}
+use Rattle.resource_spec.specs.Text.{patternOk}
+use Rattle.resource_spec.proofs.Laws.{terminal-length, fay-length, pattern-short}
 use Rattle.entries.specs.declared.value.Kind.{Kind}
 use Rattle.entries.specs.declared.value.Kind.the-variants.{Text, Bytes, Terminal, Fay, Pattern}
 use Rattle.entries.specs.Kinds.{within, majorOf, isKind}

@@ -9,8 +9,8 @@ use lib.ListN.{length}
 use Rattle.octets.specs.Order.{before}
 use Rattle.cbor_item_spec.specs.Unicode.{Utf8}
 use Rattle.exact.specs.Reads.{AllFrom}
-use Rattle.resource.specs.Identifier.{isFay, isTerminal}
-use Rattle.resource.specs.Text.{patternOk}
+use Rattle.resource_spec.specs.Identifier.{isFay, isTerminal}
+use Rattle.resource_spec.specs.Text.{patternOk}
 use Rattle.entries.specs.declared.value.Kind.{Kind}
 use Rattle.entries.specs.declared.value.Kind.the-variants.{Text, Bytes, Terminal, Fay, Pattern}
 use Rattle.entries.specs.Model.{Pair, Signature, encText}

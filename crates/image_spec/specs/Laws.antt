@@ -7,7 +7,7 @@ use mathlib.Core.List.{List, [], _∷_, _++_}
 use mathlib.Core.Option.{none, some}
 use Prim.Native.Nat.{ℕ, _+_, _*_, _≤_, _<_}
 use lib.ListN.{length, getD}
-use Rattle.resource.specs.Identifier.{faySize, terminalSize}
+use Rattle.resource_spec.specs.Identifier.{faySize, terminalSize}
 use Rattle.octets.specs.Bytes.{AreBytes, part}
 use Rattle.octets.specs.Number.{numberAt}
 use Rattle.exact.specs.Reads.{got}

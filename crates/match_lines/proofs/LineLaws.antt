@@ -9,8 +9,8 @@ use lib.ListN.{length, take, drop, length-append, length-drop, take-append-drop}
 use lib.Seq.{drop-drop, append-snoc, take-at, drop-at, length-take-le}
 use lib.Dec.{eqb, ltb}
 use borrow.Author.Tests.{lt-ltb, le-ltb, le-leb, lt-leb}
-use Rattle.resource.specs.declared.Matching.{Matching}
-use Rattle.resource.specs.Text.{matching}
+use Rattle.resource_spec.specs.declared.Matching.{Matching}
+use Rattle.resource_spec.specs.Text.{matching}
 use Rattle.match_lines.specs.declared.Verdict.{Verdict}
 use Rattle.match_lines.specs.declared.Verdict.the-variants.{IsBad}
 use Rattle.match_lines.specs.declared.Progress.{Progress}

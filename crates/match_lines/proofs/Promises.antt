@@ -2,11 +2,11 @@
 use mathlib.Core.Path.{refl, ap}
 use mathlib.Core.Bool.{true, false}
 use mathlib.Core.List.{[]}
-use Rattle.resource.specs.Identifier.{isHex, hasForm, uuidForm, terminalForm, isTerminal}
+use Rattle.resource_spec.specs.Identifier.{isHex, hasForm, uuidForm, terminalForm, isTerminal}
 use Rattle.octets.specs.Bytes.{same}
 use Rattle.octets.specs.Scan.{bytesBefore}
-use Rattle.resource.specs.Level.{isNameChar, allNameChars, levels, levelsOk}
-use Rattle.resource.specs.Text.{isResource, isPattern, resourceOk, patternOk, levelsOf, pathOf, patternOf, matching}
+use Rattle.resource_spec.specs.Level.{isNameChar, allNameChars, levels, levelsOk}
+use Rattle.resource_spec.specs.Text.{isResource, isPattern, resourceOk, patternOk, levelsOf, pathOf, patternOf, matching}
 use Rattle.match_lines.specs.Lines.{verdictLine, verdictAt, verdict, answersFrom}
 use Rattle.match_lines.specs.Promises.{YesExactly, NoExactly, BadElse, LongBad, EachLine, LastLine, EmptyInput, WholeCase}
 use Rattle.match_lines.specs.Promises.{BlocksAgree, KeptLast, OutFits, BlockWritten, BlockKept, BlockRefused, EndWritten}

@@ -10,18 +10,18 @@ use lib.ListN.{length, take, drop, length-append}
 use lib.Seq.{take-at}
 use lib.Dec.{eqb, leb}
 use borrow.Author.Tests.{eqb-true, leb-true, leb-false, le-leb, lt-leb}
-use Rattle.resource.specs.declared.Matching.{Matching}
-use Rattle.resource.specs.declared.Matching.the-variants.{Yes, No, Malformed}
-use Rattle.resource.specs.Characters.{codes}
-use Rattle.resource.specs.Identifier.{fits}
+use Rattle.resource_spec.specs.declared.Matching.{Matching}
+use Rattle.resource_spec.specs.declared.Matching.the-variants.{Yes, No, Malformed}
+use Rattle.resource_spec.specs.Characters.{codes}
+use Rattle.resource_spec.specs.Identifier.{fits}
 use Rattle.octets.specs.Scan.{bytesBefore}
-use Rattle.resource.specs.Pattern.{Path, pathText, Pattern, patternText, admits}
-use Rattle.resource.specs.Pattern.{spelled}
-use Rattle.resource.specs.Text.{isPattern, isResource, patternOk, resourceOk, numbersOf, matching}
+use Rattle.resource_spec.specs.Pattern.{Path, pathText, Pattern, patternText, admits}
+use Rattle.resource_spec.specs.Pattern.{spelled}
+use Rattle.resource_spec.specs.Text.{isPattern, isResource, patternOk, resourceOk, numbersOf, matching}
 use Rattle.octets.proofs.Tests.{by-cond, and-left, and-right, no-flag}
 use Rattle.octets.proofs.ScanLaws.{before-all}
-use Rattle.resource.proofs.Laws.{pattern-spaceless}
-use Rattle.resource.proofs.Promises.{patterns-exact, resources-exact, matching-exact, malformed15}
+use Rattle.resource_spec.proofs.Laws.{pattern-spaceless}
+use Rattle.resource_spec.proofs.Promises.{patterns-exact, resources-exact, matching-exact, malformed15}
 use Rattle.match_lines.specs.declared.Verdict.{Verdict}
 use Rattle.match_lines.specs.declared.Verdict.the-variants.{IsYes, IsNo, IsBad}
 use Rattle.match_lines.specs.Lines.{verdictLine, verdictOf, beforeSpace, verdictAt, verdict}

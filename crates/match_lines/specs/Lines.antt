@@ -7,9 +7,9 @@ use Prim.Native.Nat.{ℕ, suc}
 use lib.ListN.{length, take, drop}
 use lib.Dec.{leb, eqb}
 use Rattle.octets.specs.Scan.{bytesBefore}
-use Rattle.resource.specs.declared.Matching.{Matching}
-use Rattle.resource.specs.declared.Matching.the-variants.{Yes, No, Malformed}
-use Rattle.resource.specs.Text.{matching}
+use Rattle.resource_spec.specs.declared.Matching.{Matching}
+use Rattle.resource_spec.specs.declared.Matching.the-variants.{Yes, No, Malformed}
+use Rattle.resource_spec.specs.Text.{matching}
 use Rattle.match_lines.specs.declared.Verdict.{Verdict}
 use Rattle.match_lines.specs.declared.Verdict.the-variants.{IsYes, IsNo, IsBad}
 

@@ -9,13 +9,13 @@ use native.Mathlib.Numerals.{add-one}
 use native.Mathlib.Nat.{add-zero, zero-add}
 use native.Mathlib.Omega.{arith}
 use lib.ListN.{getD}
-use Rattle.resource.specs.Identifier.{terminalSize}
+use Rattle.resource_spec.specs.Identifier.{terminalSize}
 use Rattle.octets.specs.Bytes as cbor
 use Rattle.octets.specs.Bytes.{AreBytes, part, same}
 use Rattle.exact.specs.Reads.{got}
-use Rattle.resource.specs.Level.{levels}
-use Rattle.resource.specs.Pattern.{Pattern, endsDeep}
-use Rattle.resource.specs.Text.{levelsOf}
+use Rattle.resource_spec.specs.Level.{levels}
+use Rattle.resource_spec.specs.Pattern.{Pattern, endsDeep}
+use Rattle.resource_spec.specs.Text.{levelsOf}
 use Rattle.octets.proofs.SameLaws.{same-equal}
 use Rattle.descriptor_spec.specs.Model.{Grant}
 use Rattle.descriptor_spec.specs.Reader.{hasMode, GrantSeen, grantAt, Seen, read, readOf}

@@ -11,9 +11,9 @@ use lib.Dec.{eqb, leb, ltb}
 use lib.Bits.{bitOr}
 use borrow.Author.Tests.{leb-true, eqb-true, ne-eqb, eq-eqb, le-leb, lt-ltb}
 use Rattle.octets.specs.Bytes.{part}
-use Rattle.resource.specs.Level.{levels}
-use Rattle.resource.specs.Pattern.{endsDeep}
-use Rattle.resource.specs.Text.{levelsOf}
+use Rattle.resource_spec.specs.Level.{levels}
+use Rattle.resource_spec.specs.Pattern.{endsDeep}
+use Rattle.resource_spec.specs.Text.{levelsOf}
 use Rattle.octets.proofs.Tests.{and-left, and-right, no-flag}
 use Rattle.descriptor_spec.specs.Reader.{hasMode}
 use Rattle.narrowing.specs.declared.range.Range.{Range}

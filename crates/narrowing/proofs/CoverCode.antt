@@ -11,14 +11,15 @@ use borrow.Author.Tests.{ne-eqb}
 use Rattle.resource.specs.declared.LevelStep.{LevelStep}
 use Rattle.resource.specs.declared.LevelStep.the-variants.{Differ, Finish, Next}
 use Rattle.octets.specs.Bytes.{same}
-use Rattle.resource.specs.Level.{isStar, isDeep, levels}
-use Rattle.resource.specs.Pattern.{Levels, done, deep, name, star}
-use Rattle.resource.specs.Text.{withLevel, levelsOf}
+use Rattle.resource_spec.specs.Level.{isStar, isDeep, levels}
+use Rattle.resource_spec.specs.Pattern.{Levels, done, deep, name, star}
+use Rattle.resource_spec.specs.Text.{withLevel, levelsOf}
 use Rattle.resource.specs.Code.{starFirst, stepOf}
 use Rattle.octets.proofs.Tests.{no-flag}
 use Rattle.octets.proofs.SameLaws.{same-equal}
 use Rattle.resource.specs.Laws.{alike, Firsts, FirstLevels}
-use Rattle.resource.proofs.Laws.{first-star, spelled-first, step-levels}
+use Rattle.resource_spec.proofs.Laws.{spelled-first}
+use Rattle.resource.proofs.Laws.{first-star, step-levels}
 use Rattle.octets.proofs.PartLaws.{part-to-end}
 use Rattle.narrowing.specs.declared.range.Range.{Range}
 use Rattle.narrowing.specs.Range.{range, most, freshRange, coverRange, textRange}

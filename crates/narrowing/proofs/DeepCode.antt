@@ -11,11 +11,11 @@ use lib.Seq.{take-all}
 use lib.Dec.{eqb}
 use borrow.Author.Tests.{not-true, not-false}
 use Rattle.octets.specs.Bytes.{same}
-use Rattle.resource.specs.Level.{isStar, isDeep, prefixed, levels, joined}
-use Rattle.resource.specs.Pattern.{Levels, done, endsDeep}
-use Rattle.resource.specs.Text.{withLevel, levelsOf}
+use Rattle.resource_spec.specs.Level.{isStar, isDeep, prefixed, levels, joined}
+use Rattle.resource_spec.specs.Pattern.{Levels, done, endsDeep}
+use Rattle.resource_spec.specs.Text.{withLevel, levelsOf}
 use Rattle.octets.proofs.SameLaws.{same-equal}
-use Rattle.resource.proofs.Promises.{levels-joined}
+use Rattle.resource_spec.proofs.Promises.{levels-joined}
 
 -- the last of some levels is "**"
 abbrev ends : List (List ℕ) → Bool

@@ -10,17 +10,17 @@ use lib.Dec.{leb}
 use lib.Bits.{bitOr}
 use Rattle.exact.specs.Reads.{got}
 use Rattle.octets.specs.Bytes.{same}
-use Rattle.resource.specs.Level.{isName, levels, joined}
-use Rattle.resource.specs.Pattern.{Levels, done, deep, name, star, Pattern, IsPattern, NamesIn, spelled, patternText, levelsBefore}
-use Rattle.resource.specs.Text.{isPattern, longestText, patternOk, levelsOf, patternIn, patternOf}
-use Rattle.resource.specs.Cover.{covers}
+use Rattle.resource_spec.specs.Level.{isName, levels, joined}
+use Rattle.resource_spec.specs.Pattern.{Levels, done, deep, name, star, Pattern, IsPattern, NamesIn, spelled, patternText, levelsBefore}
+use Rattle.resource_spec.specs.Text.{isPattern, longestText, patternOk, levelsOf, patternIn, patternOf}
+use Rattle.resource_spec.specs.Cover.{covers}
 use Rattle.octets.proofs.Tests.{and-right, no-flag}
 use Rattle.octets.proofs.SameLaws.{same-self}
-use Rattle.resource.proofs.Promises.{patterns-exact, patterns-once}
+use Rattle.resource_spec.proofs.Promises.{patterns-exact, patterns-once}
 use Rattle.descriptor_spec.specs.Model.{Grant}
 use Rattle.descriptor_spec.specs.Reader.{hasMode, GrantSeen, grantAt}
 use Rattle.descriptor_spec.specs.View.{maskOf}
-use Rattle.resource.proofs.Laws.{terminal-length, pattern-short, pattern-levels}
+use Rattle.resource_spec.proofs.Laws.{terminal-length, pattern-short, pattern-levels}
 use Rattle.descriptor_spec.specs.Laws.{SeenAs, InTurn, no-more, one-more}
 use Rattle.narrowing.specs.declared.range.Range.{Range}
 use Rattle.narrowing_spec.specs.Escape.{patternCovers, covered, canTake, deepest}

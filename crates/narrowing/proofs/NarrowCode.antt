@@ -8,7 +8,7 @@ use native.Mathlib.Omega.{arith}
 use lib.ListN.{length, take, drop, length-take, length-drop}
 use lib.Dec.{eqb, ltb, leb}
 use borrow.Author.Tests.{leb-true, leb-false, lt-ltb, le-ltb, eq-eqb, ne-eqb}
-use Rattle.resource.specs.Identifier.{levelsPlace, terminalSize}
+use Rattle.resource_spec.specs.Identifier.{levelsPlace, terminalSize}
 use Rattle.octets.specs.Bytes as cbor
 use Rattle.octets.specs.Bytes.{AreBytes, part}
 use Rattle.exact.specs.Reads.{got, refused}
@@ -22,7 +22,7 @@ use Rattle.descriptor_spec.specs.Code.{fieldsOf, readingOf}
 use Rattle.descriptor_spec.specs.Numbers.{numbersOf, numberOf}
 use Rattle.descriptor_spec.specs.Promises.{DescriptorHanded}
 use Rattle.descriptor_spec.proofs.Promises.{answered-exactly, hands-back}
-use Rattle.resource.proofs.Laws.{terminal-length}
+use Rattle.resource_spec.proofs.Laws.{terminal-length}
 use Rattle.entries.proofs.ValueCode.{lent-levels}
 use Rattle.narrowing_spec.specs.declared.Narrowing.{Narrowing}
 use Rattle.narrowing_spec.specs.declared.Narrowing.the-variants.{Accepted, NoParent, Structure, Validity, Constrained, Period, NotCovered}

@@ -12,8 +12,8 @@ use lib.Dec.{leb}
 use lib.Bits.{bitAnd, bitOr}
 use Rattle.octets.proofs.BitLaws.{or-bit, and-bit}
 use Rattle.octets.specs.Bytes.{same}
-use Rattle.resource.specs.Pattern.{Levels, done, deep, name, star}
-use Rattle.resource.specs.Cover.{matchesFresh, covers}
+use Rattle.resource_spec.specs.Pattern.{Levels, done, deep, name, star}
+use Rattle.resource_spec.specs.Cover.{matchesFresh, covers}
 use Rattle.octets.proofs.Tests.{no-flag}
 use Rattle.descriptor_spec.specs.Reader.{hasMode}
 use Rattle.narrowing.specs.declared.range.Range.{Range}

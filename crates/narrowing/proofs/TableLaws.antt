@@ -8,12 +8,12 @@ use native.Mathlib.Decide.{decLt}
 use native.Mathlib.Omega.{arith}
 use lib.ListN.{length, getD, set, length-set}
 use lib.Seq.{getD-set-same, getD-set-other}
-use Rattle.resource.specs.Identifier.{levelsPlace}
+use Rattle.resource_spec.specs.Identifier.{levelsPlace}
 use Rattle.octets.specs.Bytes.{part}
 use Rattle.exact.specs.Reads.{got, refused}
-use Rattle.resource.specs.Level.{levels}
-use Rattle.resource.specs.Pattern.{endsDeep}
-use Rattle.resource.specs.Text.{levelsOf}
+use Rattle.resource_spec.specs.Level.{levels}
+use Rattle.resource_spec.specs.Pattern.{endsDeep}
+use Rattle.resource_spec.specs.Text.{levelsOf}
 use Rattle.descriptor_spec.specs.Reader.{GrantSeen, grantAt}
 use Rattle.descriptor.proofs.GrantBounds.{pattern-room}
 use Rattle.narrowing.specs.declared.search.Found.the-variants.{Nothing}

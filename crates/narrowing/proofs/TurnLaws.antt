@@ -3,7 +3,7 @@ use mathlib.Core.Path.{_≡_, refl, sym, ap, subst}
 use mathlib.Core.List.{List}
 use Prim.Native.Nat.{ℕ, suc}
 use lib.ListN.{length}
-use Rattle.resource.specs.Identifier.{terminalSize}
+use Rattle.resource_spec.specs.Identifier.{terminalSize}
 use Rattle.octets.specs.Bytes.{AreBytes, part}
 use Rattle.descriptor_spec.specs.Model.{Grant, Descriptor, encode}
 use Rattle.descriptor_spec.specs.Reader.{Seen, read, readOf}

@@ -6,15 +6,15 @@ use mathlib.Core.List.{List}
 use mathlib.Core.Option.{Option, none, some}
 use Prim.Native.Nat.{ℕ, zero, suc, _+_, _*_, _-_, _≤_, _<_}
 use lib.ListN.{length, getD, replicate}
-use Rattle.resource.specs.Identifier.{levelsPlace, terminalSize}
+use Rattle.resource_spec.specs.Identifier.{levelsPlace, terminalSize}
 use Rattle.octets.specs.Bytes.{part, same}
 use lib.Dec.{eqb, leb, ltb}
 use lib.Bits.{bitOr}
 use Rattle.exact.specs.Reads.{got, refused}
 use Rattle.octets.specs.Span.{Span}
-use Rattle.resource.specs.Level.{levels}
-use Rattle.resource.specs.Pattern.{endsDeep}
-use Rattle.resource.specs.Text.{levelsOf}
+use Rattle.resource_spec.specs.Level.{levels}
+use Rattle.resource_spec.specs.Pattern.{endsDeep}
+use Rattle.resource_spec.specs.Text.{levelsOf}
 use Rattle.descriptor_spec.specs.declared.Fields.{Fields}
 use Rattle.descriptor_spec.specs.Reader.{hasMode, grantAt}
 use Rattle.descriptor_spec.specs.Modes.{modeCount}

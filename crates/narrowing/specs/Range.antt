@@ -6,9 +6,9 @@ use Prim.Native.Nat.{ℕ, suc, _+_}
 use lib.Dec.{leb, ltb}
 use lib.Bits.{bitOr}
 use Rattle.octets.specs.Bytes.{same}
-use Rattle.resource.specs.Level.{levels}
-use Rattle.resource.specs.Pattern.{Levels, done, deep, name, star}
-use Rattle.resource.specs.Text.{levelsOf}
+use Rattle.resource_spec.specs.Level.{levels}
+use Rattle.resource_spec.specs.Pattern.{Levels, done, deep, name, star}
+use Rattle.resource_spec.specs.Text.{levelsOf}
 use Rattle.narrowing.specs.declared.range.Range.{Range}
 
 -- the numbers from lo on and below hi

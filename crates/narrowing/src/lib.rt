@@ -6,11 +6,11 @@ use descriptor::Fields;
 use descriptor::Reading;
 pub use narrowing_spec::Narrowing;
 pub use narrowing_spec::NarrowingNumbers;
-use resource::sizes::TERMINAL_SIZE;
+use resource_spec::sizes::TERMINAL_SIZE;
 ghost use mathlib.Core.Path.{_≡_};
 ghost use Prim.Native.Nat.{_+_, _≤_};
 ghost use lib.ListN.{length};
-ghost use Rattle.resource.specs.Identifier.{terminalSize};
+ghost use Rattle.resource_spec.specs.Identifier.{terminalSize};
 ghost use Rattle.narrowing_spec.specs.Narrow.{narrow as narrowed};
 ghost use Rattle.narrowing.specs.Code.{comparedIn};
 

@@ -3,8 +3,8 @@ use resource::LevelStep;
 use resource::is_deep;
 ghost use mathlib.Core.Path.{_≡_};
 ghost use Prim.Native.Nat.{_<_};
-ghost use Rattle.resource.specs.Level.{levels};
-ghost use Rattle.resource.specs.Text.{levelsOf};
+ghost use Rattle.resource_spec.specs.Level.{levels};
+ghost use Rattle.resource_spec.specs.Text.{levelsOf};
 ghost use Rattle.narrowing.specs.Range.{freshRange, textRange, marked};
 
 // The numbers from lo on and below hi.

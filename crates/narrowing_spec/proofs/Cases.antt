@@ -6,9 +6,9 @@ use Rattle.cbor_item_spec.specs.Utf8.{charsFrom, charAt, charLength, second3, s
 use Rattle.octets.specs.Number.{bigEndian, numberAt}
 use Rattle.cbor_item_spec.specs.Encoding.{head}
 use Rattle.cbor_item_spec.specs.Head.{headAt, wideHead, longHead, spanAt, spanIn}
-use Rattle.resource.specs.Identifier.{isFay, isTerminal, hasForm, fayForm, terminalForm, uuidForm, isHex}
-use Rattle.resource.specs.Level.{isNameChar, allNameChars, levels, levelsOk}
-use Rattle.resource.specs.Text.{patternOk, isPattern, levelsOf, patternOf}
+use Rattle.resource_spec.specs.Identifier.{isFay, isTerminal, hasForm, fayForm, terminalForm, uuidForm, isHex}
+use Rattle.resource_spec.specs.Level.{isNameChar, allNameChars, levels, levelsOk}
+use Rattle.resource_spec.specs.Text.{patternOk, isPattern, levelsOf, patternOf}
 use Rattle.entries.specs.Keys.{kPayload, kVersion, kSignature, kGrants, kMetadata, kIssuedAt, kIssuerId, kNotAfter, kGrantorId}
 use Rattle.entries.specs.Keys.{kNotBefore, kTerminalId, kDescriptorId, kSubjectFayId, kKeyId, kAlgorithm, kSignatureValue, kModes}
 use Rattle.entries.specs.Keys.{kConstraints, kResourcePattern, algorithms, ed25519, ecdsaP256Sha256, mRead, mWrite, mExecute, mConfigure}
@@ -21,7 +21,7 @@ use Rattle.descriptor_spec.specs.Reader.{hasMode, modeAt, modesAt, grantAt, mor
 use Rattle.descriptor_spec.specs.Reader.{payloadAt, beforePayload, beforeKeyId, descriptorAt, readOf}
 use Rattle.octets.specs.Order.{before}
 use Rattle.cbor_item_spec.proofs.Promises.{marked-items}
-use Rattle.resource.proofs.Promises.{marked-matching}
+use Rattle.resource_spec.proofs.Promises.{marked-matching}
 use Rattle.narrowing_spec.specs.Escape.{fewestNames, lowestMode, firstRule}
 use Rattle.narrowing_spec.specs.Narrow.{rulesAt, compared, narrow}
 use Rattle.narrowing_spec.specs.Cases.{MarkedNarrowing, MarkedCases}

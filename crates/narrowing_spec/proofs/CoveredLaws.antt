@@ -6,10 +6,10 @@ use mathlib.Core.List.{List, [], _∷_}
 use Prim.Native.Nat.{ℕ, zero, suc, _<_}
 use native.Mathlib.Omega.{arith}
 use Rattle.octets.specs.Bytes.{same}
-use Rattle.resource.specs.Level.{isName}
-use Rattle.resource.specs.Pattern.{Path, IsPath, Levels, done, deep, name, star, Pattern, IsPattern, matches, admits, taken}
-use Rattle.resource.specs.Cover.{covers, witness, CanTake, Fresh, zs}
-use Rattle.resource.proofs.Laws.{covers-exact, taken-can, covers-stay, witness-matched, witness-decides, witness-names, zs-fresh}
+use Rattle.resource_spec.specs.Level.{isName}
+use Rattle.resource_spec.specs.Pattern.{Path, IsPath, Levels, done, deep, name, star, Pattern, IsPattern, matches, admits, taken}
+use Rattle.resource_spec.specs.Cover.{covers, witness, CanTake, Fresh, zs}
+use Rattle.resource_spec.proofs.Laws.{covers-exact, taken-can, covers-stay, witness-matched, witness-decides, witness-names, zs-fresh}
 use Rattle.octets.proofs.Tests.{and-left, and-right, and-both, or-elim, no-flag}
 use Rattle.octets.proofs.SameLaws.{same-self, same-equal}
 use Rattle.descriptor_spec.specs.Reader.{hasMode}

@@ -9,9 +9,9 @@ use borrow.Author.Tests.{leb-true, le-leb, eq-eqb}
 use lib.ListN.{length}
 use lib.Dec.{eqb, leb}
 use Rattle.octets.specs.Bytes.{AreBytes}
-use Rattle.resource.specs.Pattern.{Path, IsPath, Levels, done, deep, name, star, Pattern, admits}
-use Rattle.resource.specs.Text.{patternOf}
-use Rattle.resource.specs.Cover.{CanTake}
+use Rattle.resource_spec.specs.Pattern.{Path, IsPath, Levels, done, deep, name, star, Pattern, admits}
+use Rattle.resource_spec.specs.Text.{patternOf}
+use Rattle.resource_spec.specs.Cover.{CanTake}
 use Rattle.octets.proofs.Tests.{and-left, and-right, and-both}
 use Rattle.descriptor_spec.specs.Model.{Grant, Descriptor}
 use Rattle.descriptor_spec.specs.Allowed.{isIn, GrantOk, All, Allowed}

@@ -9,7 +9,7 @@ use Prim.Native.Nat.{ℕ, suc}
 use native.Mathlib.Omega.{arith}
 use borrow.Author.Tests.{eqb-true, eq-eqb}
 use lib.ListN.{length}
-use Rattle.resource.specs.Identifier.{terminalSize}
+use Rattle.resource_spec.specs.Identifier.{terminalSize}
 use Rattle.octets.specs.Bytes.{AreBytes, part}
 use Rattle.entries.specs.Model.{Pair, pairCount}
 use Rattle.descriptor_spec.specs.Model.{Grant, Descriptor, encode}

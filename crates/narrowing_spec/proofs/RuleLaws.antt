@@ -8,9 +8,9 @@ use borrow.Author.Tests.{eqb-true}
 use lib.ListN.{length, getD}
 use lib.Dec.{eqb, leb}
 use Rattle.exact.specs.Reads.{AllFrom}
-use Rattle.resource.specs.Pattern.{Path, Pattern, IsPattern, patternText, admits}
-use Rattle.resource.specs.Text.{isPattern, longestText, patternOk, patternOf}
-use Rattle.resource.proofs.Promises.{patterns-exact, patterns-once}
+use Rattle.resource_spec.specs.Pattern.{Path, Pattern, IsPattern, patternText, admits}
+use Rattle.resource_spec.specs.Text.{isPattern, longestText, patternOk, patternOf}
+use Rattle.resource_spec.proofs.Promises.{patterns-exact, patterns-once}
 use Rattle.octets.proofs.Tests.{and-left, and-right, or-elim, no-flag}
 use Rattle.descriptor_spec.specs.Model.{Grant}
 use Rattle.descriptor_spec.specs.Allowed.{isIn, ModeOk, seenWith, GrantOk, All}

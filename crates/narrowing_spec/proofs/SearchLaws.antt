@@ -10,10 +10,10 @@ use native.Mathlib.Omega.{arith}
 use native.Mathlib.Decide.{decLt}
 use borrow.Author.Tests.{not-true, not-false}
 use lib.ListN.{length}
-use Rattle.resource.specs.Pattern.{Path, IsPath, Pattern, IsPattern, matches, admits}
+use Rattle.resource_spec.specs.Pattern.{Path, IsPath, Pattern, IsPattern, matches, admits}
 use Rattle.octets.specs.Bytes.{same}
-use Rattle.resource.specs.Cover.{CanTake}
-use Rattle.resource.proofs.Laws.{taken-can}
+use Rattle.resource_spec.specs.Cover.{CanTake}
+use Rattle.resource_spec.proofs.Laws.{taken-can}
 use Rattle.octets.proofs.Tests.{and-left, and-right, and-both}
 use Rattle.descriptor_spec.specs.Reader.{hasMode}
 use Rattle.narrowing_spec.specs.Escape.{Rule, covered, canTake, escapesWith, deepest, isSome, orZero, fewestNames, lowestMode, ruleAt}

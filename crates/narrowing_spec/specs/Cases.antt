@@ -5,8 +5,8 @@ use mathlib.Core.Option.{none}
 use Prim.Native.Nat.{ℕ}
 use lib.ListN.{replicate}
 use Rattle.cbor_item_spec.specs.Promises.{MarkedItems}
-use Rattle.resource.specs.Characters.{codes}
-use Rattle.resource.specs.Promises.{T, MarkedMatching}
+use Rattle.resource_spec.specs.Characters.{codes}
+use Rattle.resource_spec.specs.Promises.{T, MarkedMatching}
 use Rattle.descriptor_spec.specs.Model.{Grant, encode}
 use Rattle.narrowing_spec.specs.declared.NarrowingNumbers.{NarrowingNumbers}
 use Rattle.narrowing_spec.specs.Narrow.{narrow, numbersOf}

@@ -6,8 +6,8 @@ use mathlib.Core.Option.{Option, none, some}
 use Prim.Native.Nat.{ℕ, zero, suc, _+_, max}
 use lib.ListN.{length, getD}
 use Rattle.octets.specs.Bytes.{same}
-use Rattle.resource.specs.Pattern.{Path, Levels, done, Pattern, levelsBefore, endsDeep}
-use Rattle.resource.specs.Cover.{covers, witness, longestName, zs}
+use Rattle.resource_spec.specs.Pattern.{Path, Levels, done, Pattern, levelsBefore, endsDeep}
+use Rattle.resource_spec.specs.Cover.{covers, witness, longestName, zs}
 use Rattle.descriptor_spec.specs.Modes.{modeCount}
 use Rattle.descriptor_spec.specs.Reader.{hasMode}
 

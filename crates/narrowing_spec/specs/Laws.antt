@@ -5,8 +5,8 @@ use mathlib.Core.Bool.{Bool, false}
 use mathlib.Core.List.{List, [], _∷_}
 use mathlib.Core.Option.{none, some}
 use Prim.Native.Nat.{ℕ, suc, _+_, _≤_, _<_}
-use Rattle.resource.specs.Pattern.{Path, IsPath}
-use Rattle.resource.specs.Text.{patternOf}
+use Rattle.resource_spec.specs.Pattern.{Path, IsPath}
+use Rattle.resource_spec.specs.Text.{patternOf}
 use Rattle.descriptor_spec.specs.Model.{Grant, Descriptor}
 use Rattle.descriptor_spec.specs.View.{maskOf}
 use Rattle.descriptor_spec.specs.Laws.{InTurn}

@@ -4,8 +4,8 @@ use mathlib.Core.Path.{_≡_}
 use mathlib.Core.Bool.{Bool, true, false, _&&_, _||_}
 use mathlib.Core.List.{List, [], _∷_}
 use Prim.Native.Nat.{ℕ, _≤_, _<_}
-use Rattle.resource.specs.Pattern.{Path, admits, taken}
-use Rattle.resource.specs.Text.{patternOf}
+use Rattle.resource_spec.specs.Pattern.{Path, admits, taken}
+use Rattle.resource_spec.specs.Text.{patternOf}
 use Rattle.descriptor_spec.specs.Model.{Grant, Descriptor}
 use Rattle.descriptor_spec.specs.Allowed.{isIn}
 

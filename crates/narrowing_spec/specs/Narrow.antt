@@ -7,7 +7,7 @@ use Prim.Native.Nat.{ℕ, zero, suc}
 use lib.Dec.{eqb, leb}
 use Rattle.octets.specs.Bytes.{part}
 use Rattle.exact.specs.Reads.{got, refused}
-use Rattle.resource.specs.Text.{patternOf}
+use Rattle.resource_spec.specs.Text.{patternOf}
 use Rattle.descriptor_spec.specs.Reader.{GrantSeen, grantAt, Seen, Answer, read, structure, validity, readOf}
 use Rattle.narrowing_spec.specs.declared.Narrowing.{Narrowing}
 use Rattle.narrowing_spec.specs.declared.NarrowingNumbers.{NarrowingNumbers}

@@ -7,7 +7,7 @@ use mathlib.Core.Option.{none}
 use Prim.Native.Nat.{ℕ, _≤_, _<_}
 use lib.ListN.{length, getD}
 use Rattle.octets.specs.Bytes.{AreBytes}
-use Rattle.resource.specs.Pattern.{Path, IsPath}
+use Rattle.resource_spec.specs.Pattern.{Path, IsPath}
 use Rattle.entries.specs.Model.{pairCount}
 use Rattle.descriptor_spec.specs.Model.{Grant, Descriptor, encode}
 use Rattle.descriptor_spec.specs.Allowed.{Allowed}

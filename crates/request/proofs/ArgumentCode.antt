@@ -9,8 +9,8 @@ use lib.Dec.{leb, eqb}
 use borrow.Author.Tests.{le-leb, lt-leb, leb-true, eq-eqb, ne-eqb}
 use Rattle.octets.specs.Bytes.{part, same}
 use Rattle.octets.proofs.Tests.{and-left, and-right}
-use Rattle.resource.specs.Identifier.{isFay, isTerminal}
-use Rattle.resource.specs.Text.{resourceOk}
+use Rattle.resource_spec.specs.Identifier.{isFay, isTerminal}
+use Rattle.resource_spec.specs.Text.{resourceOk}
 use Rattle.steps.specs.Key.{isVerdict}
 use Rattle.descriptor_spec.specs.Allowed.{idSize}
 use Rattle.octets.proofs.PartLaws.{lent-part}

@@ -5,7 +5,7 @@ use mathlib.Core.List.{List}
 use Prim.Native.Nat.{ℕ, _+_, _-_, min}
 use lib.ListN.{length, take, drop}
 use borrow.Author.Tests.{eq-eqb, ne-eqb}
-use Rattle.resource.specs.Identifier.{levelsPlace, terminalSize}
+use Rattle.resource_spec.specs.Identifier.{levelsPlace, terminalSize}
 use Rattle.octets.specs.Bytes.{part, same}
 use Rattle.octets.proofs.PartLaws.{part-to-end, lent-part}
 use Rattle.descriptor_spec.specs.declared.Fields.{Fields}

@@ -7,14 +7,14 @@ use native.Mathlib.Omega.{arith}
 use lib.ListN.{take, drop}
 use lib.Dec.{eqb}
 use borrow.Author.Tests.{eq-eqb, ne-eqb}
-use Rattle.resource.specs.Identifier.{levelsPlace}
+use Rattle.resource_spec.specs.Identifier.{levelsPlace}
 use Rattle.octets.specs.Bytes.{part}
 use Rattle.exact.specs.Reads.{got, refused}
 use Rattle.resource.specs.declared.LevelStep.{LevelStep}
 use Rattle.resource.specs.declared.LevelStep.the-variants.{Differ}
-use Rattle.resource.specs.Level.{isDeep}
+use Rattle.resource_spec.specs.Level.{isDeep}
 use Rattle.resource.specs.Code.{stepOf}
-use Rattle.resource.specs.Text.{levelsMatch}
+use Rattle.resource_spec.specs.Text.{levelsMatch}
 use Rattle.resource.specs.Laws.{Stepped}
 use Rattle.resource.proofs.Laws.{step-decides}
 use Rattle.descriptor_spec.specs.Reader.{hasMode, GrantSeen, grantAt}

@@ -4,7 +4,7 @@ use mathlib.Core.List.{List}
 use Prim.Native.Nat.{ℕ, _+_, _≤_, min}
 use lib.ListN.{length}
 use lib.Dec.{eqb}
-use Rattle.resource.specs.Identifier.{faySize, terminalSize}
+use Rattle.resource_spec.specs.Identifier.{faySize, terminalSize}
 use Rattle.descriptor_spec.specs.declared.Fields.{Fields}
 use Rattle.descriptor_spec.specs.Reader.{hasMode}
 use Rattle.steps.specs.Order.{inOrder}

@@ -3,7 +3,7 @@ use descriptor::GrantFields;
 use descriptor::GrantRead;
 use request_spec::Matched;
 use resource::LevelStep;
-use resource::sizes::LEVELS_PLACE;
+use resource_spec::sizes::LEVELS_PLACE;
 ghost use mathlib.Core.Path.{_≡_};
 ghost use Prim.Native.Nat.{_≤_};
 ghost use Rattle.descriptor_spec.specs.Modes.{highestMode};

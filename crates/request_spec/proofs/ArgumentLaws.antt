@@ -6,8 +6,8 @@ use lib.ListN.{length}
 use lib.Dec.{leb, eqb}
 use borrow.Author.Tests.{leb-true}
 use Rattle.octets.proofs.Tests.{and-left, and-right}
-use Rattle.resource.specs.Identifier.{isFay, isTerminal}
-use Rattle.resource.specs.Text.{resourceOk}
+use Rattle.resource_spec.specs.Identifier.{isFay, isTerminal}
+use Rattle.resource_spec.specs.Text.{resourceOk}
 use Rattle.steps.specs.Key.{isVerdict}
 use Rattle.descriptor_spec.specs.Allowed.{idSize}
 use Rattle.descriptor_spec.specs.Modes.{highestMode}

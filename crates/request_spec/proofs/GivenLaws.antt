@@ -4,7 +4,7 @@ use mathlib.Core.Bool.{true, false≢true}
 use mathlib.Core.List.{List, [], _∷_}
 use Prim.Native.Nat.{ℕ, _+_, min}
 use Rattle.octets.proofs.Tests.{and-left}
-use Rattle.resource.specs.Text.{pathOf}
+use Rattle.resource_spec.specs.Text.{pathOf}
 use Rattle.descriptor_spec.specs.Model.{Grant, Descriptor}
 use Rattle.descriptor_spec.specs.Modes.{unionOf}
 use Rattle.steps.specs.Order.{AllPass}

@@ -6,11 +6,11 @@ use mathlib.Core.List.{List}
 use Prim.Native.Nat.{ℕ, suc, _+_, _<_}
 use lib.ListN.{take, drop}
 use lib.Dec.{eqb}
-use Rattle.resource.specs.Identifier.{levelsPlace, terminalSize}
+use Rattle.resource_spec.specs.Identifier.{levelsPlace, terminalSize}
 use Rattle.octets.specs.Bytes.{AreBytes, same}
 use Rattle.exact.specs.Reads.{got}
-use Rattle.resource.specs.Pattern.{admits}
-use Rattle.resource.specs.Text.{resourceOk, pathOf, patternOf, levelsMatch}
+use Rattle.resource_spec.specs.Pattern.{admits}
+use Rattle.resource_spec.specs.Text.{resourceOk, pathOf, patternOf, levelsMatch}
 use Rattle.entries.specs.Model.{pairCount}
 use Rattle.descriptor_spec.specs.Model.{Grant, Descriptor, encode}
 use Rattle.descriptor_spec.specs.Allowed.{isIn, GrantOk, Formed}
@@ -24,7 +24,7 @@ use Rattle.request_spec.specs.declared.Matched.the-variants.{Nothing}
 use Rattle.request_spec.specs.Decision.{serves, orNext, firstFrom, matchedOn}
 use Rattle.request_spec.specs.Meaning.{firstServing}
 use Rattle.request_spec.specs.Promises.{grantServes}
-use Rattle.resource.proofs.Laws.{admits-text}
+use Rattle.resource_spec.proofs.Laws.{admits-text}
 
 -- ---- one grant
 

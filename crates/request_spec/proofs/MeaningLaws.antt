@@ -6,7 +6,7 @@ use mathlib.Core.Option.{some}
 use Prim.Native.Nat.{ℕ, _<_}
 use native.Mathlib.Omega.{arith}
 use Rattle.octets.specs.Bytes.{AreBytes}
-use Rattle.resource.specs.Text.{resourceOk, pathOf}
+use Rattle.resource_spec.specs.Text.{resourceOk, pathOf}
 use Rattle.descriptor_spec.specs.declared.Fields.{Fields}
 use Rattle.descriptor_spec.specs.declared.Reading.the-variants.{Read}
 use Rattle.descriptor_spec.specs.Model.{Descriptor, encode}

@@ -6,8 +6,8 @@ use mathlib.Core.List.{List, []}
 use Prim.Native.Nat.{ℕ, _+_}
 use native.Mathlib.Omega.{arith}
 use Rattle.octets.proofs.Tests.{and-left}
-use Rattle.resource.specs.Pattern.{Path}
-use Rattle.resource.specs.Text.{resourceOk, pathOf}
+use Rattle.resource_spec.specs.Pattern.{Path}
+use Rattle.resource_spec.specs.Text.{resourceOk, pathOf}
 use Rattle.descriptor_spec.specs.Model.{Grant, Descriptor}
 use Rattle.descriptor_spec.specs.Allowed.{Allowed}
 use Rattle.steps.specs.Order.{Step, orElse, inOrder}

@@ -7,7 +7,7 @@ use Prim.Native.Nat.{ℕ, zero, suc, _+_, _<_}
 use native.Mathlib.Numerals.{add-one}
 use native.Mathlib.Omega.{arith}
 use lib.ListN.{length, getD}
-use Rattle.resource.specs.Pattern.{Path}
+use Rattle.resource_spec.specs.Pattern.{Path}
 use Rattle.descriptor_spec.specs.Model.{Grant}
 use Rattle.descriptor_spec.specs.Allowed.{GrantOk, All}
 use Rattle.descriptor_spec.specs.Modes.{unionOf}

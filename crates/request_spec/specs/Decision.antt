@@ -5,10 +5,10 @@ use mathlib.Core.List.{List, [], _∷_, _++_}
 use Prim.Native.Nat.{ℕ, zero, suc, _+_, _-_, min}
 use lib.ListN.{take, drop}
 use lib.Dec.{leb, ltb, eqb}
-use Rattle.resource.specs.Identifier.{faySize, levelsPlace, terminalSize}
+use Rattle.resource_spec.specs.Identifier.{faySize, levelsPlace, terminalSize}
 use Rattle.octets.specs.Bytes.{part, same}
 use Rattle.exact.specs.Reads.{got, refused}
-use Rattle.resource.specs.Text.{levelsMatch}
+use Rattle.resource_spec.specs.Text.{levelsMatch}
 use Rattle.descriptor_spec.specs.declared.Fields.{Fields}
 use Rattle.descriptor_spec.specs.Reader.{hasMode, GrantSeen, grantAt}
 use Rattle.steps.specs.declared.Window.{Window}

@@ -2,7 +2,7 @@
 use mathlib.Core.Path.{_≡_}
 use mathlib.Core.Bool.{true}
 use Prim.Native.Nat.{_≤_}
-use Rattle.resource.specs.Text.{resourceOk}
+use Rattle.resource_spec.specs.Text.{resourceOk}
 use Rattle.descriptor_spec.specs.Modes.{highestMode}
 use Rattle.request_spec.specs.Request.{Request, wellFormed}
 

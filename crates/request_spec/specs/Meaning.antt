@@ -2,8 +2,8 @@
 use mathlib.Core.Bool.{true}
 use mathlib.Core.List.{List, [], _∷_}
 use Prim.Native.Nat.{ℕ, _+_}
-use Rattle.resource.specs.Pattern.{Path}
-use Rattle.resource.specs.Text.{pathOf}
+use Rattle.resource_spec.specs.Pattern.{Path}
+use Rattle.resource_spec.specs.Text.{pathOf}
 use Rattle.descriptor_spec.specs.Model.{Grant, Descriptor}
 use Rattle.descriptor_spec.specs.View.{maskOf}
 use Rattle.steps.specs.Order.{inOrder}

@@ -8,9 +8,9 @@ use lib.ListN.{length, getD}
 use lib.Dec.{leb, ltb, eqb}
 use Rattle.octets.specs.Bytes.{AreBytes, part, same}
 use Rattle.octets.specs.Number.{numberAt}
-use Rattle.resource.specs.Identifier.{isFay, isTerminal}
-use Rattle.resource.specs.Pattern.{Path, admits}
-use Rattle.resource.specs.Text.{isResource, pathOf, patternOf}
+use Rattle.resource_spec.specs.Identifier.{isFay, isTerminal}
+use Rattle.resource_spec.specs.Pattern.{Path, admits}
+use Rattle.resource_spec.specs.Text.{isResource, pathOf, patternOf}
 use Rattle.entries.specs.Model.{pairCount}
 use Rattle.descriptor_spec.specs.Model.{Grant, Descriptor, encode}
 use Rattle.descriptor_spec.specs.Allowed.{isIn, Allowed}

@@ -5,8 +5,8 @@ use Prim.Native.Nat.{ℕ, zero, suc, _*_, _/_, _%_}
 use lib.ListN.{length}
 use lib.Dec.{leb, eqb}
 use Rattle.octets.specs.Bytes.{part, same}
-use Rattle.resource.specs.Identifier.{isFay, isTerminal}
-use Rattle.resource.specs.Text.{resourceOk}
+use Rattle.resource_spec.specs.Identifier.{isFay, isTerminal}
+use Rattle.resource_spec.specs.Text.{resourceOk}
 use Rattle.steps.specs.declared.Window.{Window}
 use Rattle.steps.specs.Key.{isVerdict}
 use Rattle.descriptor_spec.specs.Allowed.{idSize}

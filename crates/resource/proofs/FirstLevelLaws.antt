@@ -15,18 +15,18 @@ use Rattle.resource.specs.declared.LevelStep.{LevelStep}
 use Rattle.resource.specs.declared.LevelStep.the-variants.{Differ, Finish, Next}
 use Rattle.octets.specs.Bytes.{same}
 use Rattle.octets.specs.Scan.{bytesBefore, without}
-use Rattle.resource.specs.Level.{isStar, isDeep, levels}
-use Rattle.resource.specs.Pattern.{Levels, done, deep, matches}
-use Rattle.resource.specs.Text.{withLevel, levelsOf, levelsMatch}
+use Rattle.resource_spec.specs.Level.{isStar, isDeep, levels}
+use Rattle.resource_spec.specs.Pattern.{Levels, done, deep, matches}
+use Rattle.resource_spec.specs.Text.{withLevel, levelsOf, levelsMatch}
 use Rattle.resource.specs.Code.{levelLength, nameStep, starFirst, starStep, stepOf}
 use Rattle.resource.specs.Laws.{alike, Firsts, FirstLevels, Goes, Stepped, StepLevels, FirstStar, StepDecides, DeepMatches}
 use Rattle.octets.proofs.Tests.{by-cond, no-flag}
 use Rattle.octets.proofs.SameLaws.{same-equal}
 use Rattle.octets.proofs.PartLaws.{part-to-end}
 use Rattle.octets.proofs.ScanLaws.{before-other, without-first, without-rest}
-use Rattle.resource.proofs.LevelLaws.{levels-one, levels-more, levels-some}
-use Rattle.resource.proofs.ScanLaws.{Parted, last, more, parted, drop-more}
-use Rattle.resource.proofs.SpellLaws.{first-spelled}
+use Rattle.resource_spec.specs.Laws.{Parted, last, more}
+use Rattle.resource_spec.proofs.Laws.{each-parted, levels-one, levels-more, levels-some, spelled-first}
+use Rattle.resource.proofs.ScanCode.{drop-more}
 
 -- ---- a name against a name, by its first bytes
 
@@ -282,11 +282,11 @@ front-told (front l a h e) (front k b g f) =
 
 -- what it says of each two texts
 pub first-levels : StepLevels
-first-levels p r = front-told (front-of (parted p)) (front-of (parted r))
+first-levels p r = front-told (front-of (each-parted p)) (front-of (each-parted r))
 
 -- the first level of each text, and whether it is "*"
 pub star-level : FirstStar
-star-level s = go (front-of (parted s))
+star-level s = go (front-of (each-parted s))
   where
     go : {x : List ℕ} → Front x → (l : List ℕ) × (ls : List (List ℕ)) × (levels x ≡ l ∷ ls) × (starFirst x ≡ isStar l)
     go (front l a h e) = (l, tailLevels a, front-levels l h e, front-star l h e)
@@ -322,7 +322,7 @@ first-match : (p r : List ℕ) (ls ks : List (List ℕ)) (t : Bool) → Firsts p
     → levelsMatch p r ≡ (t && matches (levelsOf ls) ks)
 unfolding levelsMatch
 first-match p r ls ks t f d =
-    rw (f .of-p, f .of-r, first-spelled p (f .first-p) ls (f .of-p) d)
+    rw (f .of-p, f .of-r, spelled-first p (f .first-p) ls (f .of-p) d)
     (level-match (f .first-p) (f .first-r) (levelsOf ls) ks ∙ ap (λ (b : Bool). b && matches (levelsOf ls) ks) (f .fit))
 
 -- where the levels after the first are not alike, or the first do not fit, the texts do not match

@@ -1,12 +1,5 @@
-pub mod LevelLaws
-pub mod CharLaws
-pub mod FormLaws
-pub mod WithoutLaws
-pub mod ScanLaws
-pub mod TextLaws
+pub mod FormCode
+pub mod ScanCode
+pub mod TextCode
 pub mod FirstLevelLaws
-pub mod SpellLaws
-pub mod MatchLaws
-pub mod CoverLaws
-pub mod Promises
 pub mod Laws

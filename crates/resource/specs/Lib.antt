@@ -1,9 +1,2 @@
-pub mod Characters
-pub mod Identifier
-pub mod Level
-pub mod Pattern
-pub mod Text
 pub mod Code
-pub mod Cover
-pub mod Promises
 pub mod Laws

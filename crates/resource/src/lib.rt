@@ -1,29 +1,15 @@
-// Identifiers, resource ids, patterns and matching, as document 01 has them. Nothing here knows of CBOR. What is promised is in
-// specs/Promises.antt.
+// The functions over identifiers, resource ids and patterns. What they are and what is promised of them is in `resource_spec`.
 mod ids;
 mod levels;
 mod matcher;
-pub mod sizes;
 
+pub use resource_spec::Matching;
+pub use resource_spec::MatchingNumbers;
 ghost use mathlib.Core.Path.{_≡_};
-ghost use Rattle.resource.specs.Identifier.{isFay, isTerminal};
-ghost use Rattle.resource.specs.Level.{isDeep};
-ghost use Rattle.resource.specs.Text.{resourceOk, patternOk, matching};
+ghost use Rattle.resource_spec.specs.Identifier.{isFay, isTerminal};
+ghost use Rattle.resource_spec.specs.Level.{isDeep};
+ghost use Rattle.resource_spec.specs.Text.{resourceOk, patternOk, matching};
 ghost use Rattle.resource.specs.Code.{stepOf};
-
-// What matching two texts answers; Malformed is document 01's 15.
-pub enum Matching {
-    Yes,
-    No,
-    Malformed,
-}
-
-// A matching in document 01's numbers, as include/cap.h has them: the answer, 0 or 15; and 1 for yes.
-#[repr(C)]
-pub struct MatchingNumbers {
-    pub answer: u64,
-    pub yes: u64,
-}
 
 // The first levels of a pattern and of a path: they do not match; they match and are the last; or they match, and "/" follows the
 // p bytes of the one and the r bytes of the other.

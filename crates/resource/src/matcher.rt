@@ -3,11 +3,11 @@ use crate::LevelStep;
 use crate::Matching;
 use crate::levels::pattern;
 use crate::levels::resource;
-use crate::sizes::LEVELS_PLACE;
-use crate::sizes::TERMINAL_SIZE;
+use resource_spec::sizes::LEVELS_PLACE;
+use resource_spec::sizes::TERMINAL_SIZE;
 ghost use mathlib.Core.Path.{_≡_};
-ghost use Rattle.resource.specs.Level.{isDeep};
-ghost use Rattle.resource.specs.Text.{levelsMatch, matching};
+ghost use Rattle.resource_spec.specs.Level.{isDeep};
+ghost use Rattle.resource_spec.specs.Text.{levelsMatch, matching};
 ghost use Rattle.resource.specs.Code.{levelLength, nameStep, starFirst, starStep, stepOf};
 
 // A name of p against a name of r.

@@ -1,6 +1,6 @@
 -- `cap_match` meets its contract. Assumes nothing.
 use mathlib.Core.Path.{ap, _∙_}
-use Rattle.resource.specs.Text.{numbersOf}
+use Rattle.resource_spec.specs.Text.{numbersOf}
 use Rattle.octets.proofs.BytesLaws.{are-bytes}
 use borrow.Author.Needs.{needs}
 use Rattle.cap.proofs.cap_match.Statement.{statement}

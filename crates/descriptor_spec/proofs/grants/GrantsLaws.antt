@@ -5,7 +5,7 @@ use Prim.Native.Nat.{ℕ, suc, _+_, _-_, _≤_}
 use native.Mathlib.Omega.{arith}
 use lib.ListN.{length, take}
 use lib.Dec.{lit<}
-use Rattle.resource.specs.Identifier.{terminalSize}
+use Rattle.resource_spec.specs.Identifier.{terminalSize}
 use Rattle.octets.specs.Bytes.{AreBytes, part, Has, same}
 use Rattle.exact.specs.Reads.{Reads, encOpt, encAll, AllFrom, viewAll}
 use Rattle.cbor_item_spec.specs.Encoding.{head}
@@ -20,7 +20,7 @@ use Rattle.descriptor_spec.specs.Reader.{Sum, addGrant, moreAt, grantsAt
 use Rattle.descriptor_spec.specs.View.{grantView, sumFrom, grantsRest, grantsView}
 use Rattle.octets.proofs.TruthLaws.{same-test}
 use Rattle.entries.proofs.ValueLaws.{count-exact}
-use Rattle.resource.proofs.Laws.{pattern-short}
+use Rattle.resource_spec.proofs.Laws.{pattern-short}
 use Rattle.descriptor_spec.proofs.grants.GrantLaws.{grant-exact}
 
 -- ---- what is allowed

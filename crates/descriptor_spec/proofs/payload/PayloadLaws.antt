@@ -6,14 +6,14 @@ use Prim.Native.Nat.{ℕ, _+_, _≤_, _<_}
 use native.Mathlib.Omega.{arith}
 use lib.ListN.{length}
 use lib.Dec.{T, leb, ltb, eqb, lit<}
-use Rattle.resource.specs.Identifier.{terminalSize}
+use Rattle.resource_spec.specs.Identifier.{terminalSize}
 use Rattle.octets.specs.Bytes.{AreBytes, part, Has, same}
 use Rattle.octets.proofs.BytesLaws.{has-left, has-right, has-part}
 use Rattle.octets.proofs.TruthLaws.{eqb-test, leb-test, ltb-test, same-test, and-test}
 use Rattle.exact.specs.Reads.{Reads}
 use Rattle.exact.proofs.ReadsLaws.{recast, seq, refine}
 use Rattle.cbor_item_spec.specs.Encoding.{head}
-use Rattle.resource.proofs.Laws.{terminal-length}
+use Rattle.resource_spec.proofs.Laws.{terminal-length}
 use Rattle.entries.specs.declared.value.Kind.the-variants.{Text}
 use Rattle.entries.specs.Keys.{kMetadata, kGrantorId, kTerminalId}
 use Rattle.entries.specs.Model.{size, encText}

@@ -11,7 +11,7 @@ use Rattle.octets.proofs.BytesLaws.{has-left, has-clash}
 use Rattle.exact.specs.Reads.{Reads, OptOk}
 use Rattle.exact.proofs.ReadsLaws.{seq, keyed, mapped}
 use Rattle.cbor_item_spec.specs.Encoding.{head}
-use Rattle.resource.specs.Identifier.{isFay, isTerminal}
+use Rattle.resource_spec.specs.Identifier.{isFay, isTerminal}
 use Rattle.entries.specs.declared.value.Kind.the-variants.{Text, Bytes, Terminal, Fay}
 use Rattle.entries.specs.Keys.{kMetadata, kIssuedAt, kIssuerId, kNotAfter, kGrantorId, kNotBefore, kTerminalId, kDescriptorId}
 use Rattle.entries.specs.Keys.{kSubjectFayId}

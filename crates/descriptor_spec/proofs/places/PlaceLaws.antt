@@ -3,7 +3,7 @@ use mathlib.Core.Path.{_≡_, sym, ap, _∙_, subst}
 use mathlib.Core.List.{List, _++_}
 use Prim.Native.Nat.{ℕ, _+_}
 use lib.ListN.{length}
-use Rattle.resource.specs.Identifier.{faySize, terminalSize}
+use Rattle.resource_spec.specs.Identifier.{faySize, terminalSize}
 use Rattle.octets.specs.Bytes.{Has, part}
 use Rattle.cbor_item_spec.specs.Encoding.{head}
 use Rattle.octets.proofs.BytesLaws.{has-left, has-right, has-part}
@@ -13,7 +13,7 @@ use Rattle.descriptor_spec.specs.Model.{Payload, Descriptor, encode}
 use Rattle.descriptor_spec.specs.Allowed.{Formed}
 use Rattle.descriptor_spec.specs.Reader.{beforePayload}
 use Rattle.descriptor_spec.specs.View.{keysOf, descriptorView}
-use Rattle.resource.proofs.Laws.{terminal-length, fay-length}
+use Rattle.resource_spec.proofs.Laws.{terminal-length, fay-length}
 use Rattle.descriptor_spec.proofs.grants.GrantsLaws.{encKeyed}
 use Rattle.descriptor_spec.proofs.payload.PieceLaws.{issueBytes, grantorBytes, idsBytes}
 use Rattle.descriptor_spec.proofs.payload.PayloadLaws.{issueOf, grantorOf, idsOf, pieces-encode}

@@ -5,7 +5,7 @@ use Prim.Native.Nat.{ℕ, zero, suc, _+_, _-_}
 use native.Mathlib.Nat.{sub-zero, zero-sub, suc-sub-suc}
 use lib.ListN.{length, take, drop}
 use lib.Seq.{take-nil, drop-drop}
-use Rattle.resource.specs.Identifier.{levelsPlace, terminalSize}
+use Rattle.resource_spec.specs.Identifier.{levelsPlace, terminalSize}
 use Rattle.octets.specs.Bytes.{AreBytes, part, Has}
 use Rattle.exact.specs.Reads.{encAll}
 use Rattle.octets.proofs.BytesLaws.{has-left, has-right, has-part}

@@ -9,11 +9,11 @@ use native.Mathlib.Omega.{arith}
 use lib.ListN.{length, take}
 use lib.Dec.{leb, ltb, eqb}
 use borrow.Author.Tests.{leb-true, le-leb, eqb-false, ne-eqb}
-use Rattle.resource.specs.Identifier.{terminalSize}
+use Rattle.resource_spec.specs.Identifier.{terminalSize}
 use Rattle.cbor_item_spec.specs.Encoding.{head}
 use Rattle.exact.specs.Reads.{OptOk, AllFrom}
 use Rattle.octets.proofs.Tests.{by-cond, and-left, and-right, and-both}
-use Rattle.resource.specs.Text.{isPattern, longestText, patternOk}
+use Rattle.resource_spec.specs.Text.{isPattern, longestText, patternOk}
 use Rattle.entries.specs.Model.{Pair}
 use Rattle.entries.specs.Allowed.{TextOk, PairOk, keyOf, PairsOk}
 use Rattle.descriptor_spec.specs.Model.{Grant, Descriptor}

@@ -1,6 +1,6 @@
 -- `compared` meets its contract. Assumes nothing.
 use mathlib.Core.Path.{_∙_}
-use Rattle.resource.specs.Identifier.{terminalSize}
+use Rattle.resource_spec.specs.Identifier.{terminalSize}
 use Rattle.octets.proofs.PartLaws.{start-parts}
 use Rattle.narrowing.proofs.NarrowCode.{parent-constrained, child-constrained, begins-early, ends-late, compared-first}
 use native.Mathlib.Omega.{arith}

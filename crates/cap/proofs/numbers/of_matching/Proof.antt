@@ -1,6 +1,6 @@
 -- `of_matching` meets its contract. Assumes nothing.
 use mathlib.Core.Path.{sym, ap}
-use Rattle.resource.specs.Text.{numbersOf}
+use Rattle.resource_spec.specs.Text.{numbersOf}
 use borrow.Author.Needs.{needs}
 use Rattle.cap.proofs.numbers.of_matching.Statement.{statement}
 use Rattle.cap.proofs.numbers.of_matching.Tie as tie

@@ -7,7 +7,7 @@ use lib.ListN.{length}
 use borrow.Author.Needs.{needs}
 use borrow.Fn.Kinds.{In}
 use borrow.Fn.PlainCycle.{Measures, is, falls, and}
-use Rattle.resource.specs.Level.{isDeep, levels}
+use Rattle.resource_spec.specs.Level.{isDeep, levels}
 use Rattle.resource.proofs.step_levels.Reads as step-levels-reads
 use Rattle.narrowing.proofs.CoverCode.{Goes, Stepped, step-decides, next-fewer, next-same, deep-matches, fresh-told}
 use Rattle.narrowing.proofs.range.cover.Reads as cover

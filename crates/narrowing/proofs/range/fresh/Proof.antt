@@ -5,7 +5,7 @@ use Prim.Native.Nat.{_+_, _≤_}
 use native.Mathlib.Omega.{arith}
 use lib.ListN.{length}
 use borrow.Author.Needs.{needs}
-use Rattle.resource.specs.Level.{isDeep}
+use Rattle.resource_spec.specs.Level.{isDeep}
 use Rattle.narrowing.proofs.CoverCode.{freshOf, fresh-deep, fresh-none, fresh-other, fresh-second, fresh-last, fresh-more}
 use Rattle.narrowing.proofs.CoverCode.{after-two}
 use Rattle.narrowing.proofs.range.fresh.Statement.{statement}

@@ -5,7 +5,7 @@ use Prim.Native.Nat.{_+_, _*_, _≤_, _<_}
 use native.Mathlib.Omega.{arith}
 use lib.ListN.{length}
 use borrow.Author.Needs.{needs}
-use Rattle.resource.specs.Identifier.{levelsPlace}
+use Rattle.resource_spec.specs.Identifier.{levelsPlace}
 use Rattle.descriptor_spec.specs.Code.{grantRead}
 use Rattle.descriptor.proofs.GrantBounds.{pattern-room}
 use Rattle.narrowing.proofs.TableLaws.{Begun, written-length, second-room, third-room, begun-first, begun-next, begun-stop}

@@ -3,7 +3,7 @@ use mathlib.Core.Path.{_≡_, sym, ap, _∙_}
 use Prim.Native.Nat.{ℕ, _+_, _-_, _≤_}
 use native.Mathlib.Omega.{arith}
 use lib.ListN.{length}
-use Rattle.resource.specs.Identifier.{levelsPlace}
+use Rattle.resource_spec.specs.Identifier.{levelsPlace}
 use Rattle.descriptor_spec.specs.declared.GrantRead.the-variants.{IsGrant}
 use Rattle.descriptor_spec.specs.Code.{grantRead}
 use Rattle.descriptor_spec.specs.Reader.{grantAt}

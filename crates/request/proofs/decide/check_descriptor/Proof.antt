@@ -4,7 +4,7 @@ use mathlib.Core.Bool.{true}
 use lib.Dec.{leb, ltb}
 use borrow.Author.Tests.{lt-ltb, le-ltb, le-leb, lt-leb, not-true, not-false}
 use borrow.Author.Needs.{needs}
-use Rattle.resource.specs.Identifier.{faySize, terminalSize}
+use Rattle.resource_spec.specs.Identifier.{faySize, terminalSize}
 use Rattle.octets.specs.Bytes.{part, same}
 use Rattle.steps.specs.Laws.{ends, passes, fails}
 use Rattle.request_spec.specs.declared.Matched.{Matched}

@@ -4,8 +4,8 @@ use native.Mathlib.Omega.{arith}
 use lib.Seq.{length-take-le}
 use borrow.Author.Tests.{not-true, not-false}
 use borrow.Author.Needs.{needs}
-use Rattle.resource.specs.Identifier.{terminalSize}
-use Rattle.resource.proofs.Laws.{resource-short}
+use Rattle.resource_spec.specs.Identifier.{terminalSize}
+use Rattle.resource_spec.proofs.Laws.{resource-short}
 use Rattle.request.proofs.DecideCode.{matched-other, matched-first}
 use Rattle.request.proofs.decide.match_grant.Statement.{statement}
 use Rattle.request.proofs.decide.match_grant.Tie as tie

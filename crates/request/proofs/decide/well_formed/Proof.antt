@@ -3,7 +3,7 @@ use mathlib.Core.Path.{_≡_, sym, _∙_}
 use mathlib.Core.Bool.{true}
 use borrow.Author.Tests.{not-true, not-false}
 use borrow.Author.Needs.{needs}
-use Rattle.resource.specs.Identifier.{isFay, isTerminal}
+use Rattle.resource_spec.specs.Identifier.{isFay, isTerminal}
 use Rattle.request.proofs.ArgumentCode.{no-verdict, no-mode, no-id, no-fay, no-terminal, no-resource, list-left}
 use Rattle.request.proofs.decide.well_formed.Statement.{statement}
 use Rattle.request.proofs.decide.well_formed.Tie as tie

@@ -8,8 +8,8 @@ use Prim.Native.Nat.{_+_, _-_, _^_, _≤_, _<_}
 use native.Mathlib.Omega.{arith}
 use lib.ListN.{length}
 use borrow.Author.Needs.{needs}
-use Rattle.resource.specs.Identifier.{levelsPlace}
-use Rattle.resource.specs.Text.{levelsMatch}
+use Rattle.resource_spec.specs.Identifier.{levelsPlace}
+use Rattle.resource_spec.specs.Text.{levelsMatch}
 use Rattle.octets.proofs.PartLaws.{part-shorter}
 use Rattle.resource.specs.Laws.{Goes, Stepped}
 use Rattle.resource.proofs.Laws.{step-decides, deep-matches, next-same}

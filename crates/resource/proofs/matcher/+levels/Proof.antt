@@ -6,7 +6,7 @@ use lib.ListN.{length}
 use borrow.Author.Needs.{needs}
 use borrow.Fn.Kinds.{In}
 use borrow.Fn.PlainCycle.{Measures, is, falls, and}
-use Rattle.resource.specs.Level.{levels as levelsIn}
+use Rattle.resource_spec.specs.Level.{levels as levelsIn}
 use Rattle.resource.specs.Laws.{Goes, Stepped}
 use Rattle.resource.proofs.FirstLevelLaws.{step-tells, next-fewer, next-decides, deep-tells}
 use Rattle.resource.proofs.matcher.levels.Reads as levels

@@ -3,9 +3,9 @@ use mathlib.Core.Path.{_≡_, refl, sym, subst}
 use mathlib.Core.Bool.{Bool, true, false, _&&_}
 use Prim.Native.Nat.{ℕ, zero, suc, _+_, _<_}
 use native.Mathlib.Omega.{arith}
-use Rattle.resource.specs.Characters.{codes, oneOf}
-use Rattle.resource.specs.Identifier.{isHex}
-use Rattle.resource.specs.Level.{isNameChar}
+use Rattle.resource_spec.specs.Characters.{codes, oneOf}
+use Rattle.resource_spec.specs.Identifier.{isHex}
+use Rattle.resource_spec.specs.Level.{isNameChar}
 use Rattle.octets.proofs.Tests.{and-left, and-right, no-flag}
 
 -- two tests answer alike

@@ -8,10 +8,10 @@ use borrow.Author.Tests.{not-true}
 use Rattle.octets.specs.Scan.{without}
 use Rattle.octets.proofs.Tests.{and-left, and-right, no-flag}
 use Rattle.octets.proofs.ScanLaws.{other-by, without-more, without-append}
-use Rattle.resource.specs.Identifier.{isHex, Slot, fits, hasForm, uuidForm, terminalForm, isTerminal}
-use Rattle.resource.specs.Level.{isNameChar, allNameChars, isName, joined}
-use Rattle.resource.specs.Pattern.{Levels, done, deep, name, star, AllNames, NamesIn, spelled}
-use Rattle.resource.specs.Laws.{PatternSpaceless}
+use Rattle.resource_spec.specs.Identifier.{isHex, Slot, fits, hasForm, uuidForm, terminalForm, isTerminal}
+use Rattle.resource_spec.specs.Level.{isNameChar, allNameChars, isName, joined}
+use Rattle.resource_spec.specs.Pattern.{Levels, done, deep, name, star, AllNames, NamesIn, spelled}
+use Rattle.resource_spec.specs.Laws.{PatternSpaceless}
 
 -- c fits no slot of a form
 abbrev pub fitsNone : ℕ → List Slot → Bool

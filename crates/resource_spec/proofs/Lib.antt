@@ -1,0 +1,9 @@
+pub mod LevelLaws
+pub mod CharLaws
+pub mod WithoutLaws
+pub mod TextLaws
+pub mod SpellLaws
+pub mod MatchLaws
+pub mod CoverLaws
+pub mod Promises
+pub mod Laws

@@ -13,7 +13,7 @@ use Rattle.resource_spec.specs.Identifier.{isFay, isTerminal}
 use Rattle.resource_spec.specs.Pattern.{Path, IsPath, admits}
 use Rattle.resource_spec.specs.Text.{isResource, pathOf, patternOf}
 use Rattle.resource_spec.proofs.Promises.{resources-exact, resources-once}
-use Rattle.entries.specs.Model.{pairCount}
+use Rattle.entries_spec.specs.Model.{pairCount}
 use Rattle.descriptor_spec.specs.Model.{Grant, Descriptor, encode}
 use Rattle.descriptor_spec.specs.Allowed.{isIn}
 use Rattle.request_spec.specs.Request.{Request}

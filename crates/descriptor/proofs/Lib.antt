@@ -1,4 +1,5 @@
+pub mod RoomCode
 pub mod ModeCode
-pub mod GrantBounds
-pub mod PayloadBounds
+pub mod GrantCode
+pub mod PayloadCode
 pub mod ReadCode

@@ -18,7 +18,7 @@ ghost use Prim.Native.Nat.{_+_, _≤_, _<_};
 ghost use lib.ListN.{length};
 ghost use lib.Dec.{eqb};
 ghost use Rattle.exact.specs.Reads.{got, guard};
-ghost use Rattle.entries.specs.Value.{flag};
+ghost use Rattle.entries_spec.specs.Value.{flag};
 ghost use Rattle.resource_spec.specs.Identifier.{terminalSize};
 ghost use Rattle.descriptor_spec.specs.Reader.{grantAt, moreAt, grantsAt};
 ghost use Rattle.descriptor_spec.specs.Code.{grantOf, grantRead};

@@ -3,6 +3,7 @@ pub mod grants
 pub mod payload
 pub mod whole
 pub mod places
+pub mod bounds
 pub mod handed
 pub mod Laws
 pub mod Promises

@@ -9,7 +9,7 @@ use lib.Dec.{eqb}
 use Rattle.exact.specs.Reads.{OptOk, AllFrom}
 use Rattle.resource_spec.specs.Identifier.{isFay, isTerminal, terminalSize}
 use Rattle.resource_spec.specs.Text.{patternOk}
-use Rattle.entries.specs.Allowed.{TextOk, TimeOk, PairsOk, SignatureOk}
+use Rattle.entries_spec.specs.Allowed.{TextOk, TimeOk, PairsOk, SignatureOk}
 use Rattle.descriptor_spec.specs.Model.{Grant, Payload, Descriptor, encode}
 
 -- m is one of those

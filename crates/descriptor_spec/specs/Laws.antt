@@ -3,16 +3,19 @@
 use mathlib.Core.Path.{_≡_}
 use mathlib.Core.Logic.{_↔_}
 use mathlib.Core.List.{List, [], _∷_}
-use Prim.Native.Nat.{ℕ, suc, _+_, _-_, _<_}
+use Prim.Native.Nat.{ℕ, suc, _+_, _-_, _≤_, _<_}
 use lib.ListN.{length, take, drop, getD}
-use Rattle.resource_spec.specs.Identifier.{levelsPlace, terminalSize}
+use Rattle.resource_spec.specs.Identifier.{faySize, levelsPlace, terminalSize}
 use Rattle.octets.specs.Bytes.{AreBytes, part}
 use Rattle.exact.specs.Reads.{got}
-use Rattle.entries.specs.Model.{pairCount}
+use Rattle.exact.specs.Holds.{Holds}
+use Rattle.entries_spec.specs.Keys.{kModes}
+use Rattle.entries_spec.specs.Model.{pairCount}
 use Rattle.descriptor_spec.specs.Model.{Grant, Descriptor, encode}
-use Rattle.descriptor_spec.specs.Allowed.{isIn, GrantOk, longestPeriod, period, Formed, Allowed}
+use Rattle.descriptor_spec.specs.Allowed.{isIn, idSize, GrantOk, longestPeriod, period, Formed, Allowed}
 use Rattle.descriptor_spec.specs.Modes.{unionOf}
-use Rattle.descriptor_spec.specs.Reader.{hasMode, GrantSeen, Seen, read, structure, validity, readOf, grantAt}
+use Rattle.descriptor_spec.specs.Reader.{hasMode, modeAt, modesAt, GrantSeen, grantAt, Sum, moreAt, GrantsSeen, grantsAt, Ids, idsAt}
+use Rattle.descriptor_spec.specs.Reader.{PayloadSeen, payloadAt, Seen, descriptorAt, read, structure, validity, readOf}
 use Rattle.descriptor_spec.specs.View.{maskOf, grantView, descriptorView, grantPlace}
 use Rattle.descriptor_spec.specs.Code.{readingOf}
 use Rattle.descriptor_spec.specs.Numbers.{numbersOf, grantNumbers}
@@ -92,3 +95,76 @@ abbrev pub GrantsInTurn : Type 0
 GrantsInTurn = (d : Descriptor) → AreBytes (encode d) → Formed d
     → let v = descriptorView 0 d .payload .grants
     in InTurn (encode d) (d .payload .terminal) (v .count) (v .start) (d .payload .grants)
+
+-- ---- where what is read lies, for any bytes
+
+-- a mask below 16, and a place not before b
+abbrev pub MaskTo : ℕ → ℕ → ℕ → Type 0
+MaskTo b mask n = (mask < 16) × (b ≤ n)
+
+-- a mask with one mode more stays below 16
+abbrev pub ModeBounds : Type 0
+ModeBounds = (s : List ℕ) (mask b at : ℕ) → mask < 16 → b ≤ at → Holds (MaskTo b) (modeAt s mask at)
+
+-- the mask of modes is below 16, and they end not before their key does
+abbrev pub ModesBounds : Type 0
+ModesBounds = (s : List ℕ) (at : ℕ) → Holds (MaskTo (at + length kModes)) (modesAt s at)
+
+-- a grant: its pattern has at least 46 bytes and lies within s, its pairs are few, and its mask is below 16
+pub record GrantIn (s : List ℕ) (at : ℕ) (g : GrantSeen) (n : ℕ) : Type 0 where
+  pub after : at ≤ n
+  pub long : levelsPlace ≤ g .pattern .len
+  pub fits : g .pattern .start + g .pattern .len ≤ length s
+  pub few : g .pairs ≤ 8
+  pub small : g .mask < 16
+
+abbrev pub GrantBounds : Type 0
+GrantBounds = (s : List ℕ) (at : ℕ) → Holds (GrantIn s at) (grantAt s at)
+
+-- the pattern of a grant that was read has at least 46 bytes, and ends within s
+abbrev pub PatternRoom : Type 0
+PatternRoom = (s : List ℕ) (at : ℕ) (g : GrantSeen) (n : ℕ) → got g n ≡ grantAt s at
+    → (levelsPlace ≤ g .pattern .len) × (g .pattern .start + g .pattern .len ≤ length s)
+
+-- the sum after one more grant: it has at most 8 pairs more, and its mask stays below 16
+pub record MoreIn (sum : Sum) (at : ℕ) (more : Sum) (n : ℕ) : Type 0 where
+  pub after : at ≤ n
+  pub few : more .pairs ≤ sum .pairs + 8
+  pub small : sum .mask < 16 → more .mask < 16
+
+abbrev pub MoreBounds : Type 0
+MoreBounds = (s : List ℕ) (first : ℕ) (sum : Sum) (at : ℕ) → Holds (MoreIn sum at) (moreAt s first sum at)
+
+-- grants: the first pattern's terminal id lies within s, and the mask is below 16
+pub record GrantsIn (s : List ℕ) (at : ℕ) (g : GrantsSeen) (n : ℕ) : Type 0 where
+  pub after : at ≤ n
+  pub first : g .first + terminalSize ≤ length s
+  pub small : g .sum .mask < 16
+
+abbrev pub GrantsBounds : Type 0
+GrantsBounds = (s : List ℕ) (at : ℕ) → Holds (GrantsIn s at) (grantsAt s at)
+
+-- terminal_id, descriptor_id and subject_fay_id lie within s
+pub record IdsIn (s : List ℕ) (at : ℕ) (ids : Ids) (n : ℕ) : Type 0 where
+  pub after : at ≤ n
+  pub terminal : ids .terminal + terminalSize ≤ length s
+  pub id : ids .id + idSize ≤ length s
+  pub fay : ids .fay + faySize ≤ length s
+
+abbrev pub IdsBounds : Type 0
+IdsBounds = (s : List ℕ) (at : ℕ) → Holds (IdsIn s at) (idsAt s at)
+
+-- a payload: its period is not empty, its mask is below 16, and its ids lie within s
+pub record PayloadIn (s : List ℕ) (p : PayloadSeen) : Type 0 where
+  pub lasts : p .notBefore < p .notAfter
+  pub small : p .grants .sum .mask < 16
+  pub terminal : p .terminal + terminalSize ≤ length s
+  pub id : p .id + idSize ≤ length s
+  pub fay : p .fay + faySize ≤ length s
+
+abbrev pub PayloadBounds : Type 0
+PayloadBounds = (s : List ℕ) (at : ℕ) → Holds (λ p n. (at ≤ n) × PayloadIn s p) (payloadAt s at)
+
+-- so is the payload of each descriptor that is answered
+abbrev pub DescriptorBounds : Type 0
+DescriptorBounds = (s : List ℕ) (at : ℕ) → Holds (λ v n. PayloadIn s (v .payload)) (descriptorAt s at)

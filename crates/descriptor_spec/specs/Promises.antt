@@ -18,11 +18,11 @@ use Rattle.resource_spec.specs.Identifier.{isFay, isTerminal}
 use Rattle.resource_spec.specs.Text.{isPattern}
 use Rattle.descriptor_spec.specs.declared.DescriptorNumbers.{DescriptorNumbers}
 use Rattle.descriptor_spec.specs.declared.GrantNumbers.{GrantNumbers}
-use Rattle.entries.specs.Keys.{kPayload, kVersion, kSignature, kGrants, kMetadata, kIssuedAt, kIssuerId, kNotAfter, kGrantorId}
-use Rattle.entries.specs.Keys.{kNotBefore, kTerminalId, kDescriptorId, kSubjectFayId, kKeyId, kAlgorithm, kSignatureValue, kModes}
-use Rattle.entries.specs.Keys.{kConstraints, kResourcePattern, ed25519, ecdsaP256Sha256, mRead, mWrite, mExecute, mConfigure}
-use Rattle.entries.specs.Model.{Pair, Signature, encPairs, encAlgorithm, encSignature}
-use Rattle.entries.specs.Allowed.{PairsOk}
+use Rattle.entries_spec.specs.Keys.{kPayload, kVersion, kSignature, kGrants, kMetadata, kIssuedAt, kIssuerId, kNotAfter, kGrantorId}
+use Rattle.entries_spec.specs.Keys.{kNotBefore, kTerminalId, kDescriptorId, kSubjectFayId, kKeyId, kAlgorithm, kSignatureValue, kModes}
+use Rattle.entries_spec.specs.Keys.{kConstraints, kResourcePattern, ed25519, ecdsaP256Sha256, mRead, mWrite, mExecute, mConfigure}
+use Rattle.entries_spec.specs.Model.{Pair, Signature, encPairs, encAlgorithm, encSignature}
+use Rattle.entries_spec.specs.Allowed.{PairsOk}
 use Rattle.descriptor_spec.specs.Model.{Grant, Payload, Descriptor, encMode, encGrant, encodePayload, encode}
 use Rattle.descriptor_spec.specs.Allowed.{longest, longestPeriod, Formed, Allowed}
 use Rattle.octets.specs.Order.{before}

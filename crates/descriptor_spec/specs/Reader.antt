@@ -10,12 +10,12 @@ use Rattle.octets.specs.Bytes.{part, same}
 use Rattle.octets.specs.Span.{Span, spanOf}
 use Rattle.exact.specs.Reads.{Got, got, refused, bind, guard, many}
 use Rattle.resource_spec.specs.Identifier.{terminalSize}
-use Rattle.entries.specs.declared.value.Kind.the-variants.{Text, Bytes, Terminal, Fay, Pattern}
-use Rattle.entries.specs.declared.value.Optional.{Optional}
-use Rattle.entries.specs.Keys.{kPayload, kVersion, kSignature, kGrants, kMetadata, kIssuedAt, kIssuerId, kNotAfter, kGrantorId, kNotBefore}
-use Rattle.entries.specs.Keys.{kTerminalId, kDescriptorId, kSubjectFayId, kKeyId, kModes, kConstraints, kResourcePattern}
-use Rattle.entries.specs.Value.{countAt, timeAt, kindAt, oneOf, keyedAt, flag, optKindAt}
-use Rattle.entries.specs.Reader.{optPairsAt, SignatureSeen, signatureAt}
+use Rattle.entries_spec.specs.declared.Kind.the-variants.{Text, Bytes, Terminal, Fay, Pattern}
+use Rattle.entries_spec.specs.declared.Optional.{Optional}
+use Rattle.entries_spec.specs.Keys.{kPayload, kVersion, kSignature, kGrants, kMetadata, kIssuedAt, kIssuerId, kNotAfter, kGrantorId, kNotBefore}
+use Rattle.entries_spec.specs.Keys.{kTerminalId, kDescriptorId, kSubjectFayId, kKeyId, kModes, kConstraints, kResourcePattern}
+use Rattle.entries_spec.specs.Value.{countAt, timeAt, kindAt, oneOf, keyedAt, flag, optKindAt}
+use Rattle.entries_spec.specs.Reader.{optPairsAt, SignatureSeen, signatureAt}
 use Rattle.descriptor_spec.specs.Model.{modeNames}
 use Rattle.descriptor_spec.specs.Allowed.{idSize, longest, longestPeriod}
 

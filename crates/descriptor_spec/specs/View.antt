@@ -8,11 +8,11 @@ use lib.Bits.{bitOr}
 use Rattle.octets.specs.Span.{spanOf}
 use Rattle.exact.specs.Reads.{encOpt, encAll}
 use Rattle.cbor_item_spec.specs.Encoding.{head}
-use Rattle.entries.specs.declared.value.Kind.the-variants.{Text}
-use Rattle.entries.specs.Keys.{kGrants, kMetadata, kIssuedAt, kIssuerId, kNotAfter, kGrantorId, kNotBefore, kTerminalId, kDescriptorId}
-use Rattle.entries.specs.Keys.{kSubjectFayId, kModes, kConstraints, kResourcePattern}
-use Rattle.entries.specs.Model.{Pair, pairCount, size, encBytes, encText, encPairs}
-use Rattle.entries.specs.View.{contentSpan, optKindView, optPairsView, signatureView}
+use Rattle.entries_spec.specs.declared.Kind.the-variants.{Text}
+use Rattle.entries_spec.specs.Keys.{kGrants, kMetadata, kIssuedAt, kIssuerId, kNotAfter, kGrantorId, kNotBefore, kTerminalId, kDescriptorId}
+use Rattle.entries_spec.specs.Keys.{kSubjectFayId, kModes, kConstraints, kResourcePattern}
+use Rattle.entries_spec.specs.Model.{Pair, pairCount, size, encBytes, encText, encPairs}
+use Rattle.entries_spec.specs.View.{contentSpan, optKindView, optPairsView, signatureView}
 use Rattle.descriptor_spec.specs.Model.{Grant, Payload, Descriptor, encModes, encGrant, encGrants, encodePayload}
 use Rattle.descriptor_spec.specs.Reader.{GrantSeen, Sum, GrantsSeen, Issue, Grantor, Ids, PayloadSeen, seenIn, Seen, beforePayload}
 use Rattle.descriptor_spec.specs.Reader.{beforeKeyId}

@@ -1,7 +1,2 @@
-pub mod ValueBounds
 pub mod ValueCode
 pub mod PairCode
-pub mod ValueLaws
-pub mod PairLaws
-pub mod OptionalLaws
-pub mod SignatureLaws

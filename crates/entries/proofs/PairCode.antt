@@ -8,13 +8,13 @@ use Rattle.octets.specs.Bytes.{part}
 use Rattle.octets.specs.Order.{before}
 use Rattle.octets.specs.Span.{spanOf}
 use Rattle.octets.proofs.BytesLaws.{T-of-not, not-T-of}
+use Rattle.octets.proofs.PartLaws.{lent-part}
 use Rattle.exact.specs.Reads.{got, refused, many}
 use Rattle.exact.proofs.ReadsLaws.{took, stopped, passed, failed}
 use Rattle.exact.proofs.CountedLaws.{many-zero, many-refused}
-use Rattle.entries.specs.declared.value.Kind.the-variants.{Text}
-use Rattle.entries.specs.Value.{countAt, kindAt}
-use Rattle.entries.specs.Reader.{pairAt, pairsAt}
-use Rattle.entries.proofs.ValueCode.{lent}
+use Rattle.entries_spec.specs.declared.Kind.the-variants.{Text}
+use Rattle.entries_spec.specs.Value.{countAt, kindAt}
+use Rattle.entries_spec.specs.Reader.{pairAt, pairsAt}
 
 -- ---- one pair
 
@@ -24,7 +24,7 @@ module _ (s : List ℕ) (last len at start n : ℕ) (r : Bool) (e : got (spanOf 
     -- the test of order is the reader's
     order : r ≡ before (part s last len) (part s at ((start + n) - at))
     unfolding part
-    order = b ∙ ap (λ (l : List ℕ). before l (take ((start + n) - at) (drop at s))) (lent s last len)
+    order = b ∙ ap (λ (l : List ℕ). before l (take ((start + n) - at) (drop at s))) (lent-part s last len)
 
     -- the key does not stand after the last one
     pub pair-early : not r ≡ true → refused ≡ pairAt s (spanOf last len) at

@@ -5,7 +5,7 @@ use Rattle.octets.specs.Span.{Span, spanOf}
 use Rattle.exact.specs.Reads.{Got, got, refused}
 use Rattle.entries.specs.declared.value.CountRead.{CountRead}
 use Rattle.entries.specs.declared.value.CountRead.the-variants.{IsCount, NoCount}
-use Rattle.entries.specs.declared.value.Optional.{Optional}
+use Rattle.entries_spec.specs.declared.Optional.{Optional}
 use Rattle.entries.specs.declared.value.OptionalRead.{OptionalRead}
 use Rattle.entries.specs.declared.value.OptionalRead.the-variants.{IsOptional, NoOptional}
 use Rattle.entries.specs.declared.pairs.PairRead.{PairRead}
@@ -13,7 +13,7 @@ use Rattle.entries.specs.declared.pairs.PairRead.the-variants.{IsPair, N
 use Rattle.entries.specs.declared.signature.SignatureFields.{SignatureFields}
 use Rattle.entries.specs.declared.signature.SignatureRead.{SignatureRead}
 use Rattle.entries.specs.declared.signature.SignatureRead.the-variants.{IsSignature, NoSignature}
-use Rattle.entries.specs.Reader.{SignatureSeen}
+use Rattle.entries_spec.specs.Reader.{SignatureSeen}
 
 -- a number and the place after it
 abbrev pub countRead : CountRead → Got ℕ

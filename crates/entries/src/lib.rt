@@ -1,5 +1,5 @@
-// The entries of the maps of source 002: a key and its value, where a value is a number under a head, a string of a kind, a map of pairs,
-// or a signature. The readers take any bytes and any place. That each is exact is proved in proofs/.
+// The functions that read the entries of the maps of source 002. They take any bytes and any place. What an entry is, and that it is read
+// exactly, is in `entries_spec`.
 pub mod keys;
 pub mod pairs;
 pub mod signature;

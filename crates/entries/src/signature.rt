@@ -7,9 +7,9 @@ use crate::value::string_at;
 use cbor_item::SpanRead;
 use octets::has_at;
 ghost use mathlib.Core.Path.{_≡_};
-ghost use Rattle.entries.specs.Keys.{kAlgorithm};
-ghost use Rattle.entries.specs.Value.{keyedAt};
-ghost use Rattle.entries.specs.Reader.{valueFits, algorithmAt, signatureAt};
+ghost use Rattle.entries_spec.specs.Keys.{kAlgorithm};
+ghost use Rattle.entries_spec.specs.Value.{keyedAt};
+ghost use Rattle.entries_spec.specs.Reader.{valueFits, algorithmAt, signatureAt};
 ghost use Rattle.exact.specs.Reads.{got, guard};
 ghost use Rattle.entries.specs.Code.{countRead, signatureOf, signatureRead};
 

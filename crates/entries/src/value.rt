@@ -1,6 +1,8 @@
 // Single values at a place, and values after their keys: a number under a head, and a string of a kind.
 use cbor_item::HeadRead;
 use cbor_item::SpanRead;
+pub use entries_spec::Kind;
+pub use entries_spec::Optional;
 use octets::has_at;
 ghost use mathlib.Core.Path.{_≡_};
 ghost use mathlib.Core.Bool.{_&&_};
@@ -8,8 +10,8 @@ ghost use Prim.Native.Nat.{_≤_};
 ghost use lib.ListN.{length};
 ghost use Rattle.cbor_item_spec.specs.Utf8.{isUtf8};
 ghost use Rattle.cbor_item_spec.specs.Head.{spanRead};
-ghost use Rattle.entries.specs.Kinds.{within, majorOf, isKind};
-ghost use Rattle.entries.specs.Value.{countAt, timeAt, kindAt, keyedAt, flag, optKindAt};
+ghost use Rattle.entries_spec.specs.Kinds.{within, majorOf, isKind};
+ghost use Rattle.entries_spec.specs.Value.{countAt, timeAt, kindAt, keyedAt, flag, optKindAt};
 ghost use Rattle.entries.specs.Code.{countRead, optionalRead};
 
 // The last moment: a time is any unsigned integer.
@@ -19,23 +21,6 @@ const LAST_TIME: u64 = 18446744073709551615;
 pub enum CountRead {
     IsCount { value: u64, next: usize },
     NoCount,
-}
-
-// What a string is: a text or a byte string of lo to hi bytes, a terminal id, a fay id, or a pattern.
-pub enum Kind {
-    Text { lo: usize, hi: usize },
-    Bytes { lo: usize, hi: usize },
-    Terminal,
-    Fay,
-    Pattern,
-}
-
-// An optional value: whether it is there, its place, and its size, which is the length of a string's content or the number of a map's
-// pairs. Place and size are 0 where it is absent.
-pub struct Optional {
-    pub there: bool,
-    pub at: usize,
-    pub size: u64,
 }
 
 // What is seen of a value that is absent.

@@ -10,6 +10,7 @@ use lib.Dec.{T, leb, eqb, le→leb}
 use mir.Facts.{no-leb, yes-eqb, no-eqb}
 use Rattle.octets.specs.Bytes.{Has, hasAt}
 use Rattle.exact.specs.Reads.{Got, got, refused, One, Reads, found, lacks, bind, guard}
+use Rattle.octets.proofs.TruthLaws.{T-true, T-false}
 use Rattle.octets.proofs.BytesLaws.{has-left, has-right, has-join, hasAt-yes, yes-hasAt}
 
 -- ---- what the code's proofs use of the ways out
@@ -44,6 +45,14 @@ passed b t e = e ∙ sym (guard-yes b _ t)
 
 pub failed : {R : Type 0} (b : Bool) (o : Got R) → T (not b) → refused ≡ guard b o
 failed b o t = sym (guard-no b o t)
+
+-- a flag of the code is a test, and true
+pub flag-yes : {R : Type 0} {q o : Got R} (b r : Bool) → r ≡ b → r ≡ true → q ≡ o → q ≡ guard b o
+flag-yes b r e t f = passed b (T-true b .1 (sym e ∙ t)) f
+
+-- a flag of the code is a test, and false
+pub flag-no : {R : Type 0} (o : Got R) (b r : Bool) → r ≡ b → r ≡ false → refused ≡ guard b o
+flag-no o b r e t = failed b o (T-false b .1 (sym e ∙ t))
 
 pub passed-leb : {R : Type 0} {q o : Got R} (m n : ℕ) → m ≤ n → q ≡ o → q ≡ guard (leb m n) o
 passed-leb m n h e = e ∙ sym (guard-leb m n _ h)

@@ -8,7 +8,7 @@ use borrow.Author.Tests.{le-leb}
 use Rattle.exact.specs.Reads.{refused}
 use Rattle.cbor_item_spec.specs.Head.{headAt}
 use Rattle.exact.proofs.ReadsLaws.{stopped}
-use Rattle.entries.specs.Value.{countAt}
+use Rattle.entries_spec.specs.Value.{countAt}
 use Rattle.descriptor_spec.specs.Reader.{grantAt}
 
 -- there is no head

@@ -14,7 +14,8 @@ use Rattle.descriptor_spec.specs.declared.Reading.the-variants.{Read}
 use Rattle.descriptor_spec.specs.Allowed.{longest, longestPeriod}
 use Rattle.descriptor_spec.specs.Reader.{Seen, descriptorAt, Answer, read, structure, validity, whole, readOf}
 use Rattle.descriptor_spec.specs.Code.{fieldsOf, readingOf}
-use Rattle.descriptor.proofs.PayloadBounds.{PayloadIn, descriptor-bounds}
+use Rattle.descriptor_spec.specs.Laws.{PayloadIn}
+use Rattle.descriptor_spec.proofs.Laws.{descriptor-bounds}
 use Rattle.image_spec.specs.Image.{reading}
 use Rattle.image_spec.specs.Laws.{BodyIn, ReadIn}
 

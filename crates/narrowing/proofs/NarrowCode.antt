@@ -23,7 +23,7 @@ use Rattle.descriptor_spec.specs.Numbers.{numbersOf, numberOf}
 use Rattle.descriptor_spec.specs.Promises.{DescriptorHanded}
 use Rattle.descriptor_spec.proofs.Promises.{answered-exactly, hands-back}
 use Rattle.resource_spec.proofs.Laws.{terminal-length}
-use Rattle.entries.proofs.ValueCode.{lent-levels}
+use Rattle.octets.proofs.PartLaws.{lent-later}
 use Rattle.narrowing_spec.specs.declared.Narrowing.{Narrowing}
 use Rattle.narrowing_spec.specs.declared.Narrowing.the-variants.{Accepted, NoParent, Structure, Validity, Constrained, Period, NotCovered}
 use Rattle.narrowing.specs.declared.search.Found.{Found}
@@ -194,7 +194,7 @@ lent s g = take (g .pattern .start + g .pattern .len - (g .pattern .start + leve
 
 -- they are those below the terminal id
 lent-below : (s : List ℕ) (g : GrantSeen) → lent s g ≡ below s (g .pattern)
-lent-below s g = lent-levels s (g .pattern .start) (g .pattern .len)
+lent-below s g = lent-later s (g .pattern .start) (g .pattern .len) levelsPlace
 
 -- the search from the first grant on
 pub first-begin : (s : List ℕ) (at count : ℕ) (shared : Bool) (t : List ℕ) (n from : ℕ)

@@ -15,7 +15,7 @@ use Rattle.resource_spec.specs.Level.{levels}
 use Rattle.resource_spec.specs.Pattern.{endsDeep}
 use Rattle.resource_spec.specs.Text.{levelsOf}
 use Rattle.descriptor_spec.specs.Reader.{GrantSeen, grantAt}
-use Rattle.descriptor.proofs.GrantBounds.{pattern-room}
+use Rattle.descriptor_spec.proofs.Laws.{pattern-room}
 use Rattle.narrowing.specs.declared.search.Found.the-variants.{Nothing}
 use Rattle.narrowing.specs.Range.{textRange, marked}
 use Rattle.narrowing.specs.Code.{markedAt, rowStart, rowEnd, rowMask, rowLevels, markedRows, InPlace, Filled, lowestFrom, lowestIn}
@@ -133,7 +133,7 @@ module _ (s t : List ℕ) (i left here count at : ℕ) (b : Begun s t i left her
       → Begun s (written t i (g .pattern .start + levelsPlace) (g .pattern .start + g .pattern .len) (g .mask)) (i + 1)
       (left - 1) next count at
   begun-next {g} {next} h e =
-      let room : (levelsPlace ≤ g .pattern .len) × (g .pattern .start + g .pattern .len ≤ length s) = pattern-room s here e in
+      let room : (levelsPlace ≤ g .pattern .len) × (g .pattern .start + g .pattern .len ≤ length s) = pattern-room s here _ _ e in
       let fits : 3 * i + 2 < length t = omega (arith, b .free) in
       let size = written-length t i (g .pattern .start + levelsPlace) (g .pattern .start + g .pattern .len) (g .mask) in
       record {

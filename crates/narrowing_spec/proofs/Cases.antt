@@ -9,13 +9,13 @@ use Rattle.cbor_item_spec.specs.Head.{headAt, wideHead, longHead, spanAt, spanI
 use Rattle.resource_spec.specs.Identifier.{isFay, isTerminal, hasForm, fayForm, terminalForm, uuidForm, isHex}
 use Rattle.resource_spec.specs.Level.{isNameChar, allNameChars, levels, levelsOk}
 use Rattle.resource_spec.specs.Text.{patternOk, isPattern, levelsOf, patternOf}
-use Rattle.entries.specs.Keys.{kPayload, kVersion, kSignature, kGrants, kMetadata, kIssuedAt, kIssuerId, kNotAfter, kGrantorId}
-use Rattle.entries.specs.Keys.{kNotBefore, kTerminalId, kDescriptorId, kSubjectFayId, kKeyId, kAlgorithm, kSignatureValue, kModes}
-use Rattle.entries.specs.Keys.{kConstraints, kResourcePattern, algorithms, ed25519, ecdsaP256Sha256, mRead, mWrite, mExecute, mConfigure}
-use Rattle.entries.specs.Model.{encAlgorithm, encSignature}
-use Rattle.entries.specs.Kinds.{isKind}
-use Rattle.entries.specs.Value.{countAt, stringAt, kindAt, oneOf, orAbsent, optKindAt}
-use Rattle.entries.specs.Reader.{pairAt, pairsAt, optPairsAt, algorithmAt, signatureAt}
+use Rattle.entries_spec.specs.Keys.{kPayload, kVersion, kSignature, kGrants, kMetadata, kIssuedAt, kIssuerId, kNotAfter, kGrantorId}
+use Rattle.entries_spec.specs.Keys.{kNotBefore, kTerminalId, kDescriptorId, kSubjectFayId, kKeyId, kAlgorithm, kSignatureValue, kModes}
+use Rattle.entries_spec.specs.Keys.{kConstraints, kResourcePattern, algorithms, ed25519, ecdsaP256Sha256, mRead, mWrite, mExecute, mConfigure}
+use Rattle.entries_spec.specs.Model.{encAlgorithm, encSignature}
+use Rattle.entries_spec.specs.Kinds.{isKind}
+use Rattle.entries_spec.specs.Value.{countAt, stringAt, kindAt, oneOf, orAbsent, optKindAt}
+use Rattle.entries_spec.specs.Reader.{pairAt, pairsAt, optPairsAt, algorithmAt, signatureAt}
 use Rattle.descriptor_spec.specs.Model.{modeNames, encMode, encModes, encGrant, encGrants, encodePayload, encode}
 use Rattle.descriptor_spec.specs.Reader.{hasMode, modeAt, modesAt, grantAt, moreAt, grantsAt, issueAt, grantorAt, idsAt, payloadFits}
 use Rattle.descriptor_spec.specs.Reader.{payloadAt, beforePayload, beforeKeyId, descriptorAt, readOf}

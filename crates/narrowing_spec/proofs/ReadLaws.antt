@@ -11,7 +11,7 @@ use borrow.Author.Tests.{eqb-true, eq-eqb}
 use lib.ListN.{length}
 use Rattle.resource_spec.specs.Identifier.{terminalSize}
 use Rattle.octets.specs.Bytes.{AreBytes, part}
-use Rattle.entries.specs.Model.{Pair, pairCount}
+use Rattle.entries_spec.specs.Model.{Pair, pairCount}
 use Rattle.descriptor_spec.specs.Model.{Grant, Descriptor, encode}
 use Rattle.descriptor_spec.specs.Allowed.{Formed}
 use Rattle.descriptor_spec.specs.Reader.{Seen, read, readOf}

@@ -8,7 +8,7 @@ use Prim.Native.Nat.{ℕ, _≤_, _<_}
 use lib.ListN.{length, getD}
 use Rattle.octets.specs.Bytes.{AreBytes}
 use Rattle.resource_spec.specs.Pattern.{Path, IsPath}
-use Rattle.entries.specs.Model.{pairCount}
+use Rattle.entries_spec.specs.Model.{pairCount}
 use Rattle.descriptor_spec.specs.Model.{Grant, Descriptor, encode}
 use Rattle.descriptor_spec.specs.Allowed.{Allowed}
 use Rattle.descriptor_spec.specs.Reader.{readOf}

@@ -48,6 +48,11 @@ pub lent-part : (s : List ℕ) (at n : ℕ) → take (at + n - at) (drop at s) �
 unfolding part
 lent-part s at n = ap (λ (k : ℕ). take k (drop at s)) (add-sub-cancel-left at n)
 
+-- the part that code lends of such a part, from its k-th byte on, is that part
+pub lent-later : (s : List ℕ) (at n k : ℕ) → take (at + n - (at + k)) (drop (at + k) s) ≡ part s (at + k) (n - k)
+unfolding part
+lent-later s at n k = let e : at + n - (at + k) ≡ n - k = omega arith in ap (λ (m : ℕ). take m (drop (at + k) s)) e
+
 -- bytes within the first n do not depend on what follows these
 take-within : (p k n : ℕ) (l : List ℕ) → p + k ≤ n → take k (drop p (take n l)) ≡ take k (drop p l)
 take-within zero k n l h = take-take k n l (omega arith)

@@ -18,7 +18,7 @@ use Rattle.resource_spec.specs.Text.{levelsMatch}
 use Rattle.resource.specs.Laws.{Stepped}
 use Rattle.resource.proofs.Laws.{step-decides}
 use Rattle.descriptor_spec.specs.Reader.{hasMode, GrantSeen, grantAt}
-use Rattle.entries.proofs.ValueCode.{lent-levels}
+use Rattle.octets.proofs.PartLaws.{lent-later}
 use Rattle.request_spec.specs.declared.Matched.the-variants.{IsAt, Nothing}
 use Rattle.request_spec.specs.Decision.{serves, orNext, firstFrom}
 use Rattle.request.specs.Code.{eligible}
@@ -47,7 +47,7 @@ serves-both s r mode g b t e m =
     let l : List ℕ = part s (g .pattern .start + levelsPlace) (g .pattern .len - levelsPlace) in
     sym (and-assoc (hasMode (g .mask) mode) (eqb (g .pairs) 0) (levelsMatch l r))
     ∙ ap₂ (λ (x y : Bool). x && y) (sym e)
-    (ap (λ (p : List ℕ). levelsMatch p r) (sym (lent-levels s (g .pattern .start) (g .pattern .len))) ∙ m)
+    (ap (λ (p : List ℕ). levelsMatch p r) (sym (lent-later s (g .pattern .start) (g .pattern .len) levelsPlace)) ∙ m)
 
 -- ---- the levels of a grant, one after the other
 

@@ -11,7 +11,7 @@ use Rattle.octets.specs.Bytes.{AreBytes, same}
 use Rattle.exact.specs.Reads.{got}
 use Rattle.resource_spec.specs.Pattern.{admits}
 use Rattle.resource_spec.specs.Text.{resourceOk, pathOf, patternOf, levelsMatch}
-use Rattle.entries.specs.Model.{pairCount}
+use Rattle.entries_spec.specs.Model.{pairCount}
 use Rattle.descriptor_spec.specs.Model.{Grant, Descriptor, encode}
 use Rattle.descriptor_spec.specs.Allowed.{isIn, GrantOk, Formed}
 use Rattle.descriptor_spec.specs.Reader.{hasMode, GrantSeen, grantAt}

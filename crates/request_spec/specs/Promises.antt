@@ -11,7 +11,7 @@ use Rattle.octets.specs.Number.{numberAt}
 use Rattle.resource_spec.specs.Identifier.{isFay, isTerminal}
 use Rattle.resource_spec.specs.Pattern.{Path, admits}
 use Rattle.resource_spec.specs.Text.{isResource, pathOf, patternOf}
-use Rattle.entries.specs.Model.{pairCount}
+use Rattle.entries_spec.specs.Model.{pairCount}
 use Rattle.descriptor_spec.specs.Model.{Grant, Descriptor, encode}
 use Rattle.descriptor_spec.specs.Allowed.{isIn, Allowed}
 use Rattle.descriptor_spec.specs.Modes.{unionOf}

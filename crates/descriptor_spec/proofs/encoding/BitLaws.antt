@@ -5,7 +5,7 @@ use mathlib.Core.List.{List, [], _∷_}
 use Prim.Native.Nat.{ℕ, _+_}
 use lib.Dec.{eqb}
 use Rattle.cbor_item_spec.specs.Encoding.{head}
-use Rattle.entries.specs.Keys.{mRead, mWrite, mExecute, mConfigure}
+use Rattle.entries_spec.specs.Keys.{mRead, mWrite, mExecute, mConfigure}
 use Rattle.descriptor_spec.specs.Model.{modeNames}
 use Rattle.descriptor_spec.specs.Model.{Grant, encMode}
 use Rattle.descriptor_spec.specs.Allowed.{isIn}

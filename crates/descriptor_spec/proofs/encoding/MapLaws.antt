@@ -7,7 +7,7 @@ use Prim.Native.Nat.{ℕ, suc}
 use lib.ListN.{length}
 use Rattle.exact.specs.Reads.{encAll}
 use Rattle.cbor_item_spec.specs.Encoding.{head}
-use Rattle.entries.specs.Model.{Pair, Signature, encPair, encPairs, encSignature}
+use Rattle.entries_spec.specs.Model.{Pair, Signature, encPair, encPairs, encSignature}
 use Rattle.descriptor_spec.specs.Model.{Grant, Payload, Descriptor, encModes, encGrant, encGrants, encodePayload, encode}
 use Rattle.octets.specs.Order.{before}
 use Rattle.descriptor_spec.specs.Promises.{Entry, text, map, descriptorEntries, payloadEntries, signatureEntries, grantEntries}

@@ -1,10 +1,10 @@
 -- Each fixed byte string of a descriptor is the text of its name (specs/Keys.antt of `descriptor`). Assumes nothing.
 use mathlib.Core.Path.{_≡_, refl}
 use Rattle.cbor_item_spec.specs.Encoding.{head}
-use Rattle.entries.specs.Keys.{kPayload, kVersion, kSignature, kGrants, kMetadata, kIssuedAt, kIssuerId, kNotAfter, kGrantorId}
-use Rattle.entries.specs.Keys.{kNotBefore, kTerminalId, kDescriptorId, kSubjectFayId, kKeyId, kAlgorithm, kSignatureValue, kModes}
-use Rattle.entries.specs.Keys.{kConstraints, kResourcePattern, ed25519, ecdsaP256Sha256, algorithms, mRead, mWrite, mExecute, mConfigure}
-use Rattle.entries.specs.Model.{encAlgorithm}
+use Rattle.entries_spec.specs.Keys.{kPayload, kVersion, kSignature, kGrants, kMetadata, kIssuedAt, kIssuerId, kNotAfter, kGrantorId}
+use Rattle.entries_spec.specs.Keys.{kNotBefore, kTerminalId, kDescriptorId, kSubjectFayId, kKeyId, kAlgorithm, kSignatureValue, kModes}
+use Rattle.entries_spec.specs.Keys.{kConstraints, kResourcePattern, ed25519, ecdsaP256Sha256, algorithms, mRead, mWrite, mExecute, mConfigure}
+use Rattle.entries_spec.specs.Model.{encAlgorithm}
 use Rattle.descriptor_spec.specs.Promises.{name, NamesEncoded, AlgorithmsFixed}
 
 -- ---- descriptor

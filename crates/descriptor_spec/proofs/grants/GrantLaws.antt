@@ -10,16 +10,16 @@ use Rattle.exact.specs.Reads.{Reads}
 use Rattle.cbor_item_spec.specs.Encoding.{head}
 use Rattle.octets.proofs.BytesLaws.{has-left, has-clash}
 use Rattle.exact.proofs.ReadsLaws.{recast, seq, keyed, refine}
-use Rattle.entries.specs.Keys.{kModes, kConstraints, kResourcePattern}
-use Rattle.entries.specs.Model.{size, encText}
+use Rattle.entries_spec.specs.Keys.{kModes, kConstraints, kResourcePattern}
+use Rattle.entries_spec.specs.Model.{size, encText}
 use Rattle.descriptor_spec.specs.Model.{encModes, encGrant}
 use Rattle.descriptor_spec.specs.Allowed.{GrantOk}
 use Rattle.descriptor_spec.specs.Reader.{grantAt}
 use Rattle.descriptor_spec.specs.View.{grantRest, grantView}
 use Rattle.octets.proofs.TruthLaws.{eqb-test}
-use Rattle.entries.specs.declared.value.Kind.the-variants.{Pattern}
-use Rattle.entries.proofs.ValueLaws.{count-exact, string-exact}
-use Rattle.entries.proofs.OptionalLaws.{size-small, pairs-there, pairs-seen, opt-pairs-exact}
+use Rattle.entries_spec.specs.declared.Kind.the-variants.{Pattern}
+use Rattle.entries_spec.proofs.ValueLaws.{count-exact, string-exact}
+use Rattle.entries_spec.proofs.OptionalLaws.{size-small, pairs-there, pairs-seen, opt-pairs-exact}
 use Rattle.descriptor_spec.proofs.grants.ModeLaws.{modes-exact}
 
 -- "resource_pattern" is not "constraints"

@@ -12,14 +12,14 @@ use Rattle.cbor_item_spec.specs.Encoding.{head}
 use Rattle.octets.proofs.BytesLaws.{has-left, has-right, part-take}
 use Rattle.exact.proofs.ReadsLaws.{recast, seq, keyed, refine, mapped}
 use Rattle.exact.proofs.CountedLaws.{counted}
-use Rattle.entries.specs.Keys.{kGrants, kModes, kConstraints, kResourcePattern}
-use Rattle.entries.specs.Model.{size, encPairs}
+use Rattle.entries_spec.specs.Keys.{kGrants, kModes, kConstraints, kResourcePattern}
+use Rattle.entries_spec.specs.Model.{size, encPairs}
 use Rattle.descriptor_spec.specs.Model.{Grant, encModes, encGrant, encGrants}
 use Rattle.descriptor_spec.specs.Allowed.{GrantOk, All}
 use Rattle.descriptor_spec.specs.Reader.{Sum, addGrant, moreAt, grantsAt}
 use Rattle.descriptor_spec.specs.View.{grantView, sumFrom, grantsRest, grantsView}
 use Rattle.octets.proofs.TruthLaws.{same-test}
-use Rattle.entries.proofs.ValueLaws.{count-exact}
+use Rattle.entries_spec.proofs.ValueLaws.{count-exact}
 use Rattle.resource_spec.proofs.Laws.{pattern-short}
 use Rattle.descriptor_spec.proofs.grants.GrantLaws.{grant-exact}
 

@@ -13,14 +13,14 @@ use Rattle.exact.specs.Reads.{Reads, encAll, AllFrom, viewAll}
 use Rattle.cbor_item_spec.specs.Encoding.{head}
 use Rattle.exact.proofs.ReadsLaws.{recast, seq, keyed, refine}
 use Rattle.exact.proofs.CountedLaws.{counted}
-use Rattle.entries.specs.Keys.{kModes, mRead, mWrite, mExecute, mConfigure}
+use Rattle.entries_spec.specs.Keys.{kModes, mRead, mWrite, mExecute, mConfigure}
 use Rattle.descriptor_spec.specs.Model.{modeNames}
 use Rattle.descriptor_spec.specs.Model.{encMode, encModes}
 use Rattle.descriptor_spec.specs.Allowed.{isIn, ModeOk, seenWith, ModesOk}
 use Rattle.descriptor_spec.specs.Reader.{hasMode, modeAt, modesAt}
 use Rattle.descriptor_spec.specs.View.{maskFrom, maskOf}
 use Rattle.octets.proofs.TruthLaws.{T-false}
-use Rattle.entries.proofs.ValueLaws.{Apart, count-exact, one-exact}
+use Rattle.entries_spec.proofs.ValueLaws.{Apart, count-exact, one-exact}
 
 -- no two names of modes can stand at one place
 pub modes-apart : Apart modeNames

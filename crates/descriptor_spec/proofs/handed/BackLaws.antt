@@ -12,19 +12,19 @@ use Rattle.octets.specs.Span.{spanOf}
 use Rattle.octets.proofs.BytesLaws.{has-length}
 use Rattle.octets.proofs.SpanLaws.{inside-fits}
 use Rattle.descriptor_spec.specs.declared.DescriptorNumbers.{DescriptorNumbers}
-use Rattle.entries.specs.Keys.{kMetadata}
-use Rattle.entries.specs.Model.{Pair, pairCount}
+use Rattle.entries_spec.specs.Keys.{kMetadata}
+use Rattle.entries_spec.specs.Model.{Pair, pairCount}
 use Rattle.descriptor_spec.specs.Model.{Grant, Descriptor, encodePayload, encode}
 use Rattle.descriptor_spec.specs.Allowed.{Allowed}
 use Rattle.descriptor_spec.specs.Reader.{Answer, read, structure, validity, readOf, beforePayload, beforeKeyId}
-use Rattle.entries.specs.View.{optPairsView}
+use Rattle.entries_spec.specs.View.{optPairsView}
 use Rattle.descriptor_spec.specs.View.{maskOf, sumFrom, grantsView, descriptorView}
 use Rattle.descriptor_spec.specs.Code.{readingOf}
 use Rattle.descriptor_spec.specs.Numbers.{numbersOf, payloadSpan}
 use Rattle.descriptor_spec.specs.Promises.{pairsIn, constraintPairs, DescriptorHanded, HandsBack, PayloadHanded, handed}
 use Rattle.descriptor_spec.specs.Laws.{SeenHanded}
 use Rattle.descriptor_spec.proofs.grants.MaskLaws.{grants-union}
-use Rattle.entries.proofs.SignatureLaws.{encFromKey}
+use Rattle.entries_spec.proofs.SignatureLaws.{encFromKey}
 use Rattle.descriptor_spec.proofs.whole.DescriptorLaws.{halves-encode}
 use Rattle.descriptor_spec.proofs.whole.AnswerLaws.{reads-exactly}
 use Rattle.descriptor_spec.proofs.places.SeenLaws.{payload-here}

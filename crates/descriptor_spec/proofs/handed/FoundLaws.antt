@@ -9,8 +9,8 @@ use Rattle.exact.specs.Reads.{Got, got, refused, Reads, found, lacks, encOpt}
 use Rattle.cbor_item_spec.specs.Encoding.{head}
 use Rattle.octets.proofs.BytesLaws.{has-left, has-right}
 use Rattle.exact.proofs.ReadsLaws.{complete}
-use Rattle.entries.specs.Keys.{kModes, kConstraints, kResourcePattern}
-use Rattle.entries.specs.Model.{size, encText, encPairs}
+use Rattle.entries_spec.specs.Keys.{kModes, kConstraints, kResourcePattern}
+use Rattle.entries_spec.specs.Model.{size, encText, encPairs}
 use Rattle.descriptor_spec.specs.Model.{Grant, encMode, encModes, encGrant}
 use Rattle.descriptor_spec.specs.Allowed.{GrantOk}
 use Rattle.descriptor_spec.specs.Reader.{GrantSeen, grantAt}

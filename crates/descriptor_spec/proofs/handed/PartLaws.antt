@@ -10,17 +10,17 @@ use Rattle.exact.specs.Reads.{encOpt}
 use Rattle.cbor_item_spec.specs.Encoding.{head}
 use Rattle.cbor_item_spec.specs.Head.{encodeString}
 use Rattle.octets.proofs.BytesLaws.{has-left, has-right, has-part, all-has}
-use Rattle.entries.specs.declared.value.Kind.the-variants.{Text}
-use Rattle.entries.specs.Keys.{kMetadata, kIssuedAt, kIssuerId, kGrantorId, kAlgorithm, kSignatureValue}
-use Rattle.entries.specs.Model.{Pair, Signature, pairCount, encText, encPairs, encAlgorithm}
-use Rattle.entries.specs.View.{contentSpan, optKindView, optPairsView}
+use Rattle.entries_spec.specs.declared.Kind.the-variants.{Text}
+use Rattle.entries_spec.specs.Keys.{kMetadata, kIssuedAt, kIssuerId, kGrantorId, kAlgorithm, kSignatureValue}
+use Rattle.entries_spec.specs.Model.{Pair, Signature, pairCount, encText, encPairs, encAlgorithm}
+use Rattle.entries_spec.specs.View.{contentSpan, optKindView, optPairsView}
 use Rattle.descriptor_spec.specs.Model.{Payload, Descriptor, encodePayload, encode}
 use Rattle.descriptor_spec.specs.View.{descriptorView}
 use Rattle.descriptor_spec.specs.Reader.{beforePayload, beforeKeyId}
 use Rattle.descriptor_spec.specs.Promises.{Lies, LiesIf, StandsIf, pairsIn}
 use Rattle.descriptor_spec.proofs.payload.PieceLaws.{issueBytes, grantorBytes}
 use Rattle.descriptor_spec.proofs.payload.PayloadLaws.{issueOf, grantorOf}
-use Rattle.entries.proofs.SignatureLaws.{encFromKey}
+use Rattle.entries_spec.proofs.SignatureLaws.{encFromKey}
 use Rattle.descriptor_spec.proofs.whole.DescriptorLaws.{halves-encode}
 use Rattle.descriptor_spec.proofs.places.PlaceLaws.{issue-at, grantor-at}
 

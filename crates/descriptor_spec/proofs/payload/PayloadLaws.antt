@@ -14,12 +14,12 @@ use Rattle.exact.specs.Reads.{Reads}
 use Rattle.exact.proofs.ReadsLaws.{recast, seq, refine}
 use Rattle.cbor_item_spec.specs.Encoding.{head}
 use Rattle.resource_spec.proofs.Laws.{terminal-length}
-use Rattle.entries.specs.declared.value.Kind.the-variants.{Text}
-use Rattle.entries.specs.Keys.{kMetadata, kGrantorId, kTerminalId}
-use Rattle.entries.specs.Model.{size, encText}
-use Rattle.entries.specs.Value.{flag}
-use Rattle.entries.proofs.ValueLaws.{count-exact}
-use Rattle.entries.proofs.OptionalLaws.{size-small, pairs-there, kind-there}
+use Rattle.entries_spec.specs.declared.Kind.the-variants.{Text}
+use Rattle.entries_spec.specs.Keys.{kMetadata, kGrantorId, kTerminalId}
+use Rattle.entries_spec.specs.Model.{size, encText}
+use Rattle.entries_spec.specs.Value.{flag}
+use Rattle.entries_spec.proofs.ValueLaws.{count-exact}
+use Rattle.entries_spec.proofs.OptionalLaws.{size-small, pairs-there, kind-there}
 use Rattle.descriptor_spec.specs.Model.{Grant, Payload, encodePayload}
 use Rattle.descriptor_spec.specs.Allowed.{PayloadOk}
 use Rattle.descriptor_spec.specs.Reader.{PayloadSeen, seenIn, payloadFits, payloadAt}

@@ -12,13 +12,13 @@ use Rattle.exact.specs.Reads.{Reads, OptOk}
 use Rattle.exact.proofs.ReadsLaws.{seq, keyed, mapped}
 use Rattle.cbor_item_spec.specs.Encoding.{head}
 use Rattle.resource_spec.specs.Identifier.{isFay, isTerminal}
-use Rattle.entries.specs.declared.value.Kind.the-variants.{Text, Bytes, Terminal, Fay}
-use Rattle.entries.specs.Keys.{kMetadata, kIssuedAt, kIssuerId, kNotAfter, kGrantorId, kNotBefore, kTerminalId, kDescriptorId}
-use Rattle.entries.specs.Keys.{kSubjectFayId}
-use Rattle.entries.specs.Model.{Pair}
-use Rattle.entries.specs.Allowed.{TimeOk, TextOk, PairsOk}
-use Rattle.entries.proofs.ValueLaws.{time-exact, string-exact}
-use Rattle.entries.proofs.OptionalLaws.{opt-string-exact, opt-pairs-exact}
+use Rattle.entries_spec.specs.declared.Kind.the-variants.{Text, Bytes, Terminal, Fay}
+use Rattle.entries_spec.specs.Keys.{kMetadata, kIssuedAt, kIssuerId, kNotAfter, kGrantorId, kNotBefore, kTerminalId, kDescriptorId}
+use Rattle.entries_spec.specs.Keys.{kSubjectFayId}
+use Rattle.entries_spec.specs.Model.{Pair}
+use Rattle.entries_spec.specs.Allowed.{TimeOk, TextOk, PairsOk}
+use Rattle.entries_spec.proofs.ValueLaws.{time-exact, string-exact}
+use Rattle.entries_spec.proofs.OptionalLaws.{opt-string-exact, opt-pairs-exact}
 use Rattle.descriptor_spec.specs.Reader.{issueAt, grantorAt, idsAt}
 use Rattle.descriptor_spec.specs.Reader as read
 use Rattle.descriptor_spec.specs.View.{encIssue, encGrantor, encIds, issueView, grantorView, idsView}

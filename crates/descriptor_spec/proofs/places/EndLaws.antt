@@ -10,8 +10,8 @@ use Rattle.octets.specs.Bytes.{Has, clash}
 use Rattle.exact.specs.Reads.{encOpt, encAll}
 use Rattle.cbor_item_spec.specs.Encoding.{head}
 use Rattle.octets.proofs.BytesLaws.{has-left, has-right, has-clash}
-use Rattle.entries.specs.Keys.{kMetadata, kIssuedAt}
-use Rattle.entries.specs.Model.{Pair, size, encPairs}
+use Rattle.entries_spec.specs.Keys.{kMetadata, kIssuedAt}
+use Rattle.entries_spec.specs.Model.{Pair, size, encPairs}
 use Rattle.descriptor_spec.specs.Model.{Grant, encGrant, encode}
 use Rattle.descriptor_spec.specs.View.{descriptorView, grantPlace}
 use Rattle.descriptor_spec.specs.Laws.{GrantsEnd}

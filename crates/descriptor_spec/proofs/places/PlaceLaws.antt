@@ -7,8 +7,8 @@ use Rattle.resource_spec.specs.Identifier.{faySize, terminalSize}
 use Rattle.octets.specs.Bytes.{Has, part}
 use Rattle.cbor_item_spec.specs.Encoding.{head}
 use Rattle.octets.proofs.BytesLaws.{has-left, has-right, has-part}
-use Rattle.entries.specs.Keys.{kTerminalId, kDescriptorId, kSubjectFayId}
-use Rattle.entries.specs.Model.{encBytes, encText}
+use Rattle.entries_spec.specs.Keys.{kTerminalId, kDescriptorId, kSubjectFayId}
+use Rattle.entries_spec.specs.Model.{encBytes, encText}
 use Rattle.descriptor_spec.specs.Model.{Payload, Descriptor, encode}
 use Rattle.descriptor_spec.specs.Allowed.{Formed}
 use Rattle.descriptor_spec.specs.Reader.{beforePayload}

@@ -11,7 +11,7 @@ use Rattle.cbor_item_spec.specs.Encoding.{head}
 use Rattle.octets.proofs.BytesLaws.{has-left, has-right, all-has}
 use Rattle.exact.proofs.ReadsLaws.{complete}
 use Rattle.exact.proofs.CountedLaws.{all-at}
-use Rattle.entries.specs.Keys.{kGrants}
+use Rattle.entries_spec.specs.Keys.{kGrants}
 use Rattle.descriptor_spec.specs.Model.{Grant, Payload, Descriptor, encGrant, encGrants, encodePayload, encode}
 use Rattle.descriptor_spec.specs.Allowed.{GrantOk, All, Formed}
 use Rattle.descriptor_spec.specs.Reader.{beforePayload}

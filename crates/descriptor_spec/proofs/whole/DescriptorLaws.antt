@@ -8,15 +8,15 @@ use Rattle.octets.specs.Bytes.{AreBytes}
 use Rattle.exact.specs.Reads.{Reads}
 use Rattle.cbor_item_spec.specs.Encoding.{head}
 use Rattle.exact.proofs.ReadsLaws.{recast, seq, keyed, mapped}
-use Rattle.entries.specs.Keys.{kPayload, kVersion, kSignature, kKeyId}
-use Rattle.entries.specs.Model.{encSignature}
-use Rattle.entries.specs.Allowed.{SignatureOk}
+use Rattle.entries_spec.specs.Keys.{kPayload, kVersion, kSignature, kKeyId}
+use Rattle.entries_spec.specs.Model.{encSignature}
+use Rattle.entries_spec.specs.Allowed.{SignatureOk}
 use Rattle.descriptor_spec.specs.Model.{Descriptor, encodePayload, encode}
 use Rattle.descriptor_spec.specs.Allowed.{PayloadOk}
 use Rattle.descriptor_spec.specs.Reader.{beforePayload, beforeKeyId, descriptorAt}
 use Rattle.descriptor_spec.specs.View.{descriptorView}
 use Rattle.descriptor_spec.proofs.payload.PayloadLaws.{payload-exact}
-use Rattle.entries.proofs.SignatureLaws.{encFromKey, signature-exact}
+use Rattle.entries_spec.proofs.SignatureLaws.{encFromKey, signature-exact}
 
 -- a descriptor of an allowed payload and an allowed signature, of whatever length
 pub record Both (d : Descriptor) : Type 0 where

@@ -14,8 +14,8 @@ use Rattle.cbor_item_spec.specs.Encoding.{head}
 use Rattle.exact.specs.Reads.{OptOk, AllFrom}
 use Rattle.octets.proofs.Tests.{by-cond, and-left, and-right, and-both}
 use Rattle.resource_spec.specs.Text.{isPattern, longestText, patternOk}
-use Rattle.entries.specs.Model.{Pair}
-use Rattle.entries.specs.Allowed.{TextOk, PairOk, keyOf, PairsOk}
+use Rattle.entries_spec.specs.Model.{Pair}
+use Rattle.entries_spec.specs.Allowed.{TextOk, PairOk, keyOf, PairsOk}
 use Rattle.descriptor_spec.specs.Model.{Grant, Descriptor}
 use Rattle.descriptor_spec.specs.Allowed.{isIn, ModeOk, seenWith, ModesOk, GrantOk, All, Formed}
 use Rattle.octets.specs.Order.{before}

@@ -3,11 +3,11 @@ use mathlib.Core.Path.{sym, ap, _∙_}
 use native.Mathlib.Omega.{arith}
 use Rattle.cbor_item_spec.specs.Head.{spanRead}
 use Rattle.exact.proofs.ReadsLaws.{took, stopped}
-use Rattle.entries.specs.Keys.{kModes, kConstraints, kResourcePattern}
+use Rattle.entries_spec.specs.Keys.{kModes, kConstraints, kResourcePattern}
 use Rattle.entries.specs.Code.{countRead, optionalRead}
-use Rattle.entries.proofs.ValueBounds.{string-ends}
+use Rattle.entries_spec.proofs.ValueBounds.{string-ends}
 use Rattle.descriptor_spec.specs.Reader.{grantAt}
-use Rattle.descriptor.proofs.ModeCode.{modes-room}
+use Rattle.descriptor.proofs.RoomCode.{modes-room}
 use borrow.Author.Needs.{needs}
 use Rattle.descriptor.proofs.grants.grant_at.Statement.{statement}
 use Rattle.descriptor.proofs.grants.grant_at.Tie as tie

@@ -6,15 +6,15 @@ use lib.ListN.{length}
 use Rattle.resource_spec.specs.Identifier.{terminalSize}
 use Rattle.exact.specs.Reads.{got}
 use Rattle.exact.proofs.ReadsLaws.{took, stopped}
-use Rattle.entries.specs.Keys.{kGrants}
-use Rattle.entries.specs.Value.{countAt, keyedAt}
+use Rattle.entries_spec.specs.Keys.{kGrants}
+use Rattle.entries_spec.specs.Value.{countAt, keyedAt}
 use Rattle.entries.specs.Code.{countRead}
-use Rattle.entries.proofs.ValueBounds.{count-room}
+use Rattle.entries_spec.proofs.ValueBounds.{count-room}
 use Rattle.descriptor_spec.specs.Code.{grantRead}
 use Rattle.descriptor.specs.Code.{sumOf, sumRead}
 use Rattle.descriptor_spec.specs.Reader.{grantsAt}
-use Rattle.descriptor.proofs.GrantBounds.{grant-room, more-room, grantsFrom, grants-begin, grants-next, grants-stop}
-use Rattle.descriptor.proofs.GrantBounds.{grants-done}
+use Rattle.descriptor.proofs.RoomCode.{grant-room, more-room}
+use Rattle.descriptor.proofs.GrantCode.{grantsFrom, grants-begin, grants-next, grants-stop, grants-done}
 use borrow.Author.Needs.{needs}
 use Rattle.descriptor.proofs.grants.grants_at.Statement.{statement}
 use Rattle.descriptor.proofs.grants.grants_at.Tie as tie

@@ -2,10 +2,10 @@
 use mathlib.Core.Path.{refl, sym, ap, _∙_}
 use native.Mathlib.Omega.{arith}
 use Rattle.exact.proofs.ReadsLaws.{took, stopped}
-use Rattle.entries.proofs.ValueCode.{flag-yes, flag-no}
+use Rattle.exact.proofs.ReadsLaws.{flag-yes, flag-no}
 use Rattle.descriptor_spec.specs.Code.{grantRead}
 use Rattle.descriptor_spec.specs.Reader.{moreAt}
-use Rattle.descriptor.proofs.GrantBounds.{grant-room}
+use Rattle.descriptor.proofs.RoomCode.{grant-room}
 use borrow.Author.Needs.{needs}
 use Rattle.descriptor.proofs.grants.more_at.Statement.{statement}
 use Rattle.descriptor.proofs.grants.more_at.Tie as tie

@@ -3,8 +3,8 @@ use mathlib.Core.Path.{sym, _∙_}
 use Prim.Native.Nat.{_+_, _^_, _<_}
 use native.Mathlib.Omega.{arith}
 use Rattle.octets.proofs.BytesLaws.{T-of}
-use Rattle.entries.specs.Keys.{mRead, mWrite, mExecute, mConfigure}
-use Rattle.entries.proofs.ValueBounds.{key-end}
+use Rattle.entries_spec.specs.Keys.{mRead, mWrite, mExecute, mConfigure}
+use Rattle.entries_spec.proofs.ValueBounds.{key-end}
 use Rattle.descriptor.proofs.ModeCode.{mode-read, mode-write, mode-execute, mode-configure, mode-none}
 use borrow.Author.Needs.{needs}
 use Rattle.descriptor.proofs.modes.mode_at.Statement.{statement}

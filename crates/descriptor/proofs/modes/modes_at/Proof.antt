@@ -7,11 +7,12 @@ use borrow.Author.Needs.{needs}
 use Rattle.exact.specs.Reads.{got, many}
 use Rattle.exact.proofs.ReadsLaws.{stopped}
 use Rattle.exact.proofs.CountedLaws.{many-got}
-use Rattle.entries.specs.Keys.{kModes}
-use Rattle.entries.specs.Value.{countAt, keyedAt}
+use Rattle.entries_spec.specs.Keys.{kModes}
+use Rattle.entries_spec.specs.Value.{countAt, keyedAt}
 use Rattle.entries.specs.Code.{countRead}
 use Rattle.descriptor_spec.specs.Reader.{modeAt, modesAt}
-use Rattle.descriptor.proofs.ModeCode.{mode-small, modes-no, modes-yes}
+use Rattle.descriptor.proofs.RoomCode.{mode-small}
+use Rattle.descriptor.proofs.ModeCode.{modes-no, modes-yes}
 use Rattle.descriptor.proofs.modes.modes_at.Statement.{statement}
 use Rattle.descriptor.proofs.modes.modes_at.Tie as tie
 

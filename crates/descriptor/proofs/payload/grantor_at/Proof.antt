@@ -1,7 +1,7 @@
 -- `grantor_at` meets its contract. Assumes nothing.
 use mathlib.Core.Path.{refl, sym, ap, _∙_}
 use Rattle.exact.proofs.ReadsLaws.{took, stopped}
-use Rattle.entries.specs.Keys.{kGrantorId, kNotBefore}
+use Rattle.entries_spec.specs.Keys.{kGrantorId, kNotBefore}
 use Rattle.entries.specs.Code.{countRead, optionalRead}
 use Rattle.descriptor_spec.specs.Reader.{grantorAt}
 use borrow.Author.Needs.{needs}

@@ -3,8 +3,8 @@ use mathlib.Core.Path.{refl, sym, ap, _∙_}
 use native.Mathlib.Omega.{arith}
 use Rattle.cbor_item_spec.specs.Head.{spanRead}
 use Rattle.exact.proofs.ReadsLaws.{took, stopped}
-use Rattle.entries.specs.Keys.{kTerminalId, kDescriptorId, kSubjectFayId}
-use Rattle.entries.proofs.ValueBounds.{string-ends}
+use Rattle.entries_spec.specs.Keys.{kTerminalId, kDescriptorId, kSubjectFayId}
+use Rattle.entries_spec.proofs.ValueBounds.{string-ends}
 use Rattle.descriptor_spec.specs.Reader.{idsAt}
 use borrow.Author.Needs.{needs}
 use Rattle.descriptor.proofs.payload.ids_at.Statement.{statement}

@@ -1,7 +1,7 @@
 -- `if_fits` meets its contract. Assumes nothing.
-use Rattle.descriptor.proofs.PayloadBounds.{fits-test}
+use Rattle.descriptor.proofs.PayloadCode.{fits-test}
 use mathlib.Core.Path.{refl}
-use Rattle.entries.proofs.ValueCode.{flag-yes, flag-no}
+use Rattle.exact.proofs.ReadsLaws.{flag-yes, flag-no}
 use borrow.Author.Needs.{needs}
 use Rattle.descriptor.proofs.payload.if_fits.Statement.{statement}
 use Rattle.descriptor.proofs.payload.if_fits.Tie as tie

@@ -3,9 +3,9 @@ use mathlib.Core.Path.{refl, sym, ap, _∙_}
 use native.Mathlib.Omega.{arith}
 use Rattle.cbor_item_spec.specs.Head.{spanRead}
 use Rattle.exact.proofs.ReadsLaws.{took, stopped}
-use Rattle.entries.specs.Keys.{kMetadata, kIssuedAt, kIssuerId, kNotAfter}
+use Rattle.entries_spec.specs.Keys.{kMetadata, kIssuedAt, kIssuerId, kNotAfter}
 use Rattle.entries.specs.Code.{countRead, optionalRead}
-use Rattle.entries.proofs.ValueBounds.{string-ends}
+use Rattle.entries_spec.proofs.ValueBounds.{string-ends}
 use Rattle.descriptor_spec.specs.Reader.{issueAt}
 use borrow.Author.Needs.{needs}
 use Rattle.descriptor.proofs.payload.issue_at.Statement.{statement}

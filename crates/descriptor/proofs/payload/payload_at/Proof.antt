@@ -4,8 +4,7 @@ use Rattle.exact.proofs.ReadsLaws.{took, stopped}
 use Rattle.entries.specs.Code.{countRead}
 use Rattle.descriptor.specs.Code.{grantsRead, issueRead, grantorRead, idsRead}
 use Rattle.descriptor_spec.specs.Reader.{payloadAt}
-use Rattle.descriptor.proofs.GrantBounds.{grants-room}
-use Rattle.descriptor.proofs.PayloadBounds.{ids-room}
+use Rattle.descriptor.proofs.RoomCode.{grants-room, ids-room}
 use borrow.Author.Needs.{needs}
 use Rattle.descriptor.proofs.payload.payload_at.Statement.{statement}
 use Rattle.descriptor.proofs.payload.payload_at.Tie as tie

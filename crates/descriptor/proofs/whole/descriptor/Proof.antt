@@ -8,13 +8,13 @@ use Rattle.exact.specs.Reads.{got}
 use Rattle.octets.proofs.BytesLaws.{T-of-not, not-T-of}
 use Rattle.exact.proofs.ReadsLaws.{took, stopped, passed, failed}
 use Rattle.descriptor_spec.specs.declared.Reading.the-variants.{Read}
-use Rattle.entries.specs.Keys.{kPayload, kVersion, kSignature, kKeyId}
-use Rattle.entries.specs.Value.{keyedAt}
+use Rattle.entries_spec.specs.Keys.{kPayload, kVersion, kSignature, kKeyId}
+use Rattle.entries_spec.specs.Value.{keyedAt}
 use Rattle.entries.specs.Code.{signatureRead}
-use Rattle.entries.proofs.ValueBounds.{key-room}
+use Rattle.entries_spec.proofs.ValueBounds.{key-room}
 use Rattle.descriptor_spec.specs.Reader.{payloadAt, beforePayload, beforeKeyId, descriptorAt}
 use Rattle.descriptor.specs.Code.{payloadOf, payloadRead, seenOf}
-use Rattle.descriptor.proofs.PayloadBounds.{payload-room}
+use Rattle.descriptor.proofs.RoomCode.{payload-room}
 use Rattle.descriptor.proofs.ReadCode.{read-long, read-refused, read-more, read-period, read-all}
 use borrow.Author.Needs.{needs}
 use Rattle.descriptor.proofs.whole.descriptor.Statement.{statement}

@@ -4,9 +4,9 @@ use Prim.Native.Nat.{_^_}
 use native.Mathlib.Omega.{arith}
 use Rattle.octets.proofs.BytesLaws.{T-of-not}
 use Rattle.exact.proofs.ReadsLaws.{took, stopped}
-use Rattle.entries.specs.Reader.{optPairsAt}
+use Rattle.entries_spec.specs.Reader.{optPairsAt}
 use Rattle.entries.specs.Code.{countRead}
-use Rattle.entries.proofs.ValueBounds.{key-end}
+use Rattle.entries_spec.proofs.ValueBounds.{key-end}
 use Rattle.entries.proofs.ValueCode.{or-there, or-absent}
 use borrow.Author.Needs.{needs}
 use Rattle.entries.proofs.pairs.opt_pairs.Statement.{statement}

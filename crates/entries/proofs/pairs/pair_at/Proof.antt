@@ -7,10 +7,10 @@ use Rattle.exact.specs.Reads.{got}
 use Rattle.exact.proofs.ReadsLaws.{stopped}
 use Rattle.cbor_item_spec.specs.Head.{spanRead}
 use Rattle.cbor_item_spec.specs.Laws.{SpanTo}
-use Rattle.entries.specs.declared.value.Kind.the-variants.{Text}
-use Rattle.entries.specs.Value.{kindAt}
-use Rattle.entries.specs.Reader.{pairAt}
-use Rattle.entries.proofs.ValueBounds.{string-room}
+use Rattle.entries_spec.specs.declared.Kind.the-variants.{Text}
+use Rattle.entries_spec.specs.Value.{kindAt}
+use Rattle.entries_spec.specs.Reader.{pairAt}
+use Rattle.entries_spec.proofs.ValueBounds.{string-room}
 use Rattle.entries.proofs.PairCode.{pair-early, pair-no, pair-yes}
 use borrow.Author.Needs.{needs}
 use Rattle.entries.proofs.pairs.pair_at.Statement.{statement}

@@ -9,10 +9,10 @@ use Rattle.exact.specs.Reads.{got, many}
 use Rattle.octets.specs.Span.{spanOf}
 use Rattle.exact.proofs.ReadsLaws.{stopped}
 use Rattle.exact.proofs.CountedLaws.{many-got}
-use Rattle.entries.specs.Value.{countAt}
-use Rattle.entries.specs.Reader.{pairAt, pairsAt}
+use Rattle.entries_spec.specs.Value.{countAt}
+use Rattle.entries_spec.specs.Reader.{pairAt, pairsAt}
 use Rattle.entries.specs.Code.{countRead, pairRead}
-use Rattle.entries.proofs.ValueBounds.{pair-room}
+use Rattle.entries_spec.proofs.ValueBounds.{pair-room}
 use Rattle.entries.proofs.PairCode.{pairs-no, pairs-yes}
 use Rattle.entries.proofs.pairs.pairs_at.Statement.{statement}
 use Rattle.entries.proofs.pairs.pairs_at.Tie as tie

@@ -4,9 +4,9 @@ use native.Mathlib.Omega.{arith}
 use lib.Dec.{lit<}
 use Rattle.octets.proofs.BytesLaws.{T-of, T-of-not, not-T-of}
 use Rattle.exact.proofs.ReadsLaws.{passed, failed}
-use Rattle.entries.specs.Keys.{kAlgorithm, ed25519, ecdsaP256Sha256, algorithms}
-use Rattle.entries.specs.Reader.{algorithmAt}
-use Rattle.entries.proofs.ValueBounds.{key-room, key-fits}
+use Rattle.entries_spec.specs.Keys.{kAlgorithm, ed25519, ecdsaP256Sha256, algorithms}
+use Rattle.entries_spec.specs.Reader.{algorithmAt}
+use Rattle.entries_spec.proofs.ValueBounds.{key-room, key-fits}
 use Rattle.entries.proofs.ValueCode.{one-first, one-next, one-none}
 use borrow.Author.Needs.{needs}
 use Rattle.entries.proofs.signature.algorithm_at.Statement.{statement}

@@ -1,6 +1,6 @@
 -- `if_fits` meets its contract. Assumes nothing.
 use mathlib.Core.Path.{refl}
-use Rattle.entries.proofs.ValueCode.{flag-yes, flag-no}
+use Rattle.exact.proofs.ReadsLaws.{flag-yes, flag-no}
 use Rattle.entries.proofs.signature.if_fits.Statement.{statement}
 use Rattle.entries.proofs.signature.if_fits.Tie as tie
 

@@ -3,11 +3,11 @@ use mathlib.Core.Path.{sym, ap, _∙_}
 use native.Mathlib.Omega.{arith}
 use Rattle.cbor_item_spec.specs.Head.{spanRead}
 use Rattle.exact.proofs.ReadsLaws.{took, stopped}
-use Rattle.entries.specs.declared.value.Kind.the-variants.{Bytes}
-use Rattle.entries.specs.Keys.{kSignatureValue}
+use Rattle.entries_spec.specs.declared.Kind.the-variants.{Bytes}
+use Rattle.entries_spec.specs.Keys.{kSignatureValue}
 use Rattle.entries.specs.Code.{countRead}
-use Rattle.entries.specs.Reader.{signatureAt}
-use Rattle.entries.proofs.ValueBounds.{string-room, string-ends}
+use Rattle.entries_spec.specs.Reader.{signatureAt}
+use Rattle.entries_spec.proofs.ValueBounds.{string-room, string-ends}
 use borrow.Author.Needs.{needs}
 use Rattle.entries.proofs.signature.signature_at.Statement.{statement}
 use Rattle.entries.proofs.signature.signature_at.Tie as tie

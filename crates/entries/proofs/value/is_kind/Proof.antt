@@ -1,5 +1,5 @@
 -- `is_kind` meets its contract. Assumes nothing.
-use Rattle.entries.specs.Kinds.{isKind}
+use Rattle.entries_spec.specs.Kinds.{isKind}
 use borrow.Author.Needs.{needs}
 use Rattle.entries.proofs.value.is_kind.Statement.{statement}
 use Rattle.entries.proofs.value.is_kind.Tie as tie

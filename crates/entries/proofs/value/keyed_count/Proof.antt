@@ -2,8 +2,8 @@
 use Prim.Native.Nat.{_^_}
 use native.Mathlib.Omega.{arith}
 use Rattle.octets.proofs.BytesLaws.{T-of}
-use Rattle.entries.proofs.ValueBounds.{key-end}
-use Rattle.entries.proofs.ValueCode.{flag-yes, flag-no}
+use Rattle.entries_spec.proofs.ValueBounds.{key-end}
+use Rattle.exact.proofs.ReadsLaws.{flag-yes, flag-no}
 use borrow.Author.Needs.{needs}
 use Rattle.entries.proofs.value.keyed_count.Statement.{statement}
 use Rattle.entries.proofs.value.keyed_count.Tie as tie

@@ -5,8 +5,8 @@ use native.Mathlib.Omega.{arith}
 use Rattle.octets.proofs.BytesLaws.{T-of-not}
 use Rattle.exact.proofs.ReadsLaws.{took, stopped}
 use Rattle.cbor_item_spec.specs.Head.{spanRead}
-use Rattle.entries.specs.Value.{optKindAt}
-use Rattle.entries.proofs.ValueBounds.{key-end, string-room}
+use Rattle.entries_spec.specs.Value.{optKindAt}
+use Rattle.entries_spec.proofs.ValueBounds.{key-end, string-room}
 use Rattle.entries.proofs.ValueCode.{or-there, or-absent}
 use borrow.Author.Needs.{needs}
 use Rattle.entries.proofs.value.opt_keyed.Statement.{statement}

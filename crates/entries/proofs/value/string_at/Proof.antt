@@ -7,8 +7,8 @@ use Rattle.octets.specs.Span.{spanOf}
 use Rattle.exact.specs.Reads.{got}
 use Rattle.exact.proofs.ReadsLaws.{stopped}
 use Rattle.cbor_item_spec.specs.Head.{spanRead, spanAt}
-use Rattle.entries.specs.Kinds.{majorOf, isKind}
-use Rattle.entries.specs.Value.{stringAt, kindAt}
+use Rattle.entries_spec.specs.Kinds.{majorOf, isKind}
+use Rattle.entries_spec.specs.Value.{stringAt, kindAt}
 use Rattle.entries.proofs.ValueCode.{string-yes, string-no, span-bound}
 use borrow.Author.Needs.{needs}
 use Rattle.entries.proofs.value.string_at.Statement.{statement}

@@ -7,7 +7,7 @@ use lib.ListN.{length}
 use borrow.Author.Needs.{needs}
 use Rattle.resource_spec.specs.Identifier.{levelsPlace}
 use Rattle.descriptor_spec.specs.Code.{grantRead}
-use Rattle.descriptor.proofs.GrantBounds.{pattern-room}
+use Rattle.descriptor_spec.proofs.Laws.{pattern-room}
 use Rattle.narrowing.proofs.TableLaws.{Begun, written-length, second-room, third-room, begun-first, begun-next, begun-stop}
 use Rattle.narrowing.proofs.TableLaws.{begun-done}
 use Rattle.narrowing.proofs.search.fill.Statement.{statement}
@@ -24,7 +24,7 @@ room : (k : tie.After-fields Inv-loop μ-loop)
     → (levelsPlace ≤ k .fields .given .0 .0 .len)
     × (k .fields .given .0 .0 .pattern + k .fields .given .0 .0 .len ≤ length
     (k .before .before .before .before .before .before .before .args .parent .now))
-room k = pattern-room _ _ (sym (ap grantRead (k .fields .given .1)) ∙ k .before .before .read-grant .ensures)
+room k = pattern-room _ _ _ _ (sym (ap grantRead (k .fields .given .1)) ∙ k .before .before .read-grant .ensures)
 
 -- the table has the next row
 free : (k : tie.After-fields Inv-loop μ-loop) → 3 * k .before .before .before .before .loop .i + 2 < length

@@ -7,7 +7,7 @@ use Rattle.resource_spec.specs.Identifier.{levelsPlace}
 use Rattle.descriptor_spec.specs.declared.GrantRead.the-variants.{IsGrant}
 use Rattle.descriptor_spec.specs.Code.{grantRead}
 use Rattle.descriptor_spec.specs.Reader.{grantAt}
-use Rattle.descriptor.proofs.GrantBounds.{pattern-room}
+use Rattle.descriptor_spec.proofs.Laws.{pattern-room}
 use Rattle.narrowing.specs.Code.{Filled, firstIn}
 use Rattle.narrowing.proofs.NarrowCode.{first-begin, first-hit, first-next, first-none, first-done}
 use borrow.Author.Needs.{needs}
@@ -35,7 +35,7 @@ inside : (k : tie.After-fields Inv-loop μ-loop)
     → (levelsPlace ≤ k .fields .given .0 .0 .len)
     × (k .fields .given .0 .0 .pattern + k .fields .given .0 .0 .len ≤ length
     (k .before .before .before .before .before .before .before .before .args .child .now))
-inside k = pattern-room _ _ (seen k)
+inside k = pattern-room _ _ _ _ (seen k)
 
 loop-holds : tie.Need-loop-holds Inv-loop μ-loop
 loop-holds c = (omega arith, λ count at f. first-begin _ _ _ _ _ _ _)

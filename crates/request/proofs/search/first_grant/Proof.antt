@@ -16,7 +16,7 @@ use Rattle.resource.proofs.Laws.{step-decides, deep-matches, next-same}
 use Rattle.descriptor_spec.specs.declared.GrantRead.the-variants.{IsGrant}
 use Rattle.descriptor_spec.specs.Code.{grantRead}
 use Rattle.descriptor_spec.specs.Reader.{grantAt}
-use Rattle.descriptor.proofs.GrantBounds.{pattern-room}
+use Rattle.descriptor_spec.proofs.Laws.{pattern-room}
 use Rattle.request_spec.specs.declared.Matched.the-variants.{IsAt}
 use Rattle.request_spec.specs.Decision.{firstFrom}
 use Rattle.request.proofs.SearchCode.{first-begin, first-done, first-stop, first-not, first-miss, first-hit, differ-told}
@@ -55,7 +55,7 @@ seen k = sym (ap grantRead (k .fields .given .1)) ∙ k .before .before .read-gr
 inside : (k : tie.After-fields Inv-levels μ-levels Inv-grants μ-grants)
     → (levelsPlace ≤ k .fields .given .0 .0 .len)
     × (k .fields .given .0 .0 .pattern + k .fields .given .0 .0 .len ≤ length (turn k .before .before .before .args .s .now))
-inside k = pattern-room _ _ (seen k)
+inside k = pattern-room _ _ _ _ (seen k)
 
 -- the grant that was read, where the inner loop is
 abbrev grantIn : tie.At-levels Inv-levels μ-levels Inv-grants μ-grants → tie.After-fields Inv-levels μ-levels Inv-grants μ-grants

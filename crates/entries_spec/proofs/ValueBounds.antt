@@ -16,12 +16,12 @@ use Rattle.exact.specs.Holds.{Holds}
 use Rattle.exact.proofs.HoldsLaws.{held, holds-map, holds-bind, holds-guard, holds-many}
 use Rattle.cbor_item_spec.specs.Laws.{HeadTo, SpanTo}
 use Rattle.cbor_item_spec.proofs.Laws.{heads-end, spans-end}
-use Rattle.entries.specs.declared.value.Kind.{Kind}
-use Rattle.entries.specs.declared.value.Kind.the-variants.{Text}
-use Rattle.entries.specs.declared.value.Optional.{Optional}
-use Rattle.entries.specs.Kinds.{majorOf, isKind}
-use Rattle.entries.specs.Value.{countAt, stringAt, kindAt, keyedAt, absent, orAbsent, optKindAt}
-use Rattle.entries.specs.Reader.{pairAt, pairsAt, optPairsAt}
+use Rattle.entries_spec.specs.declared.Kind.{Kind}
+use Rattle.entries_spec.specs.declared.Kind.the-variants.{Text}
+use Rattle.entries_spec.specs.declared.Optional.{Optional}
+use Rattle.entries_spec.specs.Kinds.{majorOf, isKind}
+use Rattle.entries_spec.specs.Value.{countAt, stringAt, kindAt, keyedAt, absent, orAbsent, optKindAt}
+use Rattle.entries_spec.specs.Reader.{pairAt, pairsAt, optPairsAt}
 
 -- ---- keys
 

@@ -11,16 +11,16 @@ use Rattle.exact.specs.Reads.{Got, got, refused, Reads, bind, optAt, encOpt, Op
 use Rattle.exact.proofs.ReadsLaws.{mapped}
 use Rattle.exact.proofs.OptionalLaws.{optional}
 use Rattle.cbor_item_spec.specs.Head.{encodeString}
-use Rattle.entries.specs.declared.value.Kind.{Kind}
-use Rattle.entries.specs.declared.value.Optional.{Optional}
-use Rattle.entries.specs.Model.{Pair, pairCount, size, encPairs}
-use Rattle.entries.specs.Kinds.{majorOf}
-use Rattle.entries.specs.Allowed.{KindOk, PairsOk}
-use Rattle.entries.specs.Value.{present, flag, orAbsent, optKindAt}
-use Rattle.entries.specs.Reader.{optPairsAt}
-use Rattle.entries.specs.View.{contentSpan, orNone, optKindView, optPairsView}
-use Rattle.entries.proofs.ValueLaws.{KindShort, string-exact}
-use Rattle.entries.proofs.PairLaws.{pairs-exact}
+use Rattle.entries_spec.specs.declared.Kind.{Kind}
+use Rattle.entries_spec.specs.declared.Optional.{Optional}
+use Rattle.entries_spec.specs.Model.{Pair, pairCount, size, encPairs}
+use Rattle.entries_spec.specs.Kinds.{majorOf}
+use Rattle.entries_spec.specs.Allowed.{KindOk, PairsOk}
+use Rattle.entries_spec.specs.Value.{present, flag, orAbsent, optKindAt}
+use Rattle.entries_spec.specs.Reader.{optPairsAt}
+use Rattle.entries_spec.specs.View.{contentSpan, orNone, optKindView, optPairsView}
+use Rattle.entries_spec.proofs.ValueLaws.{KindShort, string-exact}
+use Rattle.entries_spec.proofs.PairLaws.{pairs-exact}
 
 -- an optional value is one key at most
 pub size-small : {X : Type 0} (x : Option X) → size x ≤ 1

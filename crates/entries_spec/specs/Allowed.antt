@@ -11,9 +11,9 @@ use Rattle.cbor_item_spec.specs.Unicode.{Utf8}
 use Rattle.exact.specs.Reads.{AllFrom}
 use Rattle.resource_spec.specs.Identifier.{isFay, isTerminal}
 use Rattle.resource_spec.specs.Text.{patternOk}
-use Rattle.entries.specs.declared.value.Kind.{Kind}
-use Rattle.entries.specs.declared.value.Kind.the-variants.{Text, Bytes, Terminal, Fay, Pattern}
-use Rattle.entries.specs.Model.{Pair, Signature, encText}
+use Rattle.entries_spec.specs.declared.Kind.{Kind}
+use Rattle.entries_spec.specs.declared.Kind.the-variants.{Text, Bytes, Terminal, Fay, Pattern}
+use Rattle.entries_spec.specs.Model.{Pair, Signature, encText}
 
 -- a text of lo to hi bytes
 pub record TextOk (lo hi : ℕ) (c : List ℕ) : Type 0 where

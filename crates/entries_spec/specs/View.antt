@@ -7,13 +7,13 @@ use lib.ListN.{length}
 use Rattle.octets.specs.Span.{Span, spanOf}
 use Rattle.exact.specs.Reads.{viewOpt}
 use Rattle.cbor_item_spec.specs.Encoding.{head}
-use Rattle.entries.specs.declared.value.Optional.{Optional}
-use Rattle.entries.specs.declared.value.Kind.{Kind}
-use Rattle.entries.specs.Keys.{kAlgorithm, kSignatureValue}
-use Rattle.entries.specs.Model.{Pair, Signature, encText, encAlgorithm}
-use Rattle.entries.specs.Kinds.{majorOf}
-use Rattle.entries.specs.Value.{absent, present}
-use Rattle.entries.specs.Reader.{SignatureSeen}
+use Rattle.entries_spec.specs.declared.Optional.{Optional}
+use Rattle.entries_spec.specs.declared.Kind.{Kind}
+use Rattle.entries_spec.specs.Keys.{kAlgorithm, kSignatureValue}
+use Rattle.entries_spec.specs.Model.{Pair, Signature, encText, encAlgorithm}
+use Rattle.entries_spec.specs.Kinds.{majorOf}
+use Rattle.entries_spec.specs.Value.{absent, present}
+use Rattle.entries_spec.specs.Reader.{SignatureSeen}
 
 -- the content of a string that stands at a place with its head
 abbrev pub contentSpan : ℕ → ℕ → List ℕ → Span

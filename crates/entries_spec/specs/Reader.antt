@@ -9,10 +9,10 @@ use Rattle.octets.specs.Bytes.{part, hasAt}
 use Rattle.octets.specs.Order.{before}
 use Rattle.octets.specs.Span.{Span, spanOf}
 use Rattle.exact.specs.Reads.{Got, got, bind, guard, many}
-use Rattle.entries.specs.declared.value.Kind.the-variants.{Text, Bytes}
-use Rattle.entries.specs.declared.value.Optional.{Optional}
-use Rattle.entries.specs.Keys.{kAlgorithm, kSignatureValue, algorithms}
-use Rattle.entries.specs.Value.{countAt, kindAt, oneOf, keyedAt, present, orAbsent}
+use Rattle.entries_spec.specs.declared.Kind.the-variants.{Text, Bytes}
+use Rattle.entries_spec.specs.declared.Optional.{Optional}
+use Rattle.entries_spec.specs.Keys.{kAlgorithm, kSignatureValue, algorithms}
+use Rattle.entries_spec.specs.Value.{countAt, kindAt, oneOf, keyedAt, present, orAbsent}
 
 -- ---- pairs
 

@@ -10,9 +10,9 @@ use Rattle.octets.specs.Bytes.{part, hasAt}
 use Rattle.octets.specs.Span.{Span}
 use Rattle.exact.specs.Reads.{Got, got, refused, bind, guard}
 use Rattle.cbor_item_spec.specs.Head.{headAt, spanAt}
-use Rattle.entries.specs.declared.value.Kind.{Kind}
-use Rattle.entries.specs.declared.value.Optional.{Optional}
-use Rattle.entries.specs.Kinds.{within, majorOf, isKind}
+use Rattle.entries_spec.specs.declared.Kind.{Kind}
+use Rattle.entries_spec.specs.declared.Optional.{Optional}
+use Rattle.entries_spec.specs.Kinds.{within, majorOf, isKind}
 
 -- ---- single values
 

@@ -1,6 +1,5 @@
--- What the readers of a payload's pieces and of a whole descriptor answer lies in the bytes, and a payload's period is not empty. Assumes
--- nothing.
-use mathlib.Core.Path.{_≡_, refl}
+-- Where the pieces of a payload that is read lie (specs/Laws.antt). Assumes nothing.
+use mathlib.Core.Path.{_≡_}
 use mathlib.Core.Bool.{Bool, true, _&&_}
 use mathlib.Core.List.{List}
 use Prim.Native.Nat.{ℕ, _+_, _≤_, _<_}
@@ -9,24 +8,24 @@ use lib.ListN.{length}
 use lib.Dec.{T, ltb, leb, eqb, ltb→lt}
 use mir.Facts.{and-yes}
 use borrow.Author.Tests.{leb-true}
-use Rattle.resource_spec.specs.Identifier.{faySize, terminalSize}
 use Rattle.octets.specs.Bytes.{part, same}
 use Rattle.octets.proofs.Tests.{and-left}
-use Rattle.exact.specs.Reads.{got}
 use Rattle.exact.specs.Holds.{Holds}
-use Rattle.exact.proofs.HoldsLaws.{held, holds-map, holds-bind, holds-then, holds-guard}
+use Rattle.exact.proofs.HoldsLaws.{holds-map, holds-bind, holds-then, holds-guard}
+use Rattle.resource_spec.specs.Identifier.{faySize, terminalSize}
 use Rattle.resource_spec.proofs.Laws.{terminal-length, fay-length}
-use Rattle.entries.specs.declared.value.Kind.the-variants.{Text, Bytes, Terminal, Fay}
-use Rattle.entries.specs.Keys.{kMetadata, kIssuedAt, kIssuerId, kNotAfter, kGrantorId, kNotBefore, kTerminalId, kDescriptorId}
-use Rattle.entries.specs.Keys.{kSubjectFayId}
-use Rattle.entries.specs.Kinds.{isKind}
-use Rattle.entries.specs.Value.{timeAt, keyedAt, flag}
-use Rattle.entries.proofs.ValueBounds.{CountTo, count-bounds, keyed-count-bounds, StringTo, keyed-kind-bounds, opt-kind-on, opt-pairs-on}
-use Rattle.descriptor.specs.declared.payload.PayloadFields.{PayloadFields}
-use Rattle.descriptor_spec.specs.Reader.{issueAt, grantorAt, Ids, idsAt, PayloadSeen, payloadFits, payloadAt, Seen, beforePayload}
+use Rattle.entries_spec.specs.declared.Kind.the-variants.{Text, Bytes, Terminal, Fay}
+use Rattle.entries_spec.specs.Keys.{kMetadata, kIssuedAt, kIssuerId, kNotAfter, kGrantorId, kNotBefore, kTerminalId, kDescriptorId}
+use Rattle.entries_spec.specs.Keys.{kSubjectFayId}
+use Rattle.entries_spec.specs.Kinds.{isKind}
+use Rattle.entries_spec.specs.Value.{timeAt, keyedAt, flag}
+use Rattle.entries_spec.proofs.ValueBounds.{CountTo, count-bounds, keyed-count-bounds, StringTo, keyed-kind-bounds, opt-kind-on, opt-pairs-on}
+use Rattle.descriptor_spec.specs.Allowed.{idSize}
+use Rattle.descriptor_spec.specs.Reader.{issueAt, grantorAt, idsAt, PayloadSeen, payloadFits, payloadAt, Seen, beforePayload}
 use Rattle.descriptor_spec.specs.Reader.{descriptorAt}
-use Rattle.descriptor.specs.Code.{payloadOf}
-use Rattle.descriptor.proofs.GrantBounds.{GrantsIn, grants-bounds}
+use Rattle.descriptor_spec.specs.Laws as laws
+use Rattle.descriptor_spec.specs.Laws.{GrantsIn, IdsIn, PayloadIn}
+use Rattle.descriptor_spec.proofs.bounds.GrantBounds.{grants-bounds}
 
 -- ---- the pieces
 
@@ -58,34 +57,28 @@ grantor-on s at =
     holds-bind (λ v n. at ≤ n) (λ g n. at ≤ n) _ _ (opt-kind-on s at kGrantorId (Text 1 128))
     (λ v n i. holds-bind (λ t m. n ≤ m) (λ g n. at ≤ n) _ _ (time-on s n kNotBefore) (λ t m j. omega (arith, i, j)))
 
--- what is known of the ids: they lie within s
-pub record IdsIn (s : List ℕ) (at : ℕ) (ids : Ids) (n : ℕ) : Type 0 where
-  pub after : at ≤ n
-  pub terminal : ids .terminal + terminalSize ≤ length s
-  pub id : ids .id + 16 ≤ length s
-  pub fay : ids .fay + faySize ≤ length s
-
 -- the lengths of the three
 terminal-long : (c : List ℕ) → isKind Terminal c ≡ true → terminalSize ≤ length c
 unfolding isKind
 terminal-long c e = omega (arith, terminal-length c e)
 
-id-long : (c : List ℕ) → isKind (Bytes 16 16) c ≡ true → 16 ≤ length c
+id-long : (c : List ℕ) → isKind (Bytes idSize idSize) c ≡ true → idSize ≤ length c
 unfolding isKind
-id-long c e = leb-true 16 (length c) (and-left (leb 16 (length c)) (leb (length c) 16) e)
+id-long c e = leb-true idSize (length c) (and-left (leb idSize (length c)) (leb (length c) idSize) e)
 
 fay-long : (c : List ℕ) → isKind Fay c ≡ true → faySize ≤ length c
 unfolding isKind
 fay-long c e = omega (arith, fay-length c e)
 
 -- the ids lie within s
-ids-bounds : (s : List ℕ) (at : ℕ) → Holds (IdsIn s at) (idsAt s at)
+pub ids-bounds : laws.IdsBounds
 unfolding idsAt
 ids-bounds s at =
     holds-bind (StringTo s (at + length kTerminalId) terminalSize) (IdsIn s at) _ _
     (keyed-kind-bounds Terminal terminalSize terminal-long s at kTerminalId)
     (λ c n i.
-    holds-bind (StringTo s (n + length kDescriptorId) 16) (IdsIn s at) _ _ (keyed-kind-bounds (Bytes 16 16) 16 id-long s n kDescriptorId)
+    holds-bind (StringTo s (n + length kDescriptorId) idSize) (IdsIn s at) _ _
+    (keyed-kind-bounds (Bytes idSize idSize) idSize id-long s n kDescriptorId)
     (λ d m j.
     holds-bind (StringTo s (m + length kSubjectFayId) faySize) (IdsIn s at) _ _ (keyed-kind-bounds Fay faySize fay-long s m kSubjectFayId)
     (λ f k l. record {
@@ -94,10 +87,6 @@ ids-bounds s at =
       id = omega (arith, j .0 .ends, j .0 .fits, j .1);
       fay = omega (arith, l .0 .ends, l .0 .fits, l .1);
     })))
-
--- so it is for ids that were read
-pub ids-room : {ids : Ids} {n : ℕ} (s : List ℕ) (at : ℕ) → got ids n ≡ idsAt s at → IdsIn s at ids n
-ids-room s at e = held (IdsIn s at) (ids-bounds s at) e
 
 -- ---- the payload
 
@@ -111,16 +100,8 @@ fits-lasts s p t =
     let d = ltb (p .notBefore) (p .notAfter) in
     ltb→lt (p .notBefore) (p .notAfter) (and-yes c d (and-yes b (c && d) (and-yes a (b && (c && d)) t .1) .1) .1)
 
--- what is known of a payload: its period is not empty, its mask is small, and its ids lie within s
-pub record PayloadIn (s : List ℕ) (p : PayloadSeen) : Type 0 where
-  pub lasts : p .notBefore < p .notAfter
-  pub small : p .grants .sum .mask < 16
-  pub terminal : p .terminal + terminalSize ≤ length s
-  pub id : p .id + 16 ≤ length s
-  pub fay : p .fay + faySize ≤ length s
-
 -- so it is for each that is answered, and it ends not before its place
-payload-bounds : (s : List ℕ) (at : ℕ) → Holds (λ p n. (at ≤ n) × PayloadIn s p) (payloadAt s at)
+pub payload-bounds : laws.PayloadBounds
 unfolding payloadAt
 payload-bounds s at =
     let P : PayloadSeen → ℕ → Type 0 = λ p n. (at ≤ n) × PayloadIn s p in
@@ -139,24 +120,11 @@ payload-bounds s at =
       record { lasts = fits-lasts s _ t; small = j .small; terminal = m .terminal; id = m .id; fay = m .fay },
     )))))))
 
--- and for one that was read
-pub payload-room : {p : PayloadSeen} {n : ℕ} (s : List ℕ) (at : ℕ) → got p n ≡ payloadAt s at → (at ≤ n) × PayloadIn s p
-payload-room s at e = held (λ p n. (at ≤ n) × PayloadIn s p) (payload-bounds s at) e
-
 -- and for that of each descriptor that is answered
-pub descriptor-bounds : (s : List ℕ) (at : ℕ) → Holds (λ v n. PayloadIn s (v .payload)) (descriptorAt s at)
+pub descriptor-bounds : laws.DescriptorBounds
 unfolding descriptorAt
 descriptor-bounds s at =
     let P : Seen → ℕ → Type 0 = λ v n. PayloadIn s (v .payload) in
     let b = at + length beforePayload in
     holds-bind (λ p n. (b ≤ n) × PayloadIn s p) P _ _ (holds-guard (λ p n. (b ≤ n) × PayloadIn s p) _ _ (λ t. payload-bounds s b))
     (λ p n i. holds-then P _ _ (λ g m. i .1))
-
--- the code's test of a payload is the reader's
-pub fits-test : (s : List ℕ) (p : PayloadFields) (k l : ℕ) (o : Bool) → k ≡ flag (p .issue .metadata .there)
-    → l ≡ flag (p .grantor .grantor .there) → o ≡ same (part s (p .grants .first) terminalSize) (part s (p .ids .terminal) terminalSize)
-    → (eqb (p .keys) (8 + (k + l)) &&
-    (o && (leb (p .issue .«issued_at») (p .grantor .«not_before») && ltb (p .grantor .«not_before») (p .issue .«not_after»))))
-    ≡ payloadFits s (payloadOf p)
-unfolding payloadFits
-fits-test s p k l o e f g = rw (e, f, g) refl

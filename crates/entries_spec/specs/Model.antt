@@ -7,7 +7,7 @@ use lib.ListN.{length, getD}
 use Rattle.cbor_item_spec.specs.Encoding.{head}
 use Rattle.cbor_item_spec.specs.Head.{encodeString}
 use Rattle.exact.specs.Reads.{encAll}
-use Rattle.entries.specs.Keys.{kKeyId, kAlgorithm, kSignatureValue, algorithms}
+use Rattle.entries_spec.specs.Keys.{kKeyId, kAlgorithm, kSignatureValue, algorithms}
 
 -- ---- what there is
 

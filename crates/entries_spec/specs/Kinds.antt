@@ -8,8 +8,8 @@ use lib.Dec.{leb}
 use Rattle.cbor_item_spec.specs.Utf8.{isUtf8}
 use Rattle.resource_spec.specs.Identifier.{isFay, isTerminal}
 use Rattle.resource_spec.specs.Text.{patternOk}
-use Rattle.entries.specs.declared.value.Kind.{Kind}
-use Rattle.entries.specs.declared.value.Kind.the-variants.{Text, Bytes, Terminal, Fay, Pattern}
+use Rattle.entries_spec.specs.declared.Kind.{Kind}
+use Rattle.entries_spec.specs.declared.Kind.the-variants.{Text, Bytes, Terminal, Fay, Pattern}
 
 -- n is a number from lo to hi
 abbrev pub within : ℕ → ℕ → ℕ → Bool

@@ -9,13 +9,13 @@ use lib.Dec.{T, eqb→eq, lit<}
 use Rattle.octets.specs.Bytes.{AreBytes, clash}
 use Rattle.exact.specs.Reads.{Reads}
 use Rattle.exact.proofs.ReadsLaws.{recast, seq, keyed, refine}
-use Rattle.entries.specs.declared.value.Kind.the-variants.{Text, Bytes}
-use Rattle.entries.specs.Keys.{kAlgorithm, kSignatureValue, ed25519, ecdsaP256Sha256, algorithms}
-use Rattle.entries.specs.Model.{Signature, encText, encBytes, encAlgorithm}
-use Rattle.entries.specs.Allowed.{ValueOk, SignatureOk}
-use Rattle.entries.specs.Reader.{valueFits, algorithmAt, signatureAt}
-use Rattle.entries.specs.View.{signatureView}
-use Rattle.entries.proofs.ValueLaws.{Apart, string-exact, one-exact}
+use Rattle.entries_spec.specs.declared.Kind.the-variants.{Text, Bytes}
+use Rattle.entries_spec.specs.Keys.{kAlgorithm, kSignatureValue, ed25519, ecdsaP256Sha256, algorithms}
+use Rattle.entries_spec.specs.Model.{Signature, encText, encBytes, encAlgorithm}
+use Rattle.entries_spec.specs.Allowed.{ValueOk, SignatureOk}
+use Rattle.entries_spec.specs.Reader.{valueFits, algorithmAt, signatureAt}
+use Rattle.entries_spec.specs.View.{signatureView}
+use Rattle.entries_spec.proofs.ValueLaws.{Apart, string-exact, one-exact}
 
 -- no two algorithms can stand at one place
 algorithms-apart : Apart algorithms

@@ -15,11 +15,11 @@ use Rattle.exact.specs.Reads.{Reads, encAll}
 use Rattle.exact.proofs.ReadsLaws.{recast, seq, mapped, checked}
 use Rattle.exact.proofs.CountedLaws.{counted}
 use Rattle.cbor_item_spec.specs.Encoding.{head}
-use Rattle.entries.specs.declared.value.Kind.the-variants.{Text}
-use Rattle.entries.specs.Model.{Pair, encText, encPair, encPairs}
-use Rattle.entries.specs.Allowed.{PairOk, keyOf, PairsOk}
-use Rattle.entries.specs.Reader.{pairAt, pairsAt}
-use Rattle.entries.proofs.ValueLaws.{count-exact, string-exact}
+use Rattle.entries_spec.specs.declared.Kind.the-variants.{Text}
+use Rattle.entries_spec.specs.Model.{Pair, encText, encPair, encPairs}
+use Rattle.entries_spec.specs.Allowed.{PairOk, keyOf, PairsOk}
+use Rattle.entries_spec.specs.Reader.{pairAt, pairsAt}
+use Rattle.entries_spec.proofs.ValueLaws.{count-exact, string-exact}
 
 -- where the encoding of a pair's key stands, when the pair stands at a place
 abbrev keyPart : ℕ → Pair → Span

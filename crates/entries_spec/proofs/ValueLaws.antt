@@ -20,12 +20,12 @@ use Rattle.cbor_item_spec.proofs.Promises.{heads-exact, spans-exact, utf8-exact
 use Rattle.resource_spec.specs.Identifier.{isFay, isTerminal}
 use Rattle.resource_spec.specs.Text.{patternOk}
 use Rattle.resource_spec.proofs.Laws.{terminal-length, fay-length, pattern-short}
-use Rattle.entries.specs.declared.value.Kind.{Kind}
-use Rattle.entries.specs.declared.value.Kind.the-variants.{Text, Bytes, Terminal, Fay, Pattern}
-use Rattle.entries.specs.Kinds.{within, majorOf, isKind}
-use Rattle.entries.specs.Allowed.{TextOk, KindOk, TimeOk}
-use Rattle.entries.specs.Value.{countAt, timeAt, stringAt, kindAt, oneOf}
-use Rattle.entries.specs.View.{contentSpan}
+use Rattle.entries_spec.specs.declared.Kind.{Kind}
+use Rattle.entries_spec.specs.declared.Kind.the-variants.{Text, Bytes, Terminal, Fay, Pattern}
+use Rattle.entries_spec.specs.Kinds.{within, majorOf, isKind}
+use Rattle.entries_spec.specs.Allowed.{TextOk, KindOk, TimeOk}
+use Rattle.entries_spec.specs.Value.{countAt, timeAt, stringAt, kindAt, oneOf}
+use Rattle.entries_spec.specs.View.{contentSpan}
 
 -- ---- tests
 

@@ -1,0 +1,2 @@
+pub mod GrantBounds
+pub mod PayloadBounds

@@ -1,0 +1,5 @@
+pub mod ValueBounds
+pub mod ValueLaws
+pub mod PairLaws
+pub mod OptionalLaws
+pub mod SignatureLaws

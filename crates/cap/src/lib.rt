@@ -66,7 +66,8 @@ pub extern "C" fn cap_match(pattern: &[u8], resource: &[u8]) -> MatchingNumbers
 // Makes a new image.
 #[no_mangle]
 pub extern "C" fn cap_image_new(image: &mut [u8]) -> u64
-    ensures answer { λ r. ⌜ (r ≡ creations.numberOf (creations.creationOf (now (image .entry)))) × (now (image .exit) ≡ edition1.afterNew (now (image .entry))) ⌝ }
+    ensures answer { λ r. ⌜ (r ≡ creations.numberOf (creations.creationOf (now (image .entry))))
+        × (now (image .exit) ≡ edition1.afterNew (now (image .entry))) ⌝ }
     ensures lent { λ _. ⌜ AreBytes (now (image .entry)) ⌝ }
 {
     numbers::of_creation(image::new_image(image))
@@ -92,7 +93,10 @@ pub extern "C" fn cap_submit(
     has_valid_until: u64,
     valid_until: u64,
 ) -> u64
-    ensures answer { λ r. ⌜ (r ≡ submissions.numberOf (submissions.submitted (now (image .entry)) (now (descriptor .entry)) clock verdict (windowOf «valid_from» «has_valid_until» «valid_until»))) × (now (image .exit) ≡ submissions.afterOf (now (image .entry)) (now (descriptor .entry)) clock verdict (windowOf «valid_from» «has_valid_until» «valid_until»)) ⌝ }
+    ensures answer { λ r. ⌜ (r ≡ submissions.numberOf (submissions.submitted (now (image .entry)) (now (descriptor .entry)) clock verdict
+        (windowOf «valid_from» «has_valid_until» «valid_until»)))
+        × (now (image .exit) ≡ submissions.afterOf (now (image .entry)) (now (descriptor .entry)) clock verdict
+        (windowOf «valid_from» «has_valid_until» «valid_until»)) ⌝ }
     ensures lent { λ _. ⌜ AreBytes (now (image .entry)) × AreBytes (now (descriptor .entry)) ⌝ }
 {
     let key = numbers::window(valid_from, has_valid_until, valid_until);
@@ -116,8 +120,11 @@ pub extern "C" fn cap_request(
     has_valid_until: u64,
     valid_until: u64,
 ) -> DecisionNumbers
-    ensures answer { λ r. ⌜ r ≡ requests.numbersOf (requests.decisionOf (now (image .entry)) (requestOf (now (id .entry)) (now (fay .entry)) (now (terminal .entry)) (now (resource .entry)) mode clock «session_length» (now (revoked .entry)) verdict (windowOf «valid_from» «has_valid_until» «valid_until»))) ⌝ }
-    ensures lent { λ _. ⌜ AreBytes (now (image .entry)) × AreBytes (now (id .entry)) × AreBytes (now (fay .entry)) × AreBytes (now (terminal .entry)) × AreBytes (now (resource .entry)) × AreBytes (now (revoked .entry)) ⌝ }
+    ensures answer { λ r. ⌜ r ≡ requests.numbersOf (requests.decisionOf (now (image .entry))
+        (requestOf (now (id .entry)) (now (fay .entry)) (now (terminal .entry)) (now (resource .entry)) mode clock «session_length»
+        (now (revoked .entry)) verdict (windowOf «valid_from» «has_valid_until» «valid_until»))) ⌝ }
+    ensures lent { λ _. ⌜ AreBytes (now (image .entry)) × AreBytes (now (id .entry)) × AreBytes (now (fay .entry))
+        × AreBytes (now (terminal .entry)) × AreBytes (now (resource .entry)) × AreBytes (now (revoked .entry)) ⌝ }
 {
     let environment = Environment {
         clock,

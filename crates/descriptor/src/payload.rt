@@ -182,9 +182,9 @@ fn if_fits(s: &[u8], payload: PayloadFields, next: usize) -> PayloadRead
     let named = grantor.grantor;
     let ids = payload.ids;
     let keys = 8 + (keys_of(metadata.there) + keys_of(named.there));
-    let own = equal_terminals(s, grants.first, ids.terminal);
+    let shared = equal_terminals(s, grants.first, ids.terminal);
     let lasts = (issue.issued_at <= grantor.not_before) & (grantor.not_before < issue.not_after);
-    if (payload.keys == keys) & (own & lasts) {
+    if (payload.keys == keys) & (shared & lasts) {
         return PayloadRead::IsPayload { payload, next };
     }
     PayloadRead::NoPayload

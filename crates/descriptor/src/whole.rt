@@ -5,6 +5,8 @@ use crate::Reading;
 use crate::payload::PayloadFields;
 use crate::payload::PayloadRead;
 use crate::payload::payload_at;
+use descriptor_spec::sizes::LONGEST;
+use descriptor_spec::sizes::LONGEST_PERIOD;
 use entries::keys;
 use entries::signature::SignatureFields;
 use entries::signature::SignatureRead;
@@ -62,7 +64,7 @@ fn fields_of(p: PayloadFields, n: usize, g: SignatureFields) -> Fields
 pub(crate) fn descriptor(s: &[u8]) -> Reading
     ensures { λ r. ⌜ r ≡ readingOf (readOf (now (s .entry))) ⌝ }
 {
-    if 32768 < s.len() {
+    if LONGEST < s.len() {
         return Reading::Structure;
     }
     if !has_at(s, 0, &keys::BEFORE_PAYLOAD) {
@@ -86,7 +88,7 @@ pub(crate) fn descriptor(s: &[u8]) -> Reading
     }
     let issue = payload.issue;
     let grantor = payload.grantor;
-    if 7776000 < issue.not_after - grantor.not_before {
+    if LONGEST_PERIOD < issue.not_after - grantor.not_before {
         return Reading::Validity;
     }
     Reading::Read(fields_of(payload, next - 9, signature))

@@ -1,5 +1,5 @@
 -- The statements of specs/Laws.antt, each from its law. Assumes nothing.
-use Rattle.descriptor_spec.specs.Laws.{ReadsExactly, ValidityExactly, StructureExactly, AnswersTold, SeenHanded, GrantsAllowed}
+use Rattle.descriptor_spec.specs.Laws.{ReadsExactly, ValidityExactly, StructureExactly, NumberTells, SeenHanded, GrantsAllowed}
 use Rattle.descriptor_spec.specs.Laws.{MaskExactly, GrantsWalk, GrantsEnd, GrantsInTurn}
 use Rattle.descriptor_spec.specs.Laws.{ModeBounds, ModesBounds, GrantBounds, MoreBounds, GrantsBounds, IdsBounds}
 use Rattle.descriptor_spec.specs.Laws.{PatternRoom, PayloadBounds, DescriptorBounds}
@@ -24,8 +24,8 @@ validity-exactly = answer.validity-exactly
 pub structure-exactly : StructureExactly
 structure-exactly = answer.structure-exactly
 
-pub answers-told : AnswersTold
-answers-told = number.answers-told
+pub number-tells : NumberTells
+number-tells = number.number-tells
 
 pub seen-handed : SeenHanded
 seen-handed = back.seen-handed

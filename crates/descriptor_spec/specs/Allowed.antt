@@ -61,7 +61,7 @@ pub record PayloadOk (p : Payload) : Type 0 where
   pub id : length (p .id) ≡ idSize
   pub fay : isFay (p .fay) ≡ true
   -- each pattern's terminal is the payload's
-  pub own : All (λ (g : Grant). take terminalSize (g .pattern) ≡ p .terminal) (p .grants)
+  pub patterns : All (λ (g : Grant). take terminalSize (g .pattern) ≡ p .terminal) (p .grants)
   -- issued_at ≤ not_before < not_after
   pub issued : p .issuedAt ≤ p .notBefore
   pub lasts : p .notBefore < p .notAfter

@@ -43,8 +43,8 @@ pub record ByNumber (s : List ℕ) : Type 0 where
   pub structure : (handed s .answer ≡ 1) ↔ (readOf s ≡ structure)
   pub validity : (handed s .answer ≡ 2) ↔ (readOf s ≡ validity)
 
-abbrev pub AnswersTold : Type 0
-AnswersTold = (s : List ℕ) → ByNumber s
+abbrev pub NumberTells : Type 0
+NumberTells = (s : List ℕ) → ByNumber s
 
 -- the numbers of what is seen of a formed descriptor are the descriptor's
 abbrev pub SeenHanded : Type 0
@@ -77,7 +77,7 @@ GrantsEnd = (d : Descriptor) → AreBytes (encode d) → Formed d
 -- levels of that
 pub record SeenAs (s t : List ℕ) (g : Grant) (v : GrantSeen) : Type 0 where
   pub allowed : GrantOk g
-  pub own : take terminalSize (g .pattern) ≡ t
+  pub terminal : take terminalSize (g .pattern) ≡ t
   pub mask : v .mask ≡ maskOf (g .modes)
   pub pairs : v .pairs ≡ pairCount (g .constraints)
   pub pattern : part s (v .pattern .start) (v .pattern .len) ≡ g .pattern

@@ -6,7 +6,8 @@ use Prim.Native.Nat.{ℕ, _+_}
 use lib.ListN.{length, getD}
 use Rattle.cbor_item_spec.specs.Encoding.{head}
 use Rattle.exact.specs.Reads.{encOpt, encAll}
-use Rattle.entries_spec.specs.Keys.{kPayload, kVersion, kSignature, kGrants, kMetadata, kIssuedAt, kIssuerId, kNotAfter, kGrantorId, kNotBefore}
+use Rattle.entries_spec.specs.Keys.{kPayload, kVersion, kSignature, kGrants, kMetadata, kIssuedAt, kIssuerId, kNotAfter, kGrantorId}
+use Rattle.entries_spec.specs.Keys.{kNotBefore}
 use Rattle.entries_spec.specs.Keys.{kTerminalId, kDescriptorId, kSubjectFayId, kModes, kConstraints, kResourcePattern}
 use Rattle.entries_spec.specs.Keys.{mRead, mWrite, mExecute, mConfigure}
 use Rattle.entries_spec.specs.Model.{Pair, Signature, size, encText, encBytes, encPairs, encSignature}

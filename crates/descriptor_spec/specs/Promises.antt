@@ -228,7 +228,7 @@ pub record GrantWithin (t : List ℕ) (g : Grant) : Type 0 where
   pub constraints : OptOk (PairsWithin 8) (g .constraints)
   pub pattern : isPattern (g .pattern) ≡ true
   pub short : length (g .pattern) ≤ 256
-  pub own : take 45 (g .pattern) ≡ t
+  pub terminal : take 45 (g .pattern) ≡ t
 
 -- a descriptor but for its longest period: at most 32,768 bytes, 1 to 256 grants, at most 16 pairs of metadata, times of 64 bits,
 -- issued_at ≤ not_before < not_after, and an ed25519 signature of 64 bytes or one of ecdsa-p256-sha256 of 1 to 72

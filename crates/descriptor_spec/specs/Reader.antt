@@ -12,7 +12,8 @@ use Rattle.exact.specs.Reads.{Got, got, refused, bind, guard, many}
 use Rattle.resource_spec.specs.Identifier.{terminalSize}
 use Rattle.entries_spec.specs.declared.Kind.the-variants.{Text, Bytes, Terminal, Fay, Pattern}
 use Rattle.entries_spec.specs.declared.Optional.{Optional}
-use Rattle.entries_spec.specs.Keys.{kPayload, kVersion, kSignature, kGrants, kMetadata, kIssuedAt, kIssuerId, kNotAfter, kGrantorId, kNotBefore}
+use Rattle.entries_spec.specs.Keys.{kPayload, kVersion, kSignature, kGrants, kMetadata, kIssuedAt, kIssuerId, kNotAfter, kGrantorId}
+use Rattle.entries_spec.specs.Keys.{kNotBefore}
 use Rattle.entries_spec.specs.Keys.{kTerminalId, kDescriptorId, kSubjectFayId, kKeyId, kModes, kConstraints, kResourcePattern}
 use Rattle.entries_spec.specs.Value.{countAt, timeAt, kindAt, oneOf, keyedAt, flag, optKindAt}
 use Rattle.entries_spec.specs.Reader.{optPairsAt, SignatureSeen, signatureAt}

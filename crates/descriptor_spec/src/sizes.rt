@@ -7,3 +7,8 @@ pub const ID_SIZE: usize = 16;
 pub const MODE_COUNT: u64 = 4;
 
 pub const HIGHEST_MODE: u64 = 3;
+
+// The most bytes of a descriptor, and the longest period in seconds: 90 days.
+pub const LONGEST: usize = 32768;
+
+pub const LONGEST_PERIOD: u64 = 7776000;

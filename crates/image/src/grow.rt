@@ -71,7 +71,8 @@ fn put_row(layout: Layout, d: &mut [u8], r: usize, at: usize, body: &[u8], id: u
 
 // Adds the body last: n rows are held, whose bodies end at `end`.
 fn grow(layout: Layout, d: &mut [u8], rows: u64, end: usize, body: &[u8], id: usize, mask: u64)
-    requires { ⌜ LayoutOk layout × (rows < mostRows layout) × (rowPlace layout rows ≤ end) × (end + rowSize layout + length (now body) ≤ length (now d)) × (id + idSize ≤ length (now body)) ⌝ }
+    requires { ⌜ LayoutOk layout × (rows < mostRows layout) × (rowPlace layout rows ≤ end)
+        × (end + rowSize layout + length (now body) ≤ length (now d)) × (id + idSize ≤ length (now body)) ⌝ }
     ensures { λ _. ⌜ now (d .exit) ≡ grown layout (now (d .entry)) rows end (now (body .entry)) id mask ⌝ }
 {
     let n = rows as usize;
@@ -126,7 +127,8 @@ pub(crate) fn add_body(
     mask: u64,
 ) -> Added
     requires { ⌜ LayoutOk layout ⌝ }
-    ensures { λ r. ⌜ (r ≡ addedOf layout (now (d .entry)) rows end (now (body .entry)) id) × (now (d .exit) ≡ afterAdd layout (now (d .entry)) rows end (now (body .entry)) id mask) ⌝ }
+    ensures { λ r. ⌜ (r ≡ addedOf layout (now (d .entry)) rows end (now (body .entry)) id)
+        × (now (d .exit) ≡ afterAdd layout (now (d .entry)) rows end (now (body .entry)) id mask) ⌝ }
 {
     if !can_grow(layout, d, rows, end, body, id) {
         return Added::Full;

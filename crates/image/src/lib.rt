@@ -52,7 +52,8 @@ pub fn new_image(image: &mut [u8]) -> Creation
 // Adds the body last to an image of so many rows, whose bodies end at `end`; its id stands at `id` in it. Where it cannot be added nothing
 // is written.
 pub fn add_body(image: &mut [u8], rows: u64, end: usize, body: &[u8], id: usize, mask: u64) -> Added
-    ensures { λ r. ⌜ (r ≡ addedOf (now (image .entry)) rows end (now (body .entry)) id) × (now (image .exit) ≡ afterAdd (now (image .entry)) rows end (now (body .entry)) id mask) ⌝ }
+    ensures { λ r. ⌜ (r ≡ addedOf (now (image .entry)) rows end (now (body .entry)) id)
+        × (now (image .exit) ≡ afterAdd (now (image .entry)) rows end (now (body .entry)) id mask) ⌝ }
 {
     grow::add_body(EDITION1, image, rows, end, body, id, mask)
 }

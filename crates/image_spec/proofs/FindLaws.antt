@@ -15,7 +15,8 @@ use Rattle.image_spec.specs.declared.layout.Layout.{Layout}
 use Rattle.image_spec.specs.Layout.{rowPlace, LayoutOk}
 use Rattle.image_spec.specs.Image.{Row, imageOf, Holds}
 use Rattle.image_spec.specs.Check.{rowCount, checked, checkAnswer, checkOf, isSound, rowsHeld}
-use Rattle.image_spec.specs.Laws.{HeldIs, CheckTellsFor, SoundCheck, CheckSaysFor, CheckUnsoundFor, HeldFits, CheckFits, CheckInsideFor}
+use Rattle.image_spec.specs.Laws.{HeldIs, CheckTellsFor, SoundCheck, CheckSaysFor, CheckUnsoundFor, HeldFits, CheckFits}
+use Rattle.image_spec.specs.Laws.{CheckInsideFor}
 use Rattle.image_spec.specs.Laws.{RowsNamedFor, EditionsCheckedFor}
 use Rattle.image_spec.proofs.HeldLaws.{heldIn, held-is}
 use Rattle.image_spec.proofs.RunLaws.{Run}

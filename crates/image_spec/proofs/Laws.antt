@@ -1,6 +1,7 @@
 -- The statements of specs/Laws.antt, each from its law. Assumes nothing.
 use Rattle.image_spec.specs.Layout.{edition1}
-use Rattle.image_spec.specs.Laws.{RowsInOrder, OffsetsFit, RowNext, ReadIn, BodyRead, EncodingRead, BodyWithExactly, RowsNamed, CheckTells, CheckSays}
+use Rattle.image_spec.specs.Laws.{RowsInOrder, OffsetsFit, RowNext, ReadIn, BodyRead, EncodingRead, BodyWithExactly, RowsNamed}
+use Rattle.image_spec.specs.Laws.{CheckTells, CheckSays}
 use Rattle.image_spec.specs.Laws.{CheckUnsound, EditionsChecked, CheckInside, BodyAdded, OneMore}
 use Rattle.image_spec.proofs.RowPlaceLaws.{edition1-ok, place-order, place-small}
 use Rattle.image_spec.proofs.RowOkLaws as ok

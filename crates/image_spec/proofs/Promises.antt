@@ -1,5 +1,6 @@
 -- The promises of specs/Promises.antt, each from its law. Assumes nothing.
-use Rattle.image_spec.specs.Promises.{LayoutFixed, RowOfBody, MaskSmall, HoldsExactly, BodiesOnce, BodyOfId, LookupExactly, SoundExactly}
+use Rattle.image_spec.specs.Promises.{LayoutFixed, RowOfBody, MaskSmall, HoldsExactly, BodiesOnce, BodyOfId, LookupExactly}
+use Rattle.image_spec.specs.Promises.{SoundExactly}
 use Rattle.image_spec.specs.Promises.{EditionsKnown, BodyHanded, NewImage}
 use Rattle.image_spec.specs.Layout.{edition1}
 use Rattle.image_spec.proofs.RowPlaceLaws.{edition1-ok}

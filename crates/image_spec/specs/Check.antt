@@ -22,7 +22,8 @@ use Rattle.image_spec.specs.declared.Finding.the-variants.{Found, Malfor
 use Rattle.image_spec.specs.declared.layout.Layout.{Layout}
 use Rattle.descriptor_spec.specs.Allowed.{idSize}
 use Rattle.image_spec.specs.Layout.{modeEdition, headerSize, headerWidth, editionPlace, modesPlace, countPlace, headerZero}
-use Rattle.image_spec.specs.Layout.{bodyWidth, maskWidth, offsetPlace, lengthPlace, maskPlace, zeroPlace, mostRows, zeroSize, rowPlace}
+use Rattle.image_spec.specs.Layout.{bodyWidth, maskWidth, offsetPlace, lengthPlace, maskPlace, zeroPlace, mostRows, zeroSize}
+use Rattle.image_spec.specs.Layout.{rowPlace}
 use Rattle.image_spec.specs.Image.{Row, rowOf, reading}
 
 -- ---- numbers of the header and of the row at r

@@ -22,7 +22,8 @@ use Rattle.image_spec.specs.declared.ImageCheck.{ImageCheck}
 use Rattle.image_spec.specs.declared.ImageCheck.the-variants.{Sound, Unsound}
 use Rattle.image_spec.specs.declared.Added.the-variants.{Done, Full}
 use Rattle.image_spec.specs.declared.layout.Layout.{Layout}
-use Rattle.image_spec.specs.Layout.{modeEdition, headerWidth, editionPlace, modesPlace, edition1, rowSize, mostRows, rowPlace, LayoutOk}
+use Rattle.image_spec.specs.Layout.{modeEdition, headerWidth, editionPlace, modesPlace, edition1, rowSize, mostRows, rowPlace}
+use Rattle.image_spec.specs.Layout.{LayoutOk}
 use Rattle.image_spec.specs.Image.{Row, rowOf, reading, isRead, idOf, modesOf, imageOf, RowsOk, Holds, bodyWith}
 use Rattle.image_spec.specs.Check.{rowLength, rowAt, checkOf, rowsHeld}
 use Rattle.image_spec.specs.Grow.{addedOf, afterAdd, hasRoom, withBody}

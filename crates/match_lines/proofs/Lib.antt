@@ -1,6 +1,2 @@
-pub mod OverLaws
-pub mod BlockLaws
-pub mod LineLaws
-pub mod VerdictLaws
-pub mod InputLaws
-pub mod Promises
+pub mod OverCode
+pub mod LineCode

@@ -1,30 +1,13 @@
-// Lines of the matching tool, as document 01 has it: `pattern resource`, one space, at most 600 bytes; yes, no or bad for each. The
-// input comes in blocks of any length. What is promised is in specs/Promises.antt.
+// The functions of the matching tool over lines and blocks. What they answer and what is promised of it is in `match_lines_spec`.
 mod line;
 mod write;
 
+pub use match_lines_spec::Progress;
+pub use match_lines_spec::Verdict;
 ghost use mathlib.Core.Path.{_≡_};
 ghost use lib.ListN.{length, take};
-ghost use Rattle.match_lines.specs.Lines.{verdict as verdictOn};
-ghost use Rattle.match_lines.specs.Block.{progressOf, outputOf, endProgress, endOutput, bufferOf};
-
-// The verdict on a line.
-pub enum Verdict {
-    IsYes,
-    IsNo,
-    IsBad,
-}
-
-// What was done with a block: how many bytes were written at the start of the output; how many of the block's last bytes are kept for
-// the next; whether the line that has begun is too long. NoRoom: the output is too short, and nothing was done.
-pub enum Progress {
-    Done {
-        written: usize,
-        kept: usize,
-        long: bool,
-    },
-    NoRoom,
-}
+ghost use Rattle.match_lines_spec.specs.Lines.{verdict as verdictOn};
+ghost use Rattle.match_lines_spec.specs.Block.{progressOf, outputOf, endProgress, endOutput, bufferOf};
 
 // The verdict on a line, given without its newline.
 pub fn judge(line: &[u8]) -> Verdict

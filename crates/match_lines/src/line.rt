@@ -2,8 +2,8 @@
 use crate::Verdict;
 use resource::Matching;
 ghost use mathlib.Core.Path.{_≡_};
-ghost use Rattle.match_lines.specs.Lines.{verdictAt, verdict as verdictOn};
-ghost use Rattle.match_lines.specs.Block.{verdictIf};
+ghost use Rattle.match_lines_spec.specs.Lines.{verdictAt, verdict as verdictOn};
+ghost use Rattle.match_lines_spec.specs.Block.{verdictIf};
 
 // The verdict on a line with its first space after n bytes.
 fn parted(line: &[u8], n: usize) -> Verdict

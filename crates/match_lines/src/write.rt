@@ -6,8 +6,8 @@ ghost use mathlib.Core.Path.{_≡_};
 ghost use Prim.Native.Nat.{_+_, _≤_};
 ghost use lib.ListN.{length, take, drop};
 ghost use Rattle.octets.specs.Write.{over};
-ghost use Rattle.match_lines.specs.Lines.{verdictLine};
-ghost use Rattle.match_lines.specs.Block.{endOf, progressOf, outputOf, bufferOf, endProgress, endOutput};
+ghost use Rattle.match_lines_spec.specs.Lines.{verdictLine};
+ghost use Rattle.match_lines_spec.specs.Block.{endOf, progressOf, outputOf, bufferOf, endProgress, endOutput};
 
 // Writes a verdict's line at a place of `out`, and answers the place after it.
 fn put(out: &mut [u8], at: usize, v: Verdict) -> usize

@@ -73,11 +73,11 @@ flat-search f g n z s =
 -- ---- one rule and one mode
 
 -- the masks tell for each number of names in which modes the rules cover the pattern
-abbrev Told : List Rule → Pattern → List ℕ → Type 0
-Told qs p d = (m k : ℕ) → canTake (p .below) k ≡ true → k < most → hasMode (getD d k 0) m ≡ covered qs m p k
+abbrev MasksSay : List Rule → Pattern → List ℕ → Type 0
+MasksSay qs p d = (m k : ℕ) → canTake (p .below) k ≡ true → k < most → hasMode (getD d k 0) m ≡ covered qs m p k
 
 -- the fewest names of a pattern with "**" are found from 1 on
-fewest-deep : (qs : List Rule) (g : Rule) (d : List ℕ) (m : ℕ) → Told qs (g .pattern) d → deepest qs ≤ 105
+fewest-deep : (qs : List Rule) (g : Rule) (d : List ℕ) (m : ℕ) → MasksSay qs (g .pattern) d → deepest qs ≤ 105
     → endsDeep (g .pattern .below) ≡ true
     → hasMode (g .mask) m ≡ true → fewestNames qs g m ≡ least (lacksAt d m) 1 (most - 1)
 unfolding fewestNames
@@ -86,7 +86,7 @@ fewest-deep qs g d m t few e o =
     (λ j l. rw (e, o) (ap not (sym (t m (suc j) e (omega arith)))))
 
 -- of a pattern without "**" there is only 0
-fewest-flat : (qs : List Rule) (g : Rule) (d : List ℕ) (m : ℕ) → Told qs (g .pattern) d → endsDeep (g .pattern .below) ≡ false
+fewest-flat : (qs : List Rule) (g : Rule) (d : List ℕ) (m : ℕ) → MasksSay qs (g .pattern) d → endsDeep (g .pattern .below) ≡ false
     → hasMode (g .mask) m ≡ true → fewestNames qs g m ≡ least (lacksAt d m) 0 1
 unfolding fewestNames
 fewest-flat qs g d m t e o =
@@ -145,14 +145,14 @@ abbrev ruleWith : ℕ → List ℕ → List ℕ → Rule
 ruleWith mask u p = record { mask = mask; pattern = patternWith u p }
 
 -- where the terminal ids are the same, the masks marked tell; where they are not, the zeros do
-told : (s t u p : List ℕ) {n at : ℕ} {gs : List Grant} → InTurn s t n at gs → (shared : Bool) → same t u ≡ shared
-    → Told (rulesOf gs) (patternWith u p) (cond shared (markedAt s p zeros n at) zeros)
-told s t u p {gs = gs} st true e m k c h =
+masks-say : (s t u p : List ℕ) {n at : ℕ} {gs : List Grant} → InTurn s t n at gs → (shared : Bool) → same t u ≡ shared
+    → MasksSay (rulesOf gs) (patternWith u p) (cond shared (markedAt s p zeros n at) zeros)
+masks-say s t u p {gs = gs} st true e m k c h =
     marked-covered s t p st m k c h ∙ ap (λ (x : List ℕ). covered (rulesOf gs) m (patternWith x p) k) (same-equal t u e)
-told s t u p st false e m k c h = zeros-lack m k ∙ sym (other-covered s t u p st e m k)
+masks-say s t u p st false e m k c h = zeros-lack m k ∙ sym (other-covered s t u p st e m k)
 
 -- masks that tell give the lowest mode with its fewest names
-masks-found : (qs : List Rule) (g : Rule) (d : List ℕ) → Told qs (g .pattern) d → deepest qs ≤ 105 → (b : Bool)
+masks-found : (qs : List Rule) (g : Rule) (d : List ℕ) → MasksSay qs (g .pattern) d → deepest qs ≤ 105 → (b : Bool)
     → endsDeep (g .pattern .below) ≡ b
     → cond b (lowestFrom d (g .mask) 1 most 0 4) (lowestFrom d (g .mask) 0 1 0 4) ≡ foundOf qs g (lowestMode qs g)
 unfolding lowestMode
@@ -164,7 +164,7 @@ escape-found : (s t u p : List ℕ) (mask : ℕ) {n at : ℕ} {gs : List Grant} 
     → escapeIn s at n (same t u) p mask ≡ foundOf (rulesOf gs) (ruleWith mask u p) (lowestMode (rulesOf gs) (ruleWith mask u p))
 unfolding escapeIn lowestIn
 escape-found s t u p mask {n = n} {at = at} {gs = gs} st =
-    masks-found (rulesOf gs) (ruleWith mask u p) (cond (same t u) (markedAt s p zeros n at) zeros) (told s t u p st (same t u) refl)
+    masks-found (rulesOf gs) (ruleWith mask u p) (cond (same t u) (markedAt s p zeros n at) zeros) (masks-say s t u p st (same t u) refl)
     (turn-few s t st)
     (endsDeep (levelsOf (levels p))) refl
 

@@ -159,11 +159,11 @@ other-cover true (l ∷ ls) [] e = some-none l ls
 other-cover true (l ∷ ls) (k ∷ ks) e = no-flag (sym e)
 
 -- it holds by what the step says of the levels
-cover-told : (q p : List ℕ) (x : LevelStep) → FirstLevels q p x → isDeep q ≡ false → isDeep p ≡ false → Stepped q p x
+cover-says : (q p : List ℕ) (x : LevelStep) → FirstLevels q p x → isDeep q ≡ false → isDeep p ≡ false → Stepped q p x
 unfolding levelsOf textRange
-cover-told q p Differ f d c = first-cover q p (f .0) (f .1) (f .2) (f .3) d c ∙ other-cover (f .2) (f .0) (f .1) (f .4)
-cover-told q p Finish f d c = first-cover q p [] [] true f d c
-cover-told q p (Next i j) f d c =
+cover-says q p Differ f d c = first-cover q p (f .0) (f .1) (f .2) (f .3) d c ∙ other-cover (f .2) (f .0) (f .1) (f .4)
+cover-says q p Finish f d c = first-cover q p [] [] true f d c
+cover-says q p (Next i j) f d c =
     record {
       in-q = f .0;
       in-p = f .1;
@@ -173,7 +173,7 @@ cover-told q p (Next i j) f d c =
 
 -- it holds of each two texts
 pub step-decides : (q p : List ℕ) → isDeep q ≡ false → isDeep p ≡ false → Stepped q p (stepOf q p)
-step-decides q p d c = cover-told q p (stepOf q p) (step-levels q p) d c
+step-decides q p d c = cover-says q p (stepOf q p) (step-levels q p) d c
 
 -- the levels after the first, as the code hands them on
 module _ (q p : List ℕ) (i j : ℕ) (g : Goes q p i j) where
@@ -200,8 +200,8 @@ unfolding levels levelsOf same
 level-fresh true l q = refl
 level-fresh false l q = refl
 
-pub fresh-told : (q p : List ℕ) → isDeep q ≡ false → isDeep p ≡ true → textRange q p ≡ freshOf 0 q
+pub fresh-says : (q p : List ℕ) → isDeep q ≡ false → isDeep p ≡ true → textRange q p ≡ freshOf 0 q
 unfolding textRange
-fresh-told q p d c =
+fresh-says q p d c =
     let f = first-star q in
     rw (same-equal p (42 ∷ 42 ∷ []) c, f .2, spelled-first q (f .0) (f .1) (f .2) d) (level-fresh (isStar (f .0)) (f .0) (levelsOf (f .1)))

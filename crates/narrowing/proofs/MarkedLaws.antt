@@ -41,7 +41,7 @@ pub pattern-seen : {s t : List ℕ} {g : Grant} {v : GrantSeen} → SeenAs s t g
 unfolding patternOf
 pattern-seen {g = g} f =
     ap patternIn (pattern-levels (g .pattern) (f .allowed .pattern))
-    ∙ ap₂ (λ (u p : List ℕ). patternWith u p) (f .own) (sym (f .below))
+    ∙ ap₂ (λ (u p : List ℕ). patternWith u p) (f .terminal) (sym (f .below))
 
 -- a name has a character
 name-some : (n : List ℕ) → isName n ≡ true → 1 ≤ length n
@@ -98,10 +98,10 @@ or-row true b c = refl
 or-row false b c = refl
 
 -- a grant's pattern covers another of the same terminal id exactly where the range of the two texts has k
-range-told : (s t p : List ℕ) (g : Grant) (v : GrantSeen) (k : ℕ) → SeenAs s t g v → canTake (levelsOf (levels p)) k ≡ true → k < most
+range-says : (s t p : List ℕ) (g : Grant) (v : GrantSeen) (k : ℕ) → SeenAs s t g v → canTake (levelsOf (levels p)) k ≡ true → k < most
     → inRange (textRange (below s (v .pattern)) p) k ≡ patternCovers (patternOf (g .pattern)) (patternWith t p) k
 unfolding textRange
-range-told s t p g v k f c h =
+range-says s t p g v k f c h =
     let q : Levels = levelsOf (levels (below s (v .pattern))) in
     sym
     (ap (λ (x : Pattern). patternCovers x (patternWith t p) k) (pattern-seen f)
@@ -116,7 +116,7 @@ marked-one : (s t p d : List ℕ) (g : Grant) (v : GrantSeen) (m k : ℕ) → Se
 marked-one s t p d g v m k f l c h =
     let r : Range = textRange (below s (v .pattern)) p in
     ap (λ (x : ℕ). hasMode x m) (marked-at d r (v .mask) k (omega arith)) ∙ or-where (inRange r k) (getD d k 0) (v .mask) m
-    ∙ ap₂ (λ (x : ℕ) (b : Bool). hasMode (getD d k 0) m || (hasMode x m && b)) (f .mask) (range-told s t p g v k f c h)
+    ∙ ap₂ (λ (x : ℕ) (b : Bool). hasMode (getD d k 0) m || (hasMode x m && b)) (f .mask) (range-says s t p g v k f c h)
 
 -- after the grants are marked, the mask at k has the modes that it had and those in which their rules cover the pattern with k names
 marked-more : (s t p : List ℕ) {n at : ℕ} {gs : List Grant} → InTurn s t n at gs → (d : List ℕ) (m k : ℕ)

@@ -58,9 +58,9 @@ module _ (s t p : List ℕ) (i : ℕ) (r : Range) (e : r ≡ textRange (take (ro
   marked-row d = ap (λ (q : Range). marked 0 d q (rowMask t i)) (row-range s t p i r e)
 
   -- its modes are told as the code tests its range
-  pub modes-told : (deep b c : Bool) → b ≡ fullRange r deep → b ≡ c → cond c (rowMask t i) 0 ≡ fullModes s t i p deep
+  pub modes-tested : (deep b c : Bool) → b ≡ fullRange r deep → b ≡ c → cond c (rowMask t i) 0 ≡ fullModes s t i p deep
   unfolding fullModes
-  modes-told deep b c f g = ap (λ (h : Bool). cond h (rowMask t i) 0)
+  modes-tested deep b c f g = ap (λ (h : Bool). cond h (rowMask t i) 0)
       (sym g ∙ f ∙ ap (λ (q : Range). fullRange q deep) (row-range s t p i r e))
 
 module _ (s t p : List ℕ) where

@@ -176,18 +176,18 @@ module _ (s t : List ℕ) (n : ℕ) (shared : Bool) (p : List ℕ) (mask : ℕ) 
     (e : lowestIn deep d mask ≡ lowestIn deep (cond shared (markedRows s t p zeros n) zeros) mask)
     (f : deep ≡ endsDeep (levelsOf (levels p))) where
   -- the masks d tell of an escape what those do that are marked where the terminal id is the parent's
-  escape-told : EscapeOf s t n shared p mask (lowestIn deep d mask)
+  escape-found : EscapeOf s t n shared p mask (lowestIn deep d mask)
   unfolding escapeIn
-  escape-told count at h =
+  escape-found count at h =
       e ∙ ap (λ (x : List ℕ). lowestIn deep (cond shared x zeros) mask) (h .marks p zeros)
       ∙ ap (λ (b : Bool). lowestIn b (cond shared (markedAt s p zeros count at) zeros) mask) f
 
   -- "**" takes one name or more
   pub escape-deep : deep ≡ true → EscapeOf s t n shared p mask (lowestFrom d mask 1 128 0 4)
   unfolding lowestIn
-  escape-deep g = subst (λ (b : Bool). EscapeOf s t n shared p mask (lowestIn b d mask)) g escape-told
+  escape-deep g = subst (λ (b : Bool). EscapeOf s t n shared p mask (lowestIn b d mask)) g escape-found
 
   -- without "**" there is none to take
   pub escape-flat : deep ≡ false → EscapeOf s t n shared p mask (lowestFrom d mask 0 1 0 4)
   unfolding lowestIn
-  escape-flat g = subst (λ (b : Bool). EscapeOf s t n shared p mask (lowestIn b d mask)) g escape-told
+  escape-flat g = subst (λ (b : Bool). EscapeOf s t n shared p mask (lowestIn b d mask)) g escape-found

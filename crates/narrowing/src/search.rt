@@ -132,7 +132,8 @@ fn full(lo: usize, hi: usize, deep: bool) -> bool
 
 // Whether the grant of row i alone covers a grant with the levels p and the mask; `deep` where the levels end with "**".
 fn covers_all(parent: &[u8], table: &[usize], i: usize, p: &[u8], mask: u64, deep: bool) -> bool
-    requires { ⌜ (3 * i + 2 < length (now table)) × (rowStart (now table) i ≤ rowEnd (now table) i) × (rowEnd (now table) i ≤ length (now parent)) ⌝ }
+    requires { ⌜ (3 * i + 2 < length (now table)) × (rowStart (now table) i ≤ rowEnd (now table) i)
+        × (rowEnd (now table) i ≤ length (now parent)) ⌝ }
     ensures { λ r. ⌜ r ≡ rowCovers (now (parent .entry)) (now (table .entry)) i (now (p .entry)) mask deep ⌝ }
 {
     let k = 3 * i;
@@ -187,7 +188,8 @@ fn alone(
 // Notes row i, for each number of names with which its grant covers the levels p. Answers its modes where it does so with every number,
 // else 0.
 fn mark_row(parent: &[u8], table: &[usize], i: usize, p: &[u8], deep: bool, d: &mut [u64]) -> u64
-    requires { ⌜ (3 * i + 2 < length (now table)) × (rowStart (now table) i ≤ rowEnd (now table) i) × (rowEnd (now table) i ≤ length (now parent)) ⌝ }
+    requires { ⌜ (3 * i + 2 < length (now table)) × (rowStart (now table) i ≤ rowEnd (now table) i)
+        × (rowEnd (now table) i ≤ length (now parent)) ⌝ }
     ensures modes { λ r. ⌜ r ≡ fullModes (now (parent .entry)) (now (table .entry)) i (now (p .entry)) deep ⌝ }
     ensures marks { λ r. ⌜ now (d .exit) ≡ rowMarked (now (parent .entry)) (now (table .entry)) i (now (p .entry)) (now (d .entry)) ⌝ }
 {
@@ -218,7 +220,8 @@ fn mark_rows(
 ) -> usize
     requires { ⌜ InPlace (now parent) (now table) rows × (length (now d) ≡ most) ⌝ }
     ensures covered { λ r. ⌜ CoveredOf (now (parent .entry)) (now (table .entry)) rows (now (p .entry)) (now (d .entry)) mask deep r ⌝ }
-    ensures marks { λ r. ⌜ MarkedOf (now (parent .entry)) (now (table .entry)) rows (now (p .entry)) (now (d .entry)) mask deep r (now (d .exit)) ⌝ }
+    ensures marks { λ r.
+        ⌜ MarkedOf (now (parent .entry)) (now (table .entry)) rows (now (p .entry)) (now (d .entry)) mask deep r (now (d .exit)) ⌝ }
 {
     let mut done: u64 = 0;
     let mut i = 0;

@@ -11,7 +11,8 @@ use Rattle.resource_spec.specs.Level.{isNameChar, allNameChars, levels, levelsO
 use Rattle.resource_spec.specs.Text.{patternOk, isPattern, levelsOf, patternOf}
 use Rattle.entries_spec.specs.Keys.{kPayload, kVersion, kSignature, kGrants, kMetadata, kIssuedAt, kIssuerId, kNotAfter, kGrantorId}
 use Rattle.entries_spec.specs.Keys.{kNotBefore, kTerminalId, kDescriptorId, kSubjectFayId, kKeyId, kAlgorithm, kSignatureValue, kModes}
-use Rattle.entries_spec.specs.Keys.{kConstraints, kResourcePattern, algorithms, ed25519, ecdsaP256Sha256, mRead, mWrite, mExecute, mConfigure}
+use Rattle.entries_spec.specs.Keys.{kConstraints, kResourcePattern, algorithms, ed25519, ecdsaP256Sha256, mRead, mWrite, mExecute}
+use Rattle.entries_spec.specs.Keys.{mConfigure}
 use Rattle.entries_spec.specs.Model.{encAlgorithm, encSignature}
 use Rattle.entries_spec.specs.Kinds.{isKind}
 use Rattle.entries_spec.specs.Value.{countAt, stringAt, kindAt, oneOf, orAbsent, optKindAt}

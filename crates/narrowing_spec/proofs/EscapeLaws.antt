@@ -10,7 +10,8 @@ use Rattle.descriptor_spec.specs.Model.{Descriptor}
 use Rattle.descriptor_spec.specs.Allowed.{GrantOk, All, Allowed}
 use Rattle.descriptor_spec.proofs.Laws.{grants-allowed}
 use Rattle.narrowing_spec.specs.declared.Narrowing.{Narrowing}
-use Rattle.narrowing_spec.specs.declared.Narrowing.the-variants.{Accepted, NoParent, Structure, Validity, Constrained, Period, NotCovered}
+use Rattle.narrowing_spec.specs.declared.Narrowing.the-variants.{Accepted, NoParent, Structure, Validity, Constrained, Period}
+use Rattle.narrowing_spec.specs.declared.Narrowing.the-variants.{NotCovered}
 use Rattle.narrowing_spec.specs.Escape.{Rule, ruleAt, firstRule}
 use Rattle.narrowing_spec.specs.Narrow.{answerAt}
 use Rattle.narrowing_spec.specs.Promises.{grantOf, NoEscape, FirstEscape}

@@ -6,7 +6,8 @@ use mathlib.Core.List.{List, [], _∷_}
 use lib.Dec.{eqb}
 use Rattle.narrowing_spec.specs.declared.Narrowing.{Narrowing}
 use Rattle.narrowing_spec.specs.declared.NarrowingNumbers.{NarrowingNumbers}
-use Rattle.narrowing_spec.specs.declared.Narrowing.the-variants.{Accepted, NoParent, Structure, Validity, Constrained, Period, NotCovered}
+use Rattle.narrowing_spec.specs.declared.Narrowing.the-variants.{Accepted, NoParent, Structure, Validity, Constrained, Period}
+use Rattle.narrowing_spec.specs.declared.Narrowing.the-variants.{NotCovered}
 use Rattle.narrowing_spec.specs.Narrow.{numbersOf}
 
 -- the first of some answers with the number of n; else the one with three numbers more

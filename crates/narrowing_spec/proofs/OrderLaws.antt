@@ -15,7 +15,8 @@ use Rattle.descriptor_spec.specs.Reader.{Seen, Answer, read, structure, validit
 use Rattle.descriptor_spec.specs.View.{descriptorView}
 use Rattle.descriptor_spec.proofs.Laws.{reads-exactly}
 use Rattle.narrowing_spec.specs.declared.Narrowing.{Narrowing}
-use Rattle.narrowing_spec.specs.declared.Narrowing.the-variants.{Accepted, NoParent, Structure, Validity, Constrained, Period, NotCovered}
+use Rattle.narrowing_spec.specs.declared.Narrowing.the-variants.{Accepted, NoParent, Structure, Validity, Constrained, Period}
+use Rattle.narrowing_spec.specs.declared.Narrowing.the-variants.{NotCovered}
 use Rattle.narrowing_spec.specs.Escape.{Rule, firstRule}
 use Rattle.narrowing_spec.specs.Narrow.{narrow, compared, underParent, withParent, unconstrained, periodWithin, rulesIn, answerAt}
 use Rattle.narrowing_spec.specs.Promises.{NoPairs}

@@ -1,6 +1,7 @@
 -- The promises of specs/Promises.antt, proved: each is a law of the answers, told by their numbers. Assumes nothing.
-use Rattle.descriptor_spec.proofs.Laws.{answers-told}
-use Rattle.narrowing_spec.specs.declared.Narrowing.the-variants.{Accepted, NoParent, Structure, Validity, Constrained, Period, NotCovered}
+use Rattle.descriptor_spec.proofs.Laws.{number-tells}
+use Rattle.narrowing_spec.specs.declared.Narrowing.the-variants.{Accepted, NoParent, Structure, Validity, Constrained, Period}
+use Rattle.narrowing_spec.specs.declared.Narrowing.the-variants.{NotCovered}
 use Rattle.narrowing_spec.specs.Narrow.{narrow}
 use Rattle.narrowing_spec.specs.Promises.{NoParentExactly, ChildExactly, ConstrainedExactly, PeriodExactly, EscapeExactly}
 use Rattle.narrowing_spec.specs.Promises.{AcceptedExactly, one, more, ChainInside}
@@ -12,14 +13,14 @@ pub no-parent-exactly : NoParentExactly
 no-parent-exactly s t =
     let r = order-parent s t in
     by-numbers (narrow s t) NoParent
-    (λ h z. let v = answers-told s .done .0 z in r .0 h (v .0) (v .1), λ f. r .1 (λ v e. f (answers-told s .done .1 (v, e))))
+    (λ h z. let v = number-tells s .done .0 z in r .0 h (v .0) (v .1), λ f. r .1 (λ v e. f (number-tells s .done .1 (v, e))))
 
 pub child-exactly : ChildExactly
 child-exactly s t z =
-    let v = answers-told s .done .0 z in
+    let v = number-tells s .done .0 z in
     let r = order-child s t (v .0) (v .1) in (
-      by-numbers (narrow s t) Structure (λ h. answers-told t .structure .1 (r .0 .0 h), λ e. r .0 .1 (answers-told t .structure .0 e)),
-      by-numbers (narrow s t) Validity (λ h. answers-told t .validity .1 (r .1 .0 h), λ e. r .1 .1 (answers-told t .validity .0 e)),
+      by-numbers (narrow s t) Structure (λ h. number-tells t .structure .1 (r .0 .0 h), λ e. r .0 .1 (number-tells t .structure .0 e)),
+      by-numbers (narrow s t) Validity (λ h. number-tells t .validity .1 (r .1 .0 h), λ e. r .1 .1 (number-tells t .validity .0 e)),
     )
 
 pub constrained-exactly : ConstrainedExactly

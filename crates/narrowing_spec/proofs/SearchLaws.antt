@@ -19,7 +19,8 @@ use Rattle.descriptor_spec.specs.Reader.{hasMode}
 use Rattle.narrowing_spec.specs.Escape.{Rule, covered, canTake, escapesWith, deepest, isSome, orZero, fewestNames, lowestMode, ruleAt}
 use Rattle.narrowing_spec.specs.Escape.{firstRule, witnessPath}
 use Rattle.narrowing_spec.proofs.LeastLaws.{Least, least-some, least-none, some-of, none-of}
-use Rattle.narrowing_spec.proofs.CoveredLaws.{contra, true-of, ruleAdmits, rulesAdmit, takenIn, can-take, covered-admits, covered-stays}
+use Rattle.narrowing_spec.proofs.CoveredLaws.{contra, true-of, ruleAdmits, rulesAdmit, takenIn, can-take, covered-admits}
+use Rattle.narrowing_spec.proofs.CoveredLaws.{covered-stays}
 use Rattle.narrowing_spec.proofs.CoveredLaws.{witness-covered, witness-path, witness-admitted, witness-taken}
 
 -- a path escapes by a rule and a mode when that rule admits it in that mode and none of qs does

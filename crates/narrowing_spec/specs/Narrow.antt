@@ -11,7 +11,8 @@ use Rattle.resource_spec.specs.Text.{patternOf}
 use Rattle.descriptor_spec.specs.Reader.{GrantSeen, grantAt, Seen, Answer, read, structure, validity, readOf}
 use Rattle.narrowing_spec.specs.declared.Narrowing.{Narrowing}
 use Rattle.narrowing_spec.specs.declared.NarrowingNumbers.{NarrowingNumbers}
-use Rattle.narrowing_spec.specs.declared.Narrowing.the-variants.{Accepted, NoParent, Structure, Validity, Constrained, Period, NotCovered}
+use Rattle.narrowing_spec.specs.declared.Narrowing.the-variants.{Accepted, NoParent, Structure, Validity, Constrained, Period}
+use Rattle.narrowing_spec.specs.declared.Narrowing.the-variants.{NotCovered}
 use Rattle.narrowing_spec.specs.Escape.{Rule, fewestNames, lowestMode, ruleAt, firstRule, orZero}
 
 -- the rule of a grant that was seen in s

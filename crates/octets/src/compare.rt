@@ -24,7 +24,8 @@ pub(crate) fn same_bytes(a: &[u8], b: &[u8]) -> bool
 
 // Whether both have n bytes and begin with the same. There is no way out before the last byte, so that many are compared at once.
 pub(crate) fn same_start(a: &[u8], b: &[u8], n: usize) -> bool
-    ensures { λ r. ⌜ r ≡ (leb n (length (now (a .entry))) && (leb n (length (now (b .entry))) && same (take n (now (a .entry))) (take n (now (b .entry))))) ⌝ }
+    ensures { λ r. ⌜ r ≡ (leb n (length (now (a .entry))) && (leb n (length (now (b .entry)))
+        && same (take n (now (a .entry))) (take n (now (b .entry))))) ⌝ }
 {
     if a.len() < n {
         return false;

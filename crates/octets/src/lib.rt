@@ -48,7 +48,8 @@ pub fn part_at(s: &[u8], start: usize, n: usize) -> &[u8]
 
 // Whether both have n bytes and begin with the same n bytes; all n are compared.
 pub fn same_start(a: &[u8], b: &[u8], n: usize) -> bool
-    ensures { λ r. ⌜ r ≡ (leb n (length (now (a .entry))) && (leb n (length (now (b .entry))) && same (take n (now (a .entry))) (take n (now (b .entry))))) ⌝ }
+    ensures { λ r. ⌜ r ≡ (leb n (length (now (a .entry))) && (leb n (length (now (b .entry)))
+        && same (take n (now (a .entry))) (take n (now (b .entry))))) ⌝ }
 {
     compare::same_start(a, b, n)
 }

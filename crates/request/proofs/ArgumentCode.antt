@@ -63,7 +63,7 @@ module _ (q : Request) where
 -- ---- the list of ids
 
 -- the whole list is looked through
-pub listed-begin : (revoked id : List ℕ) → isListed revoked id ≡ listedAmong revoked id (length revoked / 16)
+pub listed-begin : (revoked id : List ℕ) → isListed revoked id ≡ listedAmong revoked id (length revoked / idSize)
 unfolding isListed
 listed-begin revoked id = refl
 
@@ -79,13 +79,13 @@ unfolding listedAmong
 listed-suc revoked id j t e = rw (e, listedAmong)
 
 module _ (revoked id : List ℕ) (i : ℕ) {b : Bool} (h : 0 < i)
-    (e : b ≡ same (take (16 * (i - 1) + 16 - 16 * (i - 1)) (drop (16 * (i - 1)) revoked)) id) where
+    (e : b ≡ same (take (idSize * (i - 1) + idSize - idSize * (i - 1)) (drop (idSize * (i - 1)) revoked)) id) where
   -- the code compares the last of the first i ids
   last-of : (t : Bool) → b ≡ t → listedAmong revoked id i ≡ elim t [ true ↦ true | false ↦ listedAmong revoked id (i - 1) ]
   last-of t f =
       let k : i ≡ suc (i - 1) = omega arith in
       ap (listedAmong revoked id) k
-      ∙ listed-suc revoked id (i - 1) t (ap (λ (x : List ℕ). same x id) (sym (lent-part revoked (16 * (i - 1)) 16)) ∙ sym e ∙ f)
+      ∙ listed-suc revoked id (i - 1) t (ap (λ (x : List ℕ). same x id) (sym (lent-part revoked (idSize * (i - 1)) idSize)) ∙ sym e ∙ f)
 
   -- where it is the id, the id is among them
   pub listed-hit : b ≡ true → listedAmong revoked id i ≡ true

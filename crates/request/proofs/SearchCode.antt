@@ -52,8 +52,8 @@ serves-both s r mode g b t e m =
 -- ---- the levels of a grant, one after the other
 
 -- where the first levels differ, the levels do not match
-pub differ-told : (p q : List ℕ) {x : LevelStep} → isDeep p ≡ false → x ≡ stepOf p q → x ≡ Differ → levelsMatch p q ≡ false
-differ-told p q d e f = subst (Stepped p q) (sym e ∙ f) (step-decides p q d)
+pub differ-says : (p q : List ℕ) {x : LevelStep} → isDeep p ≡ false → x ≡ stepOf p q → x ≡ Differ → levelsMatch p q ≡ false
+differ-says p q d e f = subst (Stepped p q) (sym e ∙ f) (step-decides p q d)
 
 -- ---- the search
 

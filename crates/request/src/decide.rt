@@ -36,7 +36,9 @@ pub(crate) fn well_formed(
     revoked: &[u8],
     environment: Environment,
 ) -> bool
-    ensures { λ r. ⌜ r ≡ wellFormed (requestOf (now (id .entry)) (now (fay .entry)) (now (terminal .entry)) (now (resource .entry)) mode (environment .clock) (environment .session) (now (revoked .entry)) (environment .verdict) (environment .window)) ⌝ }
+    ensures { λ r. ⌜ r ≡ wellFormed
+        (requestOf (now (id .entry)) (now (fay .entry)) (now (terminal .entry)) (now (resource .entry)) mode (environment .clock)
+        (environment .session) (now (revoked .entry)) (environment .verdict) (environment .window)) ⌝ }
 {
     if 2 < environment.verdict {
         return false;
@@ -116,7 +118,8 @@ fn check_descriptor(
     clock: u64,
 ) -> Applicability
     requires { ⌜ (resourceOk (now resource) ≡ true) × (mode ≤ highestMode) × BodyFits (now body) fields ⌝ }
-    ensures { λ r. ⌜ r ≡ applicabilityOf (now (body .entry)) fields (now (fay .entry)) (now (terminal .entry)) (now (resource .entry)) mode clock ⌝ }
+    ensures { λ r.
+        ⌜ r ≡ applicabilityOf (now (body .entry)) fields (now (fay .entry)) (now (terminal .entry)) (now (resource .entry)) mode clock ⌝ }
 {
     if clock < fields.not_before {
         return Applicability::Refused(Decision::NotYetValid);
@@ -173,7 +176,9 @@ pub(crate) fn on_body(
     environment: Environment,
 ) -> Decision
     requires { ⌜ (resourceOk (now resource) ≡ true) × (mode ≤ highestMode) × BodyFits (now body) fields ⌝ }
-    ensures { λ r. ⌜ r ≡ decidedOn (requestOf (now (id .entry)) (now (fay .entry)) (now (terminal .entry)) (now (resource .entry)) mode (environment .clock) (environment .session) (now (revoked .entry)) (environment .verdict) (environment .window)) (now (body .entry)) fields ⌝ }
+    ensures { λ r. ⌜ r ≡ decidedOn
+        (requestOf (now (id .entry)) (now (fay .entry)) (now (terminal .entry)) (now (resource .entry)) mode (environment .clock)
+        (environment .session) (now (revoked .entry)) (environment .verdict) (environment .window)) (now (body .entry)) fields ⌝ }
 {
     if is_listed(revoked, id) {
         return Decision::Revoked;

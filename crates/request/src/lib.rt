@@ -33,7 +33,9 @@ pub fn request(
     revoked: &[u8],
     environment: Environment,
 ) -> Decision
-    ensures { λ r. ⌜ r ≡ decisionOf (now (image .entry)) (requestOf (now (id .entry)) (now (fay .entry)) (now (terminal .entry)) (now (resource .entry)) mode (environment .clock) (environment .session) (now (revoked .entry)) (environment .verdict) (environment .window)) ⌝ }
+    ensures { λ r. ⌜ r ≡ decisionOf (now (image .entry))
+        (requestOf (now (id .entry)) (now (fay .entry)) (now (terminal .entry)) (now (resource .entry)) mode (environment .clock)
+        (environment .session) (now (revoked .entry)) (environment .verdict) (environment .window)) ⌝ }
 {
     if !decide::well_formed(id, fay, terminal, resource, mode, revoked, environment) {
         return Decision::Malformed;

@@ -43,7 +43,7 @@ serves-agree : (b t r : List ℕ) (m : ℕ) (g : Grant) (v : GrantSeen) → Seen
 unfolding serves
 serves-agree b t r m g v f w h s =
     let few : Bool = eqb (pairCount (g .constraints)) 0 in
-    let whole = grant-admits r g true (f .allowed) w (ap (λ (x : List ℕ). same x (take terminalSize r)) (f .own) ∙ s) in
+    let whole = grant-admits r g true (f .allowed) w (ap (λ (x : List ℕ). same x (take terminalSize r)) (f .terminal) ∙ s) in
     ap₂ _&&_ (ap (λ (x : ℕ). hasMode x m) (f .mask) ∙ mask-exactly g (f .allowed) .1 m h)
     (ap₂ _&&_ (ap (λ (n : ℕ). eqb n 0) (f .pairs)) (ap (λ (x : List ℕ). levelsMatch x (drop levelsPlace r)) (f .below) ∙ sym whole)
     ∙ and-comm few (admits (patternOf (g .pattern)) (pathOf r)))
@@ -53,7 +53,7 @@ other-serves : (b t r : List ℕ) (m : ℕ) (g : Grant) (v : GrantSeen) → Seen
     ≡ false
     → grantServes g m (pathOf r) ≡ false
 other-serves b t r m g v f w s =
-    let whole = grant-admits r g false (f .allowed) w (ap (λ (x : List ℕ). same x (take terminalSize r)) (f .own) ∙ s) in
+    let whole = grant-admits r g false (f .allowed) w (ap (λ (x : List ℕ). same x (take terminalSize r)) (f .terminal) ∙ s) in
     ap (λ (c : Bool). isIn m (g .modes) && (c && eqb (pairCount (g .constraints)) 0)) whole ∙ and-false (isIn m (g .modes))
 
 -- ---- all grants

@@ -261,28 +261,28 @@ front-firsts : (l k : List ℕ) {a b : List ℕ} (t : Bool) → without 47 l ≡
 front-firsts l k t h g e f m = record { first-p = l; first-r = k; of-p = front-levels l h e; of-r = front-levels k g f; fit = m }
 
 -- what the step says where they fit
-fit-told : (l k : List ℕ) {a b : List ℕ} → without 47 l ≡ true → without 47 k ≡ true → Ends a → Ends b → (isStar l || same l k) ≡ true
+fit-says : (l k : List ℕ) {a b : List ℕ} → without 47 l ≡ true → without 47 k ≡ true → Ends a → Ends b → (isStar l || same l k) ≡ true
     → FirstLevels (l ++ a) (k ++ b) (tailStep (length l) (length k) a b)
 unfolding tailStep tailLevels
-fit-told l k h g at-end at-end m = front-firsts l k true h g at-end at-end m
-fit-told l k h g at-end (at-slash u) m = ([], levels u, true, front-firsts l k true h g at-end (at-slash u) m, rw (levels-some u .2))
-fit-told l k h g (at-slash t) at-end m = (levels t, [], true, front-firsts l k true h g (at-slash t) at-end m, rw (levels-some t .2))
-fit-told l k h g (at-slash t) (at-slash u) m = (
+fit-says l k h g at-end at-end m = front-firsts l k true h g at-end at-end m
+fit-says l k h g at-end (at-slash u) m = ([], levels u, true, front-firsts l k true h g at-end (at-slash u) m, rw (levels-some u .2))
+fit-says l k h g (at-slash t) at-end m = (levels t, [], true, front-firsts l k true h g (at-slash t) at-end m, rw (levels-some t .2))
+fit-says l k h g (at-slash t) (at-slash u) m = (
   omega (arith, length-append l (47 ∷ t)),
   omega (arith, length-append k (47 ∷ u)),
   rw (drop-more l t, drop-more k u) (front-firsts l k true h g (at-slash t) (at-slash u) m),
 )
 
 -- what it says of two texts by their first levels
-front-told : {p r : List ℕ} → Front p → Front r → FirstLevels p r (stepOf p r)
-front-told (front l a h e) (front k b g f) =
+front-says : {p r : List ℕ} → Front p → Front r → FirstLevels p r (stepOf p r)
+front-says (front l a h e) (front k b g f) =
     rw (front-step l k h g e f)
-    (by-cond (FirstLevels (l ++ a) (k ++ b)) (isStar l || same l k) (λ m. fit-told l k h g e f m)
+    (by-cond (FirstLevels (l ++ a) (k ++ b)) (isStar l || same l k) (λ m. fit-says l k h g e f m)
     (λ m. (tailLevels a, tailLevels b, false, front-firsts l k false h g e f m, refl)))
 
 -- what it says of each two texts
 pub first-levels : StepLevels
-first-levels p r = front-told (front-of (each-parted p)) (front-of (each-parted r))
+first-levels p r = front-says (front-of (each-parted p)) (front-of (each-parted r))
 
 -- the first level of each text, and whether it is "*"
 pub star-level : FirstStar
@@ -334,12 +334,12 @@ other-match true [] (k ∷ ks) e = refl
 other-match true (l ∷ ls) [] e = none-left l ls
 other-match true (l ∷ ls) (k ∷ ks) e = no-flag (sym e)
 
--- what is told of a pattern that is not "**" by the step of its first level
-match-told : (p r : List ℕ) (x : LevelStep) → FirstLevels p r x → isDeep p ≡ false → Stepped p r x
+-- what is says of a pattern that is not "**" by the step of its first level
+match-says : (p r : List ℕ) (x : LevelStep) → FirstLevels p r x → isDeep p ≡ false → Stepped p r x
 unfolding levelsOf levelsMatch
-match-told p r Differ f d = first-match p r (f .0) (f .1) (f .2) (f .3) d ∙ other-match (f .2) (f .0) (f .1) (f .4)
-match-told p r Finish f d = first-match p r [] [] true f d
-match-told p r (Next i j) f d =
+match-says p r Differ f d = first-match p r (f .0) (f .1) (f .2) (f .3) d ∙ other-match (f .2) (f .0) (f .1) (f .4)
+match-says p r Finish f d = first-match p r [] [] true f d
+match-says p r (Next i j) f d =
     record {
       in-p = f .0;
       in-r = f .1;
@@ -349,7 +349,7 @@ match-told p r (Next i j) f d =
 
 -- it holds of each two texts
 pub step-tells : StepDecides
-step-tells p r d = match-told p r (stepOf p r) (first-levels p r) d
+step-tells p r d = match-says p r (stepOf p r) (first-levels p r) d
 
 -- the levels after the first, as the code hands them on
 module _ (p r : List ℕ) (i j : ℕ) (g : Goes p r i j) where

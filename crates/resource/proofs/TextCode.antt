@@ -1,4 +1,5 @@
--- Laws of texts that begin with a terminal id, and of matching two texts (specs/Text.antt of `resource_spec`), in the code's own form. Assumes nothing.
+-- Laws of texts that begin with a terminal id, and of matching two texts (specs/Text.antt of `resource_spec`), in the code's own form.
+-- Assumes nothing.
 use mathlib.Core.Path.{_≡_, refl, sym, ap, _∙_}
 use mathlib.Core.Bool.{Bool, true, false, cond, _&&_, and-false}
 use mathlib.Core.List.{List, [], _∷_, _++_}

@@ -1,4 +1,5 @@
--- What the crates above stand on: of the first levels of texts, and of the step from them. A reader of the promises does not need this page.
+-- What the crates above stand on: of the first levels of texts, and of the step from them. A reader of the promises does not need this
+-- page.
 -- Each statement `NameOfIt` is proved in proofs/Laws.antt as `name-of-it`.
 use mathlib.Core.Path.{_≡_}
 use mathlib.Core.Bool.{Bool, true, false, _&&_, _||_}
@@ -53,7 +54,7 @@ pub record Goes (p r : List ℕ) (i j : ℕ) : Type 0 where
   pub decides : levelsMatch p r ≡ levelsMatch (drop (i + 1) p) (drop (j + 1) r)
   pub fewer : length (levels (drop (i + 1) p)) < length (levels p)
 
--- what is told of the matching of two texts by the step of their first levels
+-- what is says of the matching of two texts by the step of their first levels
 abbrev pub Stepped : List ℕ → List ℕ → LevelStep → Type 0
 Stepped p r Differ = levelsMatch p r ≡ false
 Stepped p r Finish = levelsMatch p r ≡ true

@@ -5,7 +5,8 @@ use Rattle.resource_spec.specs.Laws.{AdmitsText, WellBegins, BeginsWell,
 use Rattle.resource_spec.specs.Laws.{CoversStay, WitnessMatched, WitnessDecides, WitnessNames, ZsFresh}
 use Rattle.resource_spec.proofs.LevelLaws as level
 use Rattle.resource_spec.proofs.TextLaws as texts
-use Rattle.resource_spec.proofs.TextLaws.{terminal-long, fay-long, pattern-sized, resource-sized, pattern-id, pattern-parts, admits-parts}
+use Rattle.resource_spec.proofs.TextLaws.{terminal-long, fay-long, pattern-sized, resource-sized, pattern-id, pattern-parts}
+use Rattle.resource_spec.proofs.TextLaws.{admits-parts}
 use Rattle.resource_spec.proofs.WithoutLaws.{pattern-without}
 use Rattle.resource_spec.proofs.SpellLaws.{first-spelled}
 use Rattle.resource_spec.proofs.CoverLaws.{covers-exactly, taken-can-be, covers-stays, witness-is-matched, witness-covers}

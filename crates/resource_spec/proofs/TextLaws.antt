@@ -8,11 +8,14 @@ use lib.ListN.{length, drop, take, length-append}
 use lib.Seq.{split-at, getD-at, take-at}
 use lib.Dec.{leb}
 use borrow.Author.Tests.{leb-true}
-use Rattle.resource_spec.specs.Identifier.{Slot, fits, hasForm, isFay, isTerminal, uuidForm, fayForm, terminalForm, levelsPlace, terminalSize}
+use Rattle.resource_spec.specs.Identifier.{Slot, fits, hasForm, isFay, isTerminal, uuidForm, fayForm, terminalForm, levelsPlace}
+use Rattle.resource_spec.specs.Identifier.{terminalSize}
 use Rattle.resource_spec.specs.Level.{levels, levelsOk}
-use Rattle.resource_spec.specs.Text.{wellFormed, isResource, isPattern, longestText, resourceOk, patternOk, pathOf, patternOf, levelsMatch}
+use Rattle.resource_spec.specs.Text.{wellFormed, isResource, isPattern, longestText, resourceOk, patternOk, pathOf, patternOf}
+use Rattle.resource_spec.specs.Text.{levelsMatch}
 use Rattle.resource_spec.specs.Laws.{Parted, last, more, Begins, WellBegins, BeginsWell}
-use Rattle.resource_spec.specs.Laws.{TerminalLength, FayLength, PatternShort, ResourceShort, PatternTerminal, PatternLevels, AdmitsText}
+use Rattle.resource_spec.specs.Laws.{TerminalLength, FayLength, PatternShort, ResourceShort, PatternTerminal, PatternLevels}
+use Rattle.resource_spec.specs.Laws.{AdmitsText}
 use Rattle.octets.proofs.Tests.{and-left, and-right, no-flag}
 use Rattle.resource_spec.proofs.WithoutLaws.{terminal-slashless}
 use Rattle.resource_spec.proofs.LevelLaws.{levels-one, levels-more, parted}

@@ -11,7 +11,8 @@ ghost use Rattle.submission.specs.Code.{storedAs};
 
 // Submits the descriptor in `body` to the image. A refusal changes no byte of the image, nor does a repeat of what is held.
 pub fn submit(image: &mut [u8], body: &[u8], clock: u64, verdict: u64, window: Window) -> Submission
-    ensures { λ r. ⌜ (r ≡ submitted (now (image .entry)) (now (body .entry)) clock verdict window) × (now (image .exit) ≡ afterOf (now (image .entry)) (now (body .entry)) clock verdict window) ⌝ }
+    ensures { λ r. ⌜ (r ≡ submitted (now (image .entry)) (now (body .entry)) clock verdict window)
+        × (now (image .exit) ≡ afterOf (now (image .entry)) (now (body .entry)) clock verdict window) ⌝ }
 {
     match choose::choose(image, body, clock, verdict, window) {
         Choice::Answer(answer) => answer,

@@ -19,7 +19,8 @@ use Rattle.entries_spec.specs.Keys.{kMetadata, kIssuedAt, kIssuerId, kNotAfter,
 use Rattle.entries_spec.specs.Keys.{kSubjectFayId}
 use Rattle.entries_spec.specs.Kinds.{isKind}
 use Rattle.entries_spec.specs.Value.{timeAt, keyedAt, flag}
-use Rattle.entries_spec.proofs.ValueBounds.{CountTo, count-bounds, keyed-count-bounds, StringTo, keyed-kind-bounds, opt-kind-on, opt-pairs-on}
+use Rattle.entries_spec.proofs.ValueBounds.{CountTo, count-bounds, keyed-count-bounds, StringTo, keyed-kind-bounds, opt-kind-on}
+use Rattle.entries_spec.proofs.ValueBounds.{opt-pairs-on}
 use Rattle.descriptor_spec.specs.Allowed.{idSize}
 use Rattle.descriptor_spec.specs.Reader.{issueAt, grantorAt, idsAt, PayloadSeen, payloadFits, payloadAt, Seen, beforePayload}
 use Rattle.descriptor_spec.specs.Reader.{descriptorAt}

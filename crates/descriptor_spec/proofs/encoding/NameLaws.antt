@@ -3,7 +3,8 @@ use mathlib.Core.Path.{_≡_, refl}
 use Rattle.cbor_item_spec.specs.Encoding.{head}
 use Rattle.entries_spec.specs.Keys.{kPayload, kVersion, kSignature, kGrants, kMetadata, kIssuedAt, kIssuerId, kNotAfter, kGrantorId}
 use Rattle.entries_spec.specs.Keys.{kNotBefore, kTerminalId, kDescriptorId, kSubjectFayId, kKeyId, kAlgorithm, kSignatureValue, kModes}
-use Rattle.entries_spec.specs.Keys.{kConstraints, kResourcePattern, ed25519, ecdsaP256Sha256, algorithms, mRead, mWrite, mExecute, mConfigure}
+use Rattle.entries_spec.specs.Keys.{kConstraints, kResourcePattern, ed25519, ecdsaP256Sha256, algorithms, mRead, mWrite, mExecute}
+use Rattle.entries_spec.specs.Keys.{mConfigure}
 use Rattle.entries_spec.specs.Model.{encAlgorithm}
 use Rattle.descriptor_spec.specs.Promises.{name, NamesEncoded, AlgorithmsFixed}
 

@@ -68,17 +68,17 @@ each-of t [] a b = tt
 each-of t (g ∷ gs) a b = ((a .0, b .0), each-of t gs (a .1) (b .1))
 
 -- grants of one terminal, where the first one's is t: each is of t
-pub together-own : (t : List ℕ) (gs : List Grant) → GrantsOk gs → owner gs ≡ t → All GrantOk gs × OwnedBy t gs
-together-own t [] q e = absurd (q .each)
-together-own t (g ∷ gs) q e =
+pub together-of : (t : List ℕ) (gs : List Grant) → GrantsOk gs → owner gs ≡ t → All GrantOk gs × OwnedBy t gs
+together-of t [] q e = absurd (q .each)
+together-of t (g ∷ gs) q e =
     let r = of-each t gs (subst (λ (u : List ℕ). AllFrom Of constant u gs) e (q .each .1)) in
     ((q .each .0, r .0), (e, r .1))
 
 -- and back
-pub own-together : (t : List ℕ) (gs : List Grant) → 1 ≤ length gs → length gs ≤ 256 → All GrantOk gs → OwnedBy t gs
+pub of-together : (t : List ℕ) (gs : List Grant) → 1 ≤ length gs → length gs ≤ 256 → All GrantOk gs → OwnedBy t gs
     → GrantsOk gs × (owner gs ≡ t)
-own-together t [] lo hi a b = absurd (omega arith)
-own-together t (g ∷ gs) lo hi a b = (
+of-together t [] lo hi a b = absurd (omega arith)
+of-together t (g ∷ gs) lo hi a b = (
   record {
     least = lo;
     most =

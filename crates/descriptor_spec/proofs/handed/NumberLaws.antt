@@ -7,7 +7,7 @@ use Rattle.descriptor_spec.specs.View.{descriptorView}
 use Rattle.descriptor_spec.specs.Code.{readingOf}
 use Rattle.descriptor_spec.specs.Numbers.{numbersOf}
 use Rattle.descriptor_spec.specs.Promises.{AnsweredExactly, refusal, RefusalZero}
-use Rattle.descriptor_spec.specs.Laws.{AnswersTold}
+use Rattle.descriptor_spec.specs.Laws.{NumberTells}
 use Rattle.descriptor_spec.proofs.whole.AnswerLaws.{reads-exactly, validity-exactly, structure-exactly}
 
 -- ---- which answer has which number
@@ -34,8 +34,8 @@ was-validity (read v) e = absurd (omega arith)
 was-validity structure e = absurd (omega arith)
 was-validity validity e = refl
 
-pub answers-told : AnswersTold
-answers-told s =
+pub number-tells : NumberTells
+number-tells s =
     record {
       done = (was-read (readOf s), λ r. ap numberIn (r .1));
       structure = (was-structure (readOf s), λ e. ap numberIn e);
@@ -44,7 +44,7 @@ answers-told s =
 
 pub answered-exactly : AnsweredExactly
 answered-exactly s bs =
-    let n = answers-told s in
+    let n = number-tells s in
     record {
       done = (
         λ e. let w = n .done .0 e in let x = reads-exactly s bs (w .0) .0 (w .1) in (x .0, x .1, x .2),

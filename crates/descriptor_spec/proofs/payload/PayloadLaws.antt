@@ -24,7 +24,7 @@ use Rattle.descriptor_spec.specs.Model.{Grant, Payload, encodePayload}
 use Rattle.descriptor_spec.specs.Allowed.{PayloadOk}
 use Rattle.descriptor_spec.specs.Reader.{PayloadSeen, seenIn, payloadFits, payloadAt}
 use Rattle.descriptor_spec.specs.View.{keysOf, grantsView, encIssue, encGrantor, encIds, payloadView}
-use Rattle.descriptor_spec.proofs.grants.GrantsLaws.{encKeyed, owner, first-at, together-own, own-together, grants-exact}
+use Rattle.descriptor_spec.proofs.grants.GrantsLaws.{encKeyed, owner, first-at, together-of, of-together, grants-exact}
 use Rattle.descriptor_spec.proofs.payload.PieceLaws.{Issue, issueBytes, issueSeen, issue-exact, Grantor, grantorBytes, grantorSeen}
 use Rattle.descriptor_spec.proofs.payload.PieceLaws.{grantor-exact, Ids, IdsOk, idsBytes, idsSeen, ids-exact}
 
@@ -130,11 +130,11 @@ module _ (s : List ℕ) (bs : AreBytes s) where
       let g = p .1 .1 .1 .0 in
       let ids = p .1 .1 .1 .1 .0 in
       let fits = p .1 .1 .1 .1 .1 in
-      let own = together-own (v .1 .1 .1 .1 .0) (v .1 .0) (p .1 .0) (fits .1 .0) in (
+      let each = together-of (v .1 .1 .1 .1 .0) (v .1 .0) (p .1 .0) (fits .1 .0) in (
         record {
           least = p .1 .0 .least;
           most = p .1 .0 .most;
-          grants = own .0;
+          grants = each .0;
           metadata = i .0;
           issuedAt = i .1 .0;
           issuer = i .1 .1 .0;
@@ -144,7 +144,7 @@ module _ (s : List ℕ) (bs : AreBytes s) where
           terminal = ids .0;
           id = omega (arith, ids .1 .0);
           fay = ids .1 .1;
-          own = own .1;
+          patterns = each .1;
           issued = fits .1 .1 .0;
           lasts = fits .1 .1 .1;
         },
@@ -152,17 +152,17 @@ module _ (s : List ℕ) (bs : AreBytes s) where
         rw (fits .0),
       ))
       (λ p q h.
-      let own = own-together (p .terminal) (p .grants) (q .least) (q .most) (q .grants) (q .own) in (
+      let each = of-together (p .terminal) (p .grants) (q .least) (q .most) (q .grants) (q .patterns) in (
         (keysOf p, (p .grants, (issueOf p, (grantorOf p, idsOf p)))),
         (
           (omega arith, omega (arith, size-small (p .metadata), size-small (p .grantor))),
           (
-            own .0,
+            each .0,
             (
               (q .metadata, (q .issuedAt, (q .issuer, q .notAfter))),
               (
                 (q .grantor, q .notBefore),
-                ((q .terminal, ((omega (arith, q .id), omega (arith, q .id)), q .fay)), (refl, (own .1, (q .issued, q .lasts)))),
+                ((q .terminal, ((omega (arith, q .id), omega (arith, q .id)), q .fay)), (refl, (each .1, (q .issued, q .lasts)))),
               ),
             ),
           ),

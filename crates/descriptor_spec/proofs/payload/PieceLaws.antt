@@ -17,6 +17,7 @@ use Rattle.entries_spec.specs.Keys.{kMetadata, kIssuedAt, kIssuerId, kNotAfter,
 use Rattle.entries_spec.specs.Keys.{kSubjectFayId}
 use Rattle.entries_spec.specs.Model.{Pair}
 use Rattle.entries_spec.specs.Allowed.{TimeOk, TextOk, PairsOk}
+use Rattle.descriptor_spec.specs.Allowed.{idSize}
 use Rattle.entries_spec.proofs.ValueLaws.{time-exact, string-exact}
 use Rattle.entries_spec.proofs.OptionalLaws.{opt-string-exact, opt-pairs-exact}
 use Rattle.descriptor_spec.specs.Reader.{issueAt, grantorAt, idsAt}
@@ -89,7 +90,7 @@ abbrev pub Ids : Type 0
 Ids = List ℕ × (List ℕ × List ℕ)
 
 abbrev pub IdsOk : Ids → Type 0
-IdsOk v = (isTerminal (v .0) ≡ true) × (((16 ≤ length (v .1 .0)) × (length (v .1 .0) ≤ 16)) × (isFay (v .1 .1) ≡ true))
+IdsOk v = (isTerminal (v .0) ≡ true) × (((idSize ≤ length (v .1 .0)) × (length (v .1 .0) ≤ idSize)) × (isFay (v .1 .1) ≡ true))
 
 abbrev pub idsBytes : Ids → List ℕ
 idsBytes v = encIds (v .0) (v .1 .0) (v .1 .1)
@@ -102,5 +103,5 @@ module _ (s : List ℕ) (bs : AreBytes s) (at : ℕ) where
   unfolding idsAt
   ids-exact =
       seq _ (keyed kTerminalId (string-exact s bs _ Terminal tt)) (λ t p₀ h₀.
-      seq _ (keyed kDescriptorId (string-exact s bs _ (Bytes 16 16) (lit< tt))) (λ i p₁ h₁.
+      seq _ (keyed kDescriptorId (string-exact s bs _ (Bytes idSize idSize) (lit< tt))) (λ i p₁ h₁.
       mapped (keyed kSubjectFayId (string-exact s bs _ Fay tt)) (λ f. idsView at t i f) _ (λ f p₂ h₂. refl)))

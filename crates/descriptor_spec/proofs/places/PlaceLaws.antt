@@ -10,7 +10,7 @@ use Rattle.octets.proofs.BytesLaws.{has-left, has-right, has-part}
 use Rattle.entries_spec.specs.Keys.{kTerminalId, kDescriptorId, kSubjectFayId}
 use Rattle.entries_spec.specs.Model.{encBytes, encText}
 use Rattle.descriptor_spec.specs.Model.{Payload, Descriptor, encode}
-use Rattle.descriptor_spec.specs.Allowed.{Formed}
+use Rattle.descriptor_spec.specs.Allowed.{idSize, Formed}
 use Rattle.descriptor_spec.specs.Reader.{beforePayload}
 use Rattle.descriptor_spec.specs.View.{keysOf, descriptorView}
 use Rattle.resource_spec.proofs.Laws.{terminal-length, fay-length}
@@ -64,7 +64,7 @@ terminal-part d q =
     ap (part s _) (sym (terminal-length t (q .payload .terminal))) ∙ has-part s _ t k
 
 -- so does its id
-pub id-part : (d : Descriptor) → Formed d → part (encode d) (descriptorView 0 d .payload .id) 16 ≡ d .payload .id
+pub id-part : (d : Descriptor) → Formed d → part (encode d) (descriptorView 0 d .payload .id) idSize ≡ d .payload .id
 id-part d q =
     let s : List ℕ = encode d in
     let p : Payload = d .payload in

@@ -38,7 +38,7 @@ module _ (s t : List ℕ) (bs : AreBytes s) where
       let e = has-part s _ (g .pattern) (pattern-at s at g h) in
       record {
         allowed = q;
-        own = o;
+        terminal = o;
         mask = refl;
         pairs = refl;
         pattern = e;
@@ -58,7 +58,7 @@ pub grants-in-turn : GrantsInTurn
 grants-in-turn d bs q =
     subst (λ (n : ℕ). InTurn (encode d) (d .payload .terminal) n (descriptorView 0 d .payload .grants .start) (d .payload .grants))
     (sym (seen-handed d q .grants))
-    (turn-from (encode d) (d .payload .terminal) bs (d .payload .grants) _ (q .payload .grants) (q .payload .own) (all-grants d q))
+    (turn-from (encode d) (d .payload .terminal) bs (d .payload .grants) _ (q .payload .grants) (q .payload .patterns) (all-grants d q))
 
 pub grants-allowed : GrantsAllowed
 grants-allowed d q i g l = all-get GrantOk (d .payload .grants) i g l (q .payload .grants)

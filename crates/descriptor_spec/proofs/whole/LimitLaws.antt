@@ -196,7 +196,7 @@ grant-within t g q o =
       constraints = opt-map (pairs-within 8) (g .constraints) (q .constraints);
       pattern = p .0;
       short = p .1;
-      own = o;
+      terminal = o;
     }
 
 pub within-grant : (t : List ℕ) (g : Grant) → GrantWithin t g → GrantOk g
@@ -217,7 +217,7 @@ formed-within d q =
       least = p .least;
       most = p .most;
       grants = λ i g l e. grant-within (d .payload .terminal) g (all-each GrantOk (d .payload .grants) (p .grants) i g l e)
-          (all-each _ (d .payload .grants) (p .own) i g l e);
+          (all-each _ (d .payload .grants) (p .patterns) i g l e);
       metadata = opt-map (pairs-within 16) (d .payload .metadata) (p .metadata);
       issued = p .issuedAt;
       issuer = text-within 1 128 (d .payload .issuer) (p .issuer);
@@ -250,7 +250,7 @@ within-formed d q =
         terminal = q .terminal;
         id = q .id;
         fay = q .fay;
-        own = each-all _ gs (λ i g l e. q .grants i g l e .own);
+        patterns = each-all _ gs (λ i g l e. q .grants i g l e .terminal);
         issued = q .begins;
         lasts = q .lasts;
       };

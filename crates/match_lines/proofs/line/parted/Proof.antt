@@ -2,8 +2,8 @@
 use mathlib.Core.Path.{sym, ap, _∙_}
 use native.Mathlib.Omega.{arith}
 use lib.Seq.{length-take-le}
-use Rattle.match_lines.specs.Lines.{verdictOf}
-use Rattle.match_lines.proofs.LineLaws.{verdict-whole, verdict-parted}
+use Rattle.match_lines_spec.specs.Lines.{verdictOf}
+use Rattle.match_lines.proofs.LineCode.{verdict-whole, verdict-parted}
 use borrow.Author.Needs.{needs}
 use Rattle.match_lines.proofs.line.parted.Statement.{statement}
 use Rattle.match_lines.proofs.line.parted.Tie as tie

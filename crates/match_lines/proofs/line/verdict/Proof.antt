@@ -1,8 +1,8 @@
 -- `verdict` meets its contract. Assumes nothing.
 use mathlib.Core.Path.{sym, ap, _∙_}
 use native.Mathlib.Nat.{zero-add}
-use Rattle.match_lines.specs.Lines.{verdictAt}
-use Rattle.match_lines.proofs.LineLaws.{verdict-short, verdict-long}
+use Rattle.match_lines_spec.specs.Lines.{verdictAt}
+use Rattle.match_lines.proofs.LineCode.{verdict-short, verdict-long}
 use borrow.Author.Needs.{needs}
 use Rattle.match_lines.proofs.line.verdict.Statement.{statement}
 use Rattle.match_lines.proofs.line.verdict.Tie as tie

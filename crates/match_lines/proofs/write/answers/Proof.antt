@@ -5,8 +5,8 @@ use Prim.Native.Nat.{_-_, _*_, _≤_}
 use native.Mathlib.Omega.{arith}
 use lib.ListN.{length}
 use borrow.Author.Needs.{needs}
-use Rattle.match_lines.proofs.BlockLaws.{word-le}
-use Rattle.match_lines.proofs.LineLaws.{Left, left-all, left-next, left-end, block-refused, block-done}
+use Rattle.match_lines_spec.proofs.Laws.{word-le}
+use Rattle.match_lines.proofs.LineCode.{Left, left-all, left-next, left-end, block-refused, block-done}
 use Rattle.match_lines.proofs.write.answers.Statement.{statement}
 use Rattle.match_lines.proofs.write.answers.Tie as tie
 

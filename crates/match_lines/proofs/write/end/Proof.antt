@@ -1,6 +1,6 @@
 -- `end` meets its contract. Assumes nothing.
 use mathlib.Core.Path.{sym}
-use Rattle.match_lines.proofs.LineLaws.{end-long, end-dropped, end-kept}
+use Rattle.match_lines.proofs.LineCode.{end-long, end-dropped, end-kept}
 use borrow.Author.Needs.{needs}
 use Rattle.match_lines.proofs.write.end.Statement.{statement}
 use Rattle.match_lines.proofs.write.end.Tie as tie

@@ -2,7 +2,7 @@
 use mathlib.Core.Path.{refl, sym}
 use native.Mathlib.Omega.{arith}
 use Rattle.octets.proofs.OverLaws.{over-nil}
-use Rattle.match_lines.proofs.LineLaws.{last-refused, last-done, ended-long, ended-none, ended-some}
+use Rattle.match_lines.proofs.LineCode.{last-refused, last-done, ended-long, ended-none, ended-some}
 use lib.Seq.{length-take-le}
 use borrow.Author.Needs.{needs}
 use Rattle.match_lines.proofs.write.last.Statement.{statement}

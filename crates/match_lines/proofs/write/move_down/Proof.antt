@@ -4,7 +4,7 @@ use mathlib.Core.List.{List}
 use Prim.Native.Nat.{ℕ, _+_, _-_, _≤_}
 use native.Mathlib.Omega.{arith}
 use lib.ListN.{length, getD, set, length-set}
-use Rattle.match_lines.proofs.OverLaws.{moved, moved-none, moved-more, moved-all}
+use Rattle.match_lines.proofs.OverCode.{moved, moved-none, moved-more, moved-all}
 use Rattle.match_lines.proofs.write.move_down.Statement.{statement}
 use Rattle.match_lines.proofs.write.move_down.Tie as tie
 

@@ -2,7 +2,7 @@
 use mathlib.Core.Path.{refl}
 use native.Mathlib.Omega.{arith}
 use lib.ListN.{length-set}
-use Rattle.match_lines.proofs.OverLaws.{over-three, over-four}
+use Rattle.match_lines.proofs.OverCode.{over-three, over-four}
 use borrow.Author.Needs.{needs}
 use Rattle.match_lines.proofs.write.put.Statement.{statement}
 use Rattle.match_lines.proofs.write.put.Tie as tie

@@ -3,7 +3,7 @@ use Prim.Native.Nat.{_≤_}
 use mathlib.Core.Path.{sym}
 use native.Mathlib.Omega.{arith}
 use lib.Seq.{length-take-le}
-use Rattle.match_lines.proofs.LineLaws.{step-fits, step-done, step-refused}
+use Rattle.match_lines.proofs.LineCode.{step-fits, step-done, step-refused}
 use borrow.Author.Needs.{needs}
 use Rattle.match_lines.proofs.write.step.Statement.{statement}
 use Rattle.match_lines.proofs.write.step.Tie as tie

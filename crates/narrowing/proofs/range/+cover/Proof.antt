@@ -9,7 +9,7 @@ use borrow.Fn.Kinds.{In}
 use borrow.Fn.PlainCycle.{Measures, is, falls, and}
 use Rattle.resource_spec.specs.Level.{isDeep, levels}
 use Rattle.resource.proofs.step_levels.Reads as step-levels-reads
-use Rattle.narrowing.proofs.CoverCode.{Goes, Stepped, step-decides, next-fewer, next-same, deep-matches, fresh-told}
+use Rattle.narrowing.proofs.CoverCode.{Goes, Stepped, step-decides, next-fewer, next-same, deep-matches, fresh-says}
 use Rattle.narrowing.proofs.range.cover.Reads as cover
 use Rattle.narrowing.proofs.range.cover.Kinds as cover-kinds
 use Rattle.narrowing.proofs.range.+cover.Lts-cover as cover-lts
@@ -70,7 +70,7 @@ cover-returns t c = sym (deep-matches _ _ (sym (c .before .is-deep .ensures) ∙
 
 cover-returns-2 : (t : ℕ) → cover-lts.Need-returns-2 (given t) (cover-at t) cover.Post
 cover-returns-2 t c = let e = c .before in c .fresh .ensures ∙ sym
-    (fresh-told _ _ (q-not-deep t (e .before .before)) (sym (e .before .is-deep2 .ensures) ∙ e .if2 .taken))
+    (fresh-says _ _ (q-not-deep t (e .before .before)) (sym (e .before .is-deep2 .ensures) ∙ e .if2 .taken))
 
 cover-add-cover : (t : ℕ) → cover-lts.Need-add-cover (given t) (cover-at t) cover.Post
 cover-add-cover t c = omega (arith, goes t (c .before) .in-q)

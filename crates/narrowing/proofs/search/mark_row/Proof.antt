@@ -1,7 +1,7 @@
 -- `mark_row` meets its contract. Assumes nothing.
 use mathlib.Core.Path.{_∙_}
 use borrow.Author.Needs.{needs}
-use Rattle.narrowing.proofs.MarkingLaws.{marked-row, modes-told}
+use Rattle.narrowing.proofs.MarkingLaws.{marked-row, modes-tested}
 use Rattle.narrowing.proofs.search.mark_row.Statement.{statement}
 use Rattle.narrowing.proofs.search.mark_row.Tie as tie
 
@@ -10,7 +10,7 @@ returns c =
     let m = c .before .before .before in
     let f = m .before .before in
     let v = f .before in (
-      modes-told _ _ _ _ _ (v .cover .ensures) _ _ _ (f .full .ensures) (c .if1 .taken),
+      modes-tested _ _ _ _ _ (v .cover .ensures) _ _ _ (f .full .ensures) (c .if1 .taken),
       m .mark .ensures
           ∙ marked-row _ _ _ _ _ (v .cover .ensures) _,
     )
@@ -20,7 +20,7 @@ returns-2 c =
     let m = c .before .before .before in
     let f = m .before .before in
     let v = f .before in (
-      modes-told _ _ _ _ _ (v .cover .ensures) _ _ _ (f .full .ensures) (c .if1 .left),
+      modes-tested _ _ _ _ _ (v .cover .ensures) _ _ _ (f .full .ensures) (c .if1 .left),
       m .mark .ensures
           ∙ marked-row _ _ _ _ _ (v .cover .ensures) _,
     )

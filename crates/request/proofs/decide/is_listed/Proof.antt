@@ -5,13 +5,14 @@ use Prim.Native.Nat.{_/_, _≤_}
 use native.Mathlib.Omega.{arith}
 use lib.ListN.{length}
 use borrow.Author.Needs.{needs}
+use Rattle.descriptor_spec.specs.Allowed.{idSize}
 use Rattle.request_spec.specs.Request.{listedAmong, isListed}
 use Rattle.request.proofs.ArgumentCode.{listed-begin, listed-none, listed-hit, listed-next}
 use Rattle.request.proofs.decide.is_listed.Statement.{statement}
 use Rattle.request.proofs.decide.is_listed.Tie as tie
 
 abbrev Inv-loop : tie.InvT-loop
-Inv-loop revoked id i₀ i = (i ≤ length revoked / 16) × (isListed revoked id ≡ listedAmong revoked id i)
+Inv-loop revoked id i₀ i = (i ≤ length revoked / idSize) × (isListed revoked id ≡ listedAmong revoked id i)
 
 abbrev μ-loop : tie.MeasureT-loop
 μ-loop revoked id i₀ i = i

@@ -19,7 +19,7 @@ use Rattle.descriptor_spec.specs.Reader.{grantAt}
 use Rattle.descriptor_spec.proofs.Laws.{pattern-room}
 use Rattle.request_spec.specs.declared.Matched.the-variants.{IsAt}
 use Rattle.request_spec.specs.Decision.{firstFrom}
-use Rattle.request.proofs.SearchCode.{first-begin, first-done, first-stop, first-not, first-miss, first-hit, differ-told}
+use Rattle.request.proofs.SearchCode.{first-begin, first-done, first-stop, first-not, first-miss, first-hit, differ-says}
 use Rattle.request.proofs.search.first_grant.Statement.{statement}
 use Rattle.request.proofs.search.first_grant.Tie as tie
 
@@ -106,7 +106,7 @@ passed c =
     let h = k .before .before .before .if1 .left in
     ⊎-elim {C = Past c}
     (λ w. first-miss _ _ _ _ _ _ h (seen k) (c .before .is-eligible .ensures) (w .0 .taken)
-    (w .3 .inv .2 ∙ differ-told _ _ (sym (w .4 .ensures) ∙ w .5 .left) (w .6 .ensures) (w .8 .given .1)))
+    (w .3 .inv .2 ∙ differ-says _ _ (sym (w .4 .ensures) ∙ w .5 .left) (w .6 .ensures) (w .8 .given .1)))
     (λ w. first-not _ _ _ _ _ _ h (seen k) (c .before .is-eligible .ensures) (w .left))
     (c .if2 .came)
 

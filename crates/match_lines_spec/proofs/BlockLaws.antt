@@ -12,11 +12,12 @@ use borrow.Author.Tests.{lt-leb, ltb-true, ltb-false}
 use Rattle.octets.specs.Scan.{without}
 use Rattle.octets.proofs.ScanLaws.{without-append, without-first, without-rest}
 use Rattle.octets.proofs.Tests.{by-cond}
-use Rattle.match_lines.specs.declared.Verdict.{Verdict}
-use Rattle.match_lines.specs.declared.Verdict.the-variants.{IsYes, IsNo, IsBad}
-use Rattle.match_lines.specs.Lines.{longestLine, verdictLine, verdict, lastLine, answersFrom}
-use Rattle.match_lines.specs.Block.{Fed, verdictIf, keptOf, after, fedFrom, fed, ended}
-use Rattle.match_lines.specs.Promises.{concat, writtenFrom}
+use Rattle.match_lines_spec.specs.declared.Verdict.{Verdict}
+use Rattle.match_lines_spec.specs.declared.Verdict.the-variants.{IsYes, IsNo, IsBad}
+use Rattle.match_lines_spec.specs.Lines.{longestLine, verdictLine, verdict, lastLine, answersFrom}
+use Rattle.match_lines_spec.specs.Block.{Fed, verdictIf, keptOf, after, fedFrom, fed, ended}
+use Rattle.match_lines_spec.specs.Promises.{concat, writtenFrom}
+use Rattle.match_lines_spec.specs.Laws.{Ends, FedEnds, WordLe, KeptOut, BegunEnd}
 
 -- ---- the first byte of a block
 
@@ -76,10 +77,6 @@ fed-join long begun (b ∷ bs) rest h =
 
 -- ---- what is kept, and how much is written
 
--- k ends t, and has at most 600 bytes
-abbrev pub Ends : List ℕ → List ℕ → Type 0
-Ends k t = (p : List ℕ) × (p ++ k ≡ t) × (length k ≤ longestLine)
-
 -- what is kept of a line at the end of a block ends the line
 kept-ends : (long : Bool) (begun : List ℕ) → Ends (keptOf long begun .kept) begun
 unfolding keptOf
@@ -89,7 +86,7 @@ kept-ends false begun =
     (λ e. ([], refl, ltb-false longestLine (length begun) e))
 
 -- what is kept of a block ends the line that has begun and the block after it
-pub fed-ends : (long : Bool) (begun s : List ℕ) → Ends (fedFrom long begun s .kept) (begun ++ s)
+pub fed-ends : FedEnds
 fed-ends =
     by-fed (λ long begun s f. Ends (f .kept) (begun ++ s)) (λ long begun. rw append-nil (kept-ends long begun))
     (λ long begun b bs f e r. (begun ++ (b ∷ r .0), append-assoc begun (b ∷ r .0) (f .kept) ∙ rw (r .1), r .2))
@@ -105,13 +102,13 @@ pub kept-end : (long : Bool) (s : List ℕ) → (drop (length s - length (fed lo
 kept-end long s = let r = fed-ends long [] s in (drop-end (r .0) (fed long s .kept) s (r .1), r .2)
 
 -- a verdict's line has four bytes at most
-pub word-le : (v : Verdict) → length (verdictLine v) ≤ 4
+pub word-le : WordLe
 word-le IsYes = omega arith
 word-le IsNo = omega arith
 word-le IsBad = omega arith
 
 -- nothing is written at the end of a block
-pub kept-out : (long : Bool) (begun : List ℕ) → keptOf long begun .out ≡ []
+pub kept-out : KeptOut
 unfolding keptOf
 kept-out long begun = by-cond (λ (f : Fed). f .out ≡ []) (long || ltb longestLine (length begun)) (λ e. refl) (λ e. refl)
 
@@ -121,6 +118,11 @@ out-four =
     by-fed (λ long begun s f. length (f .out) ≤ 4 * length s) (λ long begun. rw kept-out (omega arith))
     (λ long begun b bs f e r. omega (arith, length-append (verdictLine (verdictIf long begun)) (f .out), word-le (verdictIf long begun)))
     (λ long begun b bs f e r. omega arith)
+
+-- a last line without newline is answered
+pub begun-end : BegunEnd
+begun-end [] h = absurd (omega arith)
+begun-end (b ∷ bs) h = refl
 
 -- ---- blocks and the whole input
 

@@ -8,11 +8,10 @@ use lib.ListN.{length, take, drop}
 use lib.Seq.{append-snoc}
 use borrow.Author.Tests.{ne-eqb, lt-ltb, le-ltb}
 use Rattle.octets.specs.Write.{over}
-use Rattle.match_lines.specs.Lines.{verdictLine, verdict, lastLine, answersFrom}
-use Rattle.match_lines.specs.Block.{progressOf, outputOf, bufferOf, endProgress, endOutput}
-use Rattle.match_lines.specs.Promises.{NoNewline, EachLine, LastLine, BlockWritten, BlockKept, BlockRefused, EndWritten, EndRefused}
-use Rattle.match_lines.proofs.BlockLaws.{answers-newline, answers-byte}
-use Rattle.match_lines.proofs.LineLaws.{begun-end}
+use Rattle.match_lines_spec.specs.Lines.{verdictLine, verdict, lastLine, answersFrom}
+use Rattle.match_lines_spec.specs.Block.{progressOf, outputOf, bufferOf, endProgress, endOutput}
+use Rattle.match_lines_spec.specs.Promises.{NoNewline, EachLine, LastLine, BlockWritten, BlockKept, BlockRefused, EndWritten, EndRefused}
+use Rattle.match_lines_spec.proofs.BlockLaws.{answers-newline, answers-byte, begun-end}
 
 -- ---- the lines of an input
 

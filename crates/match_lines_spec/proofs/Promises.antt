@@ -7,13 +7,13 @@ use Rattle.octets.specs.Bytes.{same}
 use Rattle.octets.specs.Scan.{bytesBefore}
 use Rattle.resource_spec.specs.Level.{isNameChar, allNameChars, levels, levelsOk}
 use Rattle.resource_spec.specs.Text.{isResource, isPattern, resourceOk, patternOk, levelsOf, pathOf, patternOf, matching}
-use Rattle.match_lines.specs.Lines.{verdictLine, verdictAt, verdict, answersFrom}
-use Rattle.match_lines.specs.Promises.{YesExactly, NoExactly, BadElse, LongBad, EachLine, LastLine, EmptyInput, WholeCase}
-use Rattle.match_lines.specs.Promises.{BlocksAgree, KeptLast, OutFits, BlockWritten, BlockKept, BlockRefused, EndWritten}
-use Rattle.match_lines.specs.Promises.{EndRefused}
-use Rattle.match_lines.proofs.BlockLaws.{blocks-answers, bad-long, kept-end, out-four}
-use Rattle.match_lines.proofs.VerdictLaws as verdicts
-use Rattle.match_lines.proofs.InputLaws as inputs
+use Rattle.match_lines_spec.specs.Lines.{verdictLine, verdictAt, verdict, answersFrom}
+use Rattle.match_lines_spec.specs.Promises.{YesExactly, NoExactly, BadElse, LongBad, EachLine, LastLine, EmptyInput, WholeCase}
+use Rattle.match_lines_spec.specs.Promises.{BlocksAgree, KeptLast, OutFits, BlockWritten, BlockKept, BlockRefused, EndWritten}
+use Rattle.match_lines_spec.specs.Promises.{EndRefused}
+use Rattle.match_lines_spec.proofs.BlockLaws.{blocks-answers, bad-long, kept-end, out-four}
+use Rattle.match_lines_spec.proofs.VerdictLaws as verdicts
+use Rattle.match_lines_spec.proofs.InputLaws as inputs
 
 -- ---- a line
 

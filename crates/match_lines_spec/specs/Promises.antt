@@ -8,9 +8,9 @@ use Prim.Native.Nat.{ℕ, _-_, _*_, _≤_, _<_}
 use lib.ListN.{length, take, drop}
 use Rattle.resource_spec.specs.Characters.{codes}
 use Rattle.resource_spec.specs.Pattern.{Path, IsPath, pathText, Pattern, IsPattern, patternText, admits}
-use Rattle.match_lines.specs.declared.Progress.the-variants.{Done, NoRoom}
-use Rattle.match_lines.specs.Lines.{verdictLine, verdict, answers}
-use Rattle.match_lines.specs.Block.{fed, ended, progressOf, outputOf, bufferOf, endProgress, endOutput}
+use Rattle.match_lines_spec.specs.declared.Progress.the-variants.{Done, NoRoom}
+use Rattle.match_lines_spec.specs.Lines.{verdictLine, verdict, answers}
+use Rattle.match_lines_spec.specs.Block.{fed, ended, progressOf, outputOf, bufferOf, endProgress, endOutput}
 
 -- ---- a line
 

@@ -10,8 +10,8 @@ use Rattle.octets.specs.Scan.{bytesBefore}
 use Rattle.resource_spec.specs.declared.Matching.{Matching}
 use Rattle.resource_spec.specs.declared.Matching.the-variants.{Yes, No, Malformed}
 use Rattle.resource_spec.specs.Text.{matching}
-use Rattle.match_lines.specs.declared.Verdict.{Verdict}
-use Rattle.match_lines.specs.declared.Verdict.the-variants.{IsYes, IsNo, IsBad}
+use Rattle.match_lines_spec.specs.declared.Verdict.{Verdict}
+use Rattle.match_lines_spec.specs.declared.Verdict.the-variants.{IsYes, IsNo, IsBad}
 
 -- the most bytes that a line has
 abbrev pub longestLine : ℕ

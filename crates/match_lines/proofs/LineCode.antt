@@ -1,4 +1,4 @@
--- Laws of lines: their lengths, their verdicts, and what the loop of `answers` makes of a block. Assumes nothing.
+-- Laws of lines: their lengths, their verdicts, and what the loop of `answers` makes of a block, in the code's own form. Assumes nothing.
 use mathlib.Core.Path.{_≡_, refl, sym, ap, _∙_}
 use mathlib.Core.Bool.{Bool, true, false, cond, _||_}
 use mathlib.Core.List.{List, [], _∷_, _++_, append-nil, append-assoc}
@@ -11,19 +11,19 @@ use lib.Dec.{eqb, ltb}
 use borrow.Author.Tests.{lt-ltb, le-ltb, le-leb, lt-leb}
 use Rattle.resource_spec.specs.declared.Matching.{Matching}
 use Rattle.resource_spec.specs.Text.{matching}
-use Rattle.match_lines.specs.declared.Verdict.{Verdict}
-use Rattle.match_lines.specs.declared.Verdict.the-variants.{IsBad}
-use Rattle.match_lines.specs.declared.Progress.{Progress}
-use Rattle.match_lines.specs.declared.Progress.the-variants.{Done, NoRoom}
+use Rattle.match_lines_spec.specs.declared.Verdict.{Verdict}
+use Rattle.match_lines_spec.specs.declared.Verdict.the-variants.{IsBad}
+use Rattle.match_lines_spec.specs.declared.Progress.{Progress}
+use Rattle.match_lines_spec.specs.declared.Progress.the-variants.{Done, NoRoom}
 use Rattle.octets.specs.Scan.{bytesBefore}
 use Rattle.octets.specs.Write.{over}
-use Rattle.match_lines.specs.Lines.{longestLine, verdictLine, verdictOf, beforeSpace, verdictAt, verdict, lastLine}
-use Rattle.match_lines.specs.Block.{Fed, verdictIf, keptOf, after, fedFrom, fed, ended, lineLength, endOf, progressOf, outputOf}
-use Rattle.match_lines.specs.Block.{bufferOf, endProgress, endOutput}
+use Rattle.match_lines_spec.specs.Lines.{longestLine, verdictLine, verdictOf, beforeSpace, verdictAt, verdict, lastLine}
+use Rattle.match_lines_spec.specs.Block.{Fed, verdictIf, keptOf, after, fedFrom, fed, ended, lineLength, endOf, progressOf, outputOf}
+use Rattle.match_lines_spec.specs.Block.{bufferOf, endProgress, endOutput}
 use Rattle.octets.proofs.PartLaws.{part-to-end}
 use Rattle.octets.proofs.OverLaws.{over-nil, over-append}
 use Rattle.octets.proofs.ScanLaws.{before-this, before-other, before-le}
-use Rattle.match_lines.proofs.BlockLaws.{fed-ends, kept-out, word-le}
+use Rattle.match_lines_spec.proofs.Laws.{fed-ends, kept-out, word-le, begun-end}
 
 -- ---- the verdict on a line, by the code's tests
 
@@ -192,10 +192,10 @@ module _ (long : Bool) (s out : List ℕ) where
 -- ---- the bytes that are kept
 
 -- what a block that was answered says: the output is long enough, and so many bytes are kept
-done-told : (long : Bool) (s : List ℕ) (room w k : ℕ) (t : Bool) → Done w k t ≡ progressOf long s room
+done-says : (long : Bool) (s : List ℕ) (room w k : ℕ) (t : Bool) → Done w k t ≡ progressOf long s room
     → (ltb (room / 4) (length s) ≡ false) × (k ≡ length (fed long s .kept))
 unfolding progressOf
-done-told long s room w k t e = go (ltb (room / 4) (length s)) e
+done-says long s room w k t e = go (ltb (room / 4) (length s)) e
   where
     go : (u : Bool) → Done w k t ≡ cond u NoRoom (Done (length (fed long s .out)) (length (fed long s .kept)) (fed long s .long))
         → (u ≡ false) × (k ≡ length (fed long s .kept))
@@ -203,9 +203,9 @@ done-told long s room w k t e = go (ltb (room / 4) (length s)) e
     go false f = (refl, cc)
 
 -- what one that was refused says: the output is too short
-refused-told : (long : Bool) (s : List ℕ) (room : ℕ) → NoRoom ≡ progressOf long s room → ltb (room / 4) (length s) ≡ true
+refused-says : (long : Bool) (s : List ℕ) (room : ℕ) → NoRoom ≡ progressOf long s room → ltb (room / 4) (length s) ≡ true
 unfolding progressOf
-refused-told long s room e = go (ltb (room / 4) (length s)) e
+refused-says long s room e = go (ltb (room / 4) (length s)) e
   where
     go : (u : Bool) → NoRoom ≡ cond u NoRoom (Done (length (fed long s .out)) (length (fed long s .kept)) (fed long s .long)) → u ≡ true
     go true f = refl
@@ -217,7 +217,7 @@ module _ (long : Bool) (d : List ℕ) (n size : ℕ) (out : List ℕ) (h : size 
   -- a block that was answered: the bytes that are kept are its last
   step-kept : (w k : ℕ) (t : Bool) → p ≡ Done w k t → (k ≤ size) × (take k (drop (size - k) d) ≡ fed long (take size d) .kept)
   step-kept w k t e =
-      let told = done-told long (take size d) (length out) w k t (sym e ∙ answered) in
+      let says = done-says long (take size d) (length out) w k t (sym e ∙ answered) in
       let f : List ℕ = fed long (take size d) .kept in
       let cut = fed-ends long [] (take size d) in
       let front : List ℕ = cut .0 in
@@ -244,7 +244,7 @@ module _ (long : Bool) (d : List ℕ) (n size : ℕ) (out : List ℕ) (h : size 
         (
           written,
           moved ∙ ap (over d 0) (step-kept w k t e .1)
-              ∙ rw (done-told long (take size d) (length out) w k t (sym e ∙ answered) .0),
+              ∙ rw (done-says long (take size d) (length out) w k t (sym e ∙ answered) .0),
         ),
       )
 
@@ -252,7 +252,7 @@ module _ (long : Bool) (d : List ℕ) (n size : ℕ) (out : List ℕ) (h : size 
   pub step-refused : p ≡ NoRoom
       → (NoRoom ≡ progressOf long (take n d) (length out)) × ((o ≡ outputOf long (take n d) out) × (d ≡ bufferOf long d n (length out)))
   unfolding bufferOf
-  step-refused e = rw (← same) (sym e ∙ answered, (written, rw (refused-told long (take size d) (length out) (sym e ∙ answered))))
+  step-refused e = rw (← same) (sym e ∙ answered, (written, rw (refused-says long (take size d) (length out) (sym e ∙ answered))))
 
 -- ---- the end of the input
 
@@ -279,12 +279,7 @@ empty-end : (s : List ℕ) → length s ≡ 0 → lastLine s ≡ []
 empty-end [] h = refl
 empty-end (b ∷ bs) h = absurd (omega arith)
 
--- a last line without newline is answered
-pub begun-end : (s : List ℕ) → 0 < length s → lastLine s ≡ verdictLine (verdict s)
-begun-end [] h = absurd (omega arith)
-begun-end (b ∷ bs) h = refl
-
--- the same of the first bytes of a buffer that holds no part of a line too long
+-- what is written of the first bytes of a buffer that holds no part of a line too long
 module _ (long : Bool) (d : List ℕ) (n size : ℕ) (h : size ≤ length d) (same : take size d ≡ take n d) (short : long ≡ false) where
   -- none
   pub ended-none : size ≡ 0 → ended long (take n d) ≡ []

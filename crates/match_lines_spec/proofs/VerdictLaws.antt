@@ -22,10 +22,10 @@ use Rattle.octets.proofs.Tests.{by-cond, and-left, and-right, no-flag}
 use Rattle.octets.proofs.ScanLaws.{before-all}
 use Rattle.resource_spec.proofs.Laws.{pattern-spaceless}
 use Rattle.resource_spec.proofs.Promises.{patterns-exact, resources-exact, matching-exact, malformed15}
-use Rattle.match_lines.specs.declared.Verdict.{Verdict}
-use Rattle.match_lines.specs.declared.Verdict.the-variants.{IsYes, IsNo, IsBad}
-use Rattle.match_lines.specs.Lines.{verdictLine, verdictOf, beforeSpace, verdictAt, verdict}
-use Rattle.match_lines.specs.Promises.{Asks, BadElse}
+use Rattle.match_lines_spec.specs.declared.Verdict.{Verdict}
+use Rattle.match_lines_spec.specs.declared.Verdict.the-variants.{IsYes, IsNo, IsBad}
+use Rattle.match_lines_spec.specs.Lines.{verdictLine, verdictOf, beforeSpace, verdictAt, verdict}
+use Rattle.match_lines_spec.specs.Promises.{Asks, BadElse}
 
 -- ---- the first space of a line
 

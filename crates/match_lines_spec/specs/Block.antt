@@ -8,11 +8,11 @@ use lib.ListN.{length, take}
 use lib.Dec.{ltb, eqb}
 use Rattle.octets.specs.Scan.{bytesBefore}
 use Rattle.octets.specs.Write.{over}
-use Rattle.match_lines.specs.declared.Verdict.{Verdict}
-use Rattle.match_lines.specs.declared.Verdict.the-variants.{IsBad}
-use Rattle.match_lines.specs.declared.Progress.{Progress}
-use Rattle.match_lines.specs.declared.Progress.the-variants.{Done, NoRoom}
-use Rattle.match_lines.specs.Lines.{longestLine, verdictLine, verdict, lastLine}
+use Rattle.match_lines_spec.specs.declared.Verdict.{Verdict}
+use Rattle.match_lines_spec.specs.declared.Verdict.the-variants.{IsBad}
+use Rattle.match_lines_spec.specs.declared.Progress.{Progress}
+use Rattle.match_lines_spec.specs.declared.Progress.the-variants.{Done, NoRoom}
+use Rattle.match_lines_spec.specs.Lines.{longestLine, verdictLine, verdict, lastLine}
 
 -- what comes of a block: what is written, the bytes that are kept of a line that has begun, and whether that line is too long
 pub record Fed : Type 0 where

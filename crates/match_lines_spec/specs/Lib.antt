@@ -1,3 +1,4 @@
 pub mod Lines
 pub mod Block
 pub mod Promises
+pub mod Laws

@@ -1,4 +1,5 @@
--- A text by the test of its content, and where what is read ends (specs/Item.antt), in the code's own form. Assumes nothing.
+-- A text by the test of its content, and where what is read ends (specs/Item.antt of `cbor_item_spec`), in the code's own form. Assumes
+-- nothing.
 use mathlib.Core.Path.{_≡_, sym, _∙_}
 use mathlib.Core.Bool.{Bool, true, false}
 use mathlib.Core.List.{List}

@@ -1,19 +1,17 @@
 -- Heads end after their place, and heads and strings end within the bytes (specs/Laws.antt). Assumes nothing.
-use mathlib.Core.Path.{_≡_, refl}
+use mathlib.Core.Path.{refl}
 use mathlib.Core.List.{List}
-use Prim.Native.Nat.{ℕ, _+_, _-_, _%_, _^_, _≤_, _<_}
+use Prim.Native.Nat.{ℕ, _+_, _-_, _%_, _≤_, _<_}
 use native.Mathlib.Omega.{arith}
 use lib.ListN.{length, getD}
 use lib.Dec.{ltb, leb, eqb}
 use borrow.Author.Tests.{ltb-false, leb-false}
-use Rattle.octets.specs.Span.{Span}
 use Rattle.octets.specs.Number.{numberAt}
-use Rattle.exact.specs.Reads.{got}
 use Rattle.exact.specs.Holds.{Holds}
-use Rattle.cbor_item_spec.specs.Head.{Head, longHead, wideHead, headAt, spanIn, spanAt}
+use Rattle.cbor_item_spec.specs.Head.{longHead, wideHead, headAt, spanIn, spanAt}
 use Rattle.cbor_item_spec.specs.Laws.{HeadTo, SpanTo}
 use Rattle.octets.proofs.Tests.{by-cond}
-use Rattle.exact.proofs.HoldsLaws.{held, holds-map, holds-bind, holds-guard}
+use Rattle.exact.proofs.HoldsLaws.{holds-map, holds-bind, holds-guard}
 
 -- a head whose number stands in w bytes
 long-ends : (s : List ℕ) (at major w least : ℕ) → at < length s → Holds (HeadTo s at) (longHead s at major w least)

@@ -1,4 +1,4 @@
--- The ways out of reading a whole descriptor, one by one (specs/Reader.antt). Assumes nothing.
+-- The ways out of reading a whole descriptor, one by one (specs/Reader.antt of `descriptor_spec`). Assumes nothing.
 use mathlib.Core.Path.{_≡_, refl, sym, ap, _∙_}
 use mathlib.Core.List.{List}
 use Prim.Native.Nat.{ℕ, _-_, _≤_, _<_}

@@ -9,8 +9,7 @@ use Rattle.descriptor_spec.specs.declared.Part.{Part}
 use Rattle.descriptor_spec.specs.declared.Fields.{Fields}
 use Rattle.descriptor_spec.specs.declared.Reading.{Reading}
 use Rattle.descriptor_spec.specs.declared.Reading.the-variants.{Read, Structure, Validity}
-use Rattle.descriptor_spec.specs.Reader.{GrantSeen, Seen, Answer}
-use Rattle.descriptor_spec.specs.Reader.{read, structure, validity}
+use Rattle.descriptor_spec.specs.Reader.{GrantSeen, Seen, Answer, read, structure, validity}
 
 -- what is seen of a grant
 abbrev pub grantOf : GrantFields → GrantSeen

@@ -1,5 +1,5 @@
--- The data model of a descriptor and its deterministic encoding, as source 002 section 2.3 and document 01, "Descriptor bytes", have
--- them; pairs, signatures and strings are in specs/Model.antt of `entries`. Nothing of places or of reading.
+-- The data model of a descriptor and its deterministic encoding, as source 002 section 2.3 and document 01, "Descriptor bytes", have them;
+-- pairs, signatures and strings are in specs/Model.antt of `entries_spec`. Nothing of places or of reading.
 use mathlib.Core.List.{List, [], _∷_, _++_}
 use mathlib.Core.Option.{Option}
 use Prim.Native.Nat.{ℕ, _+_}

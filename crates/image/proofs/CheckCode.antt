@@ -1,5 +1,5 @@
--- Laws that the proofs of the code apply: what the numbers and parts that the code reads say of the definitions of specs/Check.antt and
--- specs/Fresh.antt. Assumes nothing.
+-- Laws that the proofs of the code apply: what the numbers and parts that the code reads say of the definitions of specs/Check.antt of
+-- `image_spec` and specs/NewImage.antt of `image_spec`. Assumes nothing.
 use mathlib.Core.Path.{_≡_, refl, sym, ap, ap₂, _∙_}
 use mathlib.Core.Logic.{_⊎_, inl, inr}
 use mathlib.Core.Bool.{Bool, true, false, not, _&&_, and-assoc}

@@ -1,5 +1,5 @@
--- Laws that the proofs of growing apply: what the tests, calls and writes of the code say of the definitions of specs/Grow.antt.
--- Assumes nothing.
+-- Laws that the proofs of growing apply: what the tests, calls and writes of the code say of the definitions of specs/Grow.antt of
+-- `image_spec`. Assumes nothing.
 use mathlib.Core.Path.{_≡_, refl, sym, ap, ap₂, _∙_}
 use mathlib.Core.Bool.{Bool, true, false, not, _&&_}
 use mathlib.Core.List.{List}

@@ -1,4 +1,4 @@
--- Laws of a loop over the rows and of a loop over the ids (specs/Check.antt), in the code's own form. Assumes nothing.
+-- Laws of a loop over the rows and of a loop over the ids (specs/Check.antt of `image_spec`), in the code's own form. Assumes nothing.
 use mathlib.Core.Path.{_≡_, refl, sym, ap, ap₂, _∙_}
 use mathlib.Core.Bool.{true, false}
 use mathlib.Core.List.{List}

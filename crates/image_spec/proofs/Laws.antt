@@ -9,7 +9,6 @@ use Rattle.image_spec.proofs.BodyLaws as body
 use Rattle.image_spec.proofs.ReadLaws as read
 use Rattle.image_spec.proofs.PlaceLaws as place
 use Rattle.image_spec.proofs.FindLaws as found
-use Rattle.image_spec.proofs.RowLaws as row
 use Rattle.image_spec.proofs.GrowLaws as grow
 
 -- ---- where rows stand

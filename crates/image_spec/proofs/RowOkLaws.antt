@@ -7,7 +7,7 @@ use native.Mathlib.Omega.{arith}
 use lib.ListN.{length}
 use lib.Dec.{T, leb, leb→le}
 use Rattle.octets.specs.Bytes.{part, same}
-use Rattle.exact.specs.Reads.{Got, got, refused, guard}
+use Rattle.exact.specs.Reads.{Got, got, guard}
 use Rattle.descriptor_spec.specs.declared.Fields.{Fields}
 use Rattle.descriptor_spec.specs.declared.Reading.{Reading}
 use Rattle.descriptor_spec.specs.declared.Reading.the-variants.{Read, Structure, Validity}

@@ -12,7 +12,6 @@ use borrow.Author.Tests.{lt-leb, ltb-true, ltb-false}
 use Rattle.octets.specs.Scan.{without}
 use Rattle.octets.proofs.ScanLaws.{without-append, without-first, without-rest}
 use Rattle.octets.proofs.Tests.{by-cond}
-use Rattle.match_lines_spec.specs.declared.Verdict.{Verdict}
 use Rattle.match_lines_spec.specs.declared.Verdict.the-variants.{IsYes, IsNo, IsBad}
 use Rattle.match_lines_spec.specs.Lines.{longestLine, verdictLine, verdict, lastLine, answersFrom}
 use Rattle.match_lines_spec.specs.Block.{Fed, verdictIf, keptOf, after, fedFrom, fed, ended}

@@ -1,5 +1,5 @@
--- The search through the bytes of two descriptors (specs/Code.antt) agrees with the search through their rules (specs/Escape.antt).
--- Assumes nothing.
+-- The search through the bytes of two descriptors (specs/Code.antt) agrees with the search through their rules (specs/Escape.antt of
+-- `narrowing_spec`). Assumes nothing.
 use mathlib.Core.Path.{_≡_, refl, sym, ap, ap₂, _∙_}
 use mathlib.Core.Bool.{Bool, true, false, not, cond}
 use mathlib.Core.List.{List}

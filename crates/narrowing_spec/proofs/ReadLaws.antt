@@ -1,24 +1,21 @@
 -- What narrowing reads of the encoding of an allowed descriptor: the rules of its grants, and whether it has a constraint pair. Assumes
 -- nothing.
-use mathlib.Core.Path.{_≡_, refl, sym, ap, _∙_, subst}
+use mathlib.Core.Path.{_≡_, refl, sym, _∙_}
 use mathlib.Core.Logic.{_↔_}
 use mathlib.Core.Bool.{true}
 use mathlib.Core.List.{List, [], _∷_}
 use mathlib.Core.Option.{Option, none, some}
-use Prim.Native.Nat.{ℕ, suc}
+use Prim.Native.Nat.{ℕ}
 use native.Mathlib.Omega.{arith}
 use borrow.Author.Tests.{eqb-true, eq-eqb}
-use lib.ListN.{length}
-use Rattle.resource_spec.specs.Identifier.{terminalSize}
-use Rattle.octets.specs.Bytes.{AreBytes, part}
+use Rattle.octets.specs.Bytes.{AreBytes}
 use Rattle.entries_spec.specs.Model.{Pair, pairCount}
 use Rattle.descriptor_spec.specs.Model.{Grant, Descriptor, encode}
 use Rattle.descriptor_spec.specs.Allowed.{Formed}
-use Rattle.descriptor_spec.specs.Reader.{Seen, read, readOf}
 use Rattle.descriptor_spec.specs.View.{descriptorView}
 use Rattle.descriptor_spec.specs.Promises.{pairsIn, constraintPairs}
 use Rattle.descriptor_spec.specs.Laws.{InTurn, no-more, one-more}
-use Rattle.descriptor_spec.proofs.Laws.{reads-exactly, seen-handed, grants-in-turn}
+use Rattle.descriptor_spec.proofs.Laws.{seen-handed, grants-in-turn}
 use Rattle.narrowing_spec.specs.Narrow.{rulesAt, rulesIn, unconstrained}
 use Rattle.narrowing_spec.specs.Laws.{rulesOf}
 use Rattle.narrowing_spec.specs.Promises.{NoPairs}

@@ -14,10 +14,9 @@ use Rattle.resource_spec.proofs.Promises.{patterns-exact, patterns-once}
 use Rattle.octets.proofs.Tests.{and-left, and-right, or-elim, no-flag}
 use Rattle.descriptor_spec.specs.Model.{Grant}
 use Rattle.descriptor_spec.specs.Allowed.{isIn, ModeOk, seenWith, GrantOk, All}
-use Rattle.descriptor_spec.specs.View.{maskOf}
 use Rattle.descriptor_spec.proofs.Laws.{mask-exactly}
 use Rattle.narrowing_spec.specs.Meaning.{grantAdmits, anyAdmits, Escapes}
-use Rattle.narrowing_spec.specs.Escape.{Rule, ruleAt}
+use Rattle.narrowing_spec.specs.Escape.{ruleAt}
 use Rattle.narrowing_spec.specs.Laws.{ruleFor, rulesOf}
 use Rattle.narrowing_spec.proofs.CoveredLaws.{or-left, or-right, ruleAdmits, rulesAdmit}
 use Rattle.narrowing_spec.proofs.SearchLaws.{RuleEscape, ArePatterns}

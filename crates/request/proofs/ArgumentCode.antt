@@ -1,14 +1,14 @@
--- Laws of the arguments of a request and of the list of ids (specs/Request.antt), in the code's own form. Assumes nothing.
+-- Laws of the arguments of a request and of the list of ids (specs/Request.antt of `request_spec`), in the code's own form. Assumes
+-- nothing.
 use mathlib.Core.Path.{_≡_, refl, sym, ap, _∙_}
 use mathlib.Core.Bool.{Bool, true, false, _&&_}
 use mathlib.Core.List.{List}
 use Prim.Native.Nat.{ℕ, suc, _+_, _-_, _*_, _/_, _%_, _≤_, _<_}
 use native.Mathlib.Omega.{arith}
 use lib.ListN.{length, take, drop}
-use lib.Dec.{leb, eqb}
-use borrow.Author.Tests.{le-leb, lt-leb, leb-true, eq-eqb, ne-eqb}
+use lib.Dec.{eqb}
+use borrow.Author.Tests.{le-leb, lt-leb, eq-eqb, ne-eqb}
 use Rattle.octets.specs.Bytes.{part, same}
-use Rattle.octets.proofs.Tests.{and-left, and-right}
 use Rattle.resource_spec.specs.Identifier.{isFay, isTerminal}
 use Rattle.resource_spec.specs.Text.{resourceOk}
 use Rattle.steps.specs.Key.{isVerdict}

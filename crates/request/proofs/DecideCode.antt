@@ -1,4 +1,4 @@
--- Laws of the steps of a request (specs/Decision.antt, specs/Code.antt), in the code's own form. Assumes nothing.
+-- Laws of the steps of a request (specs/Decision.antt of `request_spec`, specs/Code.antt), in the code's own form. Assumes nothing.
 use mathlib.Core.Path.{_≡_, refl, sym, ap, _∙_}
 use mathlib.Core.Bool.{Bool, true, false, false≢true}
 use mathlib.Core.List.{List}

@@ -1,4 +1,4 @@
--- Laws of the search for the first grant that serves (specs/Decision.antt), in the code's own form. Assumes nothing.
+-- Laws of the search for the first grant that serves (specs/Decision.antt of `request_spec`), in the code's own form. Assumes nothing.
 use mathlib.Core.Path.{_≡_, refl, sym, ap, ap₂, _∙_, subst}
 use mathlib.Core.Bool.{Bool, true, false, _&&_, and-false, and-true, and-assoc}
 use mathlib.Core.List.{List}

@@ -9,7 +9,7 @@ pub use request_spec::Decision;
 pub use request_spec::DecisionNumbers;
 use steps::Window;
 ghost use mathlib.Core.Path.{_≡_};
-ghost use Prim.Native.Nat.{_+_, _≤_, _<_};
+ghost use Prim.Native.Nat.{_+_};
 ghost use Rattle.request_spec.specs.Request.{requestOf};
 ghost use Rattle.request_spec.specs.Decision.{decisionOf};
 

@@ -1,5 +1,5 @@
 -- Laws of matching the first level of a pattern against the first level of a path (specs/Code.antt), and what it says of all levels
--- (specs/Text.antt). Assumes nothing.
+-- (specs/Text.antt of `resource_spec`). Assumes nothing.
 use mathlib.Core.Path.{_≡_, refl, sym, ap, subst, _∙_}
 use mathlib.Core.Bool.{Bool, true, false, cond, _&&_, _||_, and-true, and-false}
 use mathlib.Core.List.{List, [], _∷_, _++_, append-nil}

@@ -1,6 +1,7 @@
--- What the stages that only look answer is what the steps in order come to (specs/Code.antt, specs/Submission.antt). Assumes nothing.
+-- What the stages that only look answer is what the steps in order come to (specs/Code.antt, specs/Submission.antt of `submission_spec`).
+-- Assumes nothing.
 use mathlib.Core.Path.{_≡_, refl, sym, ap}
-use mathlib.Core.Bool.{Bool, true, false}
+use mathlib.Core.Bool.{true, false}
 use mathlib.Core.List.{List}
 use Prim.Native.Nat.{ℕ, _+_, _<_}
 use native.Mathlib.Omega.{arith}

@@ -1,5 +1,5 @@
--- What a choice comes to: an answer is the submission's and leaves the buffer as it was; a body that is stored leaves the buffer after
--- the submission (specs/Code.antt, specs/Submission.antt). Assumes nothing.
+-- What a choice comes to: an answer is the submission's and leaves the buffer as it was; a body that is stored leaves the buffer after the
+-- submission (specs/Code.antt, specs/Submission.antt of `submission_spec`). Assumes nothing.
 use mathlib.Core.Path.{_≡_, refl, sym, ap, ap₂, _∙_, subst}
 use mathlib.Core.Bool.{Bool, true, false, cond}
 use mathlib.Core.List.{List}
@@ -17,7 +17,6 @@ use Rattle.image_spec.specs.Check.{isHeld}
 use Rattle.image_spec.specs.Edition1.{imageOf, checkOf, rowsHeld, addedOf, afterAdd, hasRoom, withBody}
 use Rattle.image_spec.proofs.Laws.{check-says, body-added}
 use Rattle.submission_spec.specs.declared.Submission.{Submission}
-use Rattle.submission_spec.specs.declared.Submission.the-variants as answers
 use Rattle.submission.specs.declared.choose.Choice.{Choice}
 use Rattle.submission.specs.declared.choose.Choice.the-variants.{Answer, Store}
 use Rattle.submission_spec.specs.Submission.{steps, submitted, afterAnswer, afterOf}

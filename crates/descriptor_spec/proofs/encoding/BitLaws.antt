@@ -1,4 +1,4 @@
--- The modes by their numbers and names, and the mask of grants (specs/Modes.antt of `descriptor`). Assumes nothing.
+-- The modes by their numbers and names, and the mask of grants (specs/Modes.antt). Assumes nothing.
 use mathlib.Core.Path.{_≡_, refl, ap, ap₂, _∙_}
 use mathlib.Core.Bool.{Bool, true, false, cond, _||_}
 use mathlib.Core.List.{List, [], _∷_}
@@ -6,8 +6,7 @@ use Prim.Native.Nat.{ℕ, _+_}
 use lib.Dec.{eqb}
 use Rattle.cbor_item_spec.specs.Encoding.{head}
 use Rattle.entries_spec.specs.Keys.{mRead, mWrite, mExecute, mConfigure}
-use Rattle.descriptor_spec.specs.Model.{modeNames}
-use Rattle.descriptor_spec.specs.Model.{Grant, encMode}
+use Rattle.descriptor_spec.specs.Model.{modeNames, Grant, encMode}
 use Rattle.descriptor_spec.specs.Allowed.{isIn}
 use Rattle.descriptor_spec.specs.Modes.{anyHas, bit}
 use Rattle.descriptor_spec.specs.View.{maskFrom}

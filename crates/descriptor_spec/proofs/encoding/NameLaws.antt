@@ -1,4 +1,4 @@
--- Each fixed byte string of a descriptor is the text of its name (specs/Keys.antt of `descriptor`). Assumes nothing.
+-- Each fixed byte string of a descriptor is the text of its name (specs/Keys.antt of `entries_spec`). Assumes nothing.
 use mathlib.Core.Path.{_≡_, refl}
 use Rattle.cbor_item_spec.specs.Encoding.{head}
 use Rattle.entries_spec.specs.Keys.{kPayload, kVersion, kSignature, kGrants, kMetadata, kIssuedAt, kIssuerId, kNotAfter, kGrantorId}

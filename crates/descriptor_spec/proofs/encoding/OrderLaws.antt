@@ -1,4 +1,4 @@
--- Bytewise order (`before` in specs/Allowed.antt of `descriptor`), and the keys of allowed pairs in it. Assumes nothing.
+-- Bytewise order (`before` in specs/Order.antt of `octets`), and the keys of allowed pairs in it. Assumes nothing.
 use mathlib.Core.Path.{_≡_, refl, sym, ap, ap₂, _∙_, subst}
 use mathlib.Core.Logic.{_⊎_, inl, inr, ⊎-elim}
 use mathlib.Core.Bool.{Bool, true, false, _&&_, _||_}

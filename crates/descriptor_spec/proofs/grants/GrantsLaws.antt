@@ -1,4 +1,4 @@
--- The reader of grants is exact (specs/Reader.antt of `descriptor`): all of them have the terminal id of the first. Assumes nothing.
+-- The reader of grants is exact (specs/Reader.antt): all of them have the terminal id of the first. Assumes nothing.
 use mathlib.Core.Path.{_≡_, refl, sym, subst}
 use mathlib.Core.List.{List, [], _∷_, _++_, append-assoc}
 use Prim.Native.Nat.{ℕ, suc, _+_, _-_, _≤_}

@@ -1,4 +1,4 @@
--- The reader of modes is exact, and its mask is theirs (specs/Reader.antt of `descriptor`). Assumes nothing.
+-- The reader of modes is exact, and its mask is theirs (specs/Reader.antt). Assumes nothing.
 use mathlib.Core.Path.{_≡_, refl, sym, ap, _∙_}
 use mathlib.Core.Bool.{Bool, true, false, not, _&&_, _||_, or-false, Bool·beq}
 use mathlib.Core.List.{List, [], _∷_, _++_, append-assoc}
@@ -14,8 +14,7 @@ use Rattle.cbor_item_spec.specs.Encoding.{head}
 use Rattle.exact.proofs.ReadsLaws.{recast, seq, keyed, refine}
 use Rattle.exact.proofs.CountedLaws.{counted}
 use Rattle.entries_spec.specs.Keys.{kModes, mRead, mWrite, mExecute, mConfigure}
-use Rattle.descriptor_spec.specs.Model.{modeNames}
-use Rattle.descriptor_spec.specs.Model.{encMode, encModes}
+use Rattle.descriptor_spec.specs.Model.{modeNames, encMode, encModes}
 use Rattle.descriptor_spec.specs.Allowed.{isIn, ModeOk, seenWith, ModesOk}
 use Rattle.descriptor_spec.specs.Reader.{hasMode, modeAt, modesAt}
 use Rattle.descriptor_spec.specs.View.{maskFrom, maskOf}

@@ -1,4 +1,4 @@
--- The reader of a payload is exact (specs/Reader.antt of `descriptor`). Assumes nothing.
+-- The reader of a payload is exact (specs/Reader.antt). Assumes nothing.
 use mathlib.Core.Path.{_≡_, refl, sym, ap, ap₂, _∙_}
 use mathlib.Core.Logic.{_↔_}
 use mathlib.Core.List.{List, _++_, append-assoc}

@@ -1,4 +1,4 @@
--- The readers of the three pieces of a payload behind its grants are exact (specs/Reader.antt of `descriptor`). Assumes nothing.
+-- The readers of the three pieces of a payload behind its grants are exact (specs/Reader.antt). Assumes nothing.
 use mathlib.Core.Path.{_≡_, refl}
 use mathlib.Core.Bool.{true}
 use mathlib.Core.List.{List, _++_}

@@ -1,4 +1,4 @@
--- What reading answers (specs/Reader.antt of `descriptor`): 0, 2 or 1. Assumes nothing.
+-- What reading answers (specs/Reader.antt): 0, 2 or 1. Assumes nothing.
 use mathlib.Core.Path.{_≡_, refl, sym, ap, _∙_, subst}
 use mathlib.Core.Logic.{_⊎_, inl, inr, ⊎-elim}
 use mathlib.Core.Bool.{cond}

@@ -1,4 +1,4 @@
--- The reader of a descriptor is exact (specs/Reader.antt of `descriptor`). Assumes nothing.
+-- The reader of a descriptor is exact (specs/Reader.antt). Assumes nothing.
 use mathlib.Core.Path.{_≡_, refl, sym}
 use mathlib.Core.List.{List, _++_}
 use Prim.Native.Nat.{ℕ, _+_, _-_}

@@ -1,5 +1,4 @@
--- What is allowed (specs/Allowed.antt of `descriptor`) is what lies within the limits of specs/Promises.antt, and the other way about.
--- Assumes nothing.
+-- What is allowed (specs/Allowed.antt) is what lies within the limits of specs/Promises.antt, and the other way about. Assumes nothing.
 use mathlib.Core.Path.{_≡_, refl, sym, _∙_, subst}
 use mathlib.Core.Bool.{Bool, true, false, _||_, false≢true}
 use mathlib.Core.List.{List, [], _∷_, _++_}

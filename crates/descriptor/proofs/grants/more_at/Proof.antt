@@ -1,8 +1,7 @@
 -- `more_at` meets its contract. Assumes nothing.
 use mathlib.Core.Path.{refl, sym, ap, _∙_}
 use native.Mathlib.Omega.{arith}
-use Rattle.exact.proofs.ReadsLaws.{took, stopped}
-use Rattle.exact.proofs.ReadsLaws.{flag-yes, flag-no}
+use Rattle.exact.proofs.ReadsLaws.{took, stopped, flag-yes, flag-no}
 use Rattle.descriptor_spec.specs.Code.{grantRead}
 use Rattle.descriptor_spec.specs.Reader.{moreAt}
 use Rattle.descriptor.proofs.RoomCode.{grant-room}

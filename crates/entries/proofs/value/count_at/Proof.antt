@@ -1,9 +1,8 @@
 -- `count_at` meets its contract. Assumes nothing.
 use mathlib.Core.Path.{refl, sym, ap, _∙_}
 use Rattle.cbor_item_spec.specs.Head.{headRead}
-use Rattle.exact.proofs.ReadsLaws.{took, stopped}
+use Rattle.exact.proofs.ReadsLaws.{took, stopped, flag-yes, flag-no}
 use Rattle.entries_spec.specs.Value.{countAt}
-use Rattle.exact.proofs.ReadsLaws.{flag-yes, flag-no}
 use borrow.Author.Needs.{needs}
 use Rattle.entries.proofs.value.count_at.Statement.{statement}
 use Rattle.entries.proofs.value.count_at.Tie as tie

@@ -39,6 +39,7 @@ withMode mask bit next = guard (not (eqb (mask / bit % 2) 1)) (got (mask + bit) 
 abbrev pub sumOf : sums.Sum → Sum
 sumOf sum = record { mask = sum .mask; pairs = sum .pairs }
 
+-- that and the place after it, or a refusal
 abbrev pub sumRead : SumRead → Got Sum
 sumRead (IsSum sum next) = got (sumOf sum) next
 sumRead NoSum = refused
@@ -47,6 +48,7 @@ sumRead NoSum = refused
 abbrev pub grantsOf : GrantsFields → GrantsSeen
 grantsOf g = record { count = g .count; start = g .start; first = g .first; sum = sumOf (g .sum) }
 
+-- that and the place after it, or a refusal
 abbrev pub grantsRead : GrantsRead → Got GrantsSeen
 grantsRead (IsGrants g next) = got (grantsOf g) next
 grantsRead NoGrants = refused
@@ -63,6 +65,7 @@ issueOf f = record {
       f .«not_after»;
 }
 
+-- that and the place after it, or a refusal
 abbrev pub issueRead : IssueRead → Got Issue
 issueRead (IsIssue f next) = got (issueOf f) next
 issueRead NoIssue = refused
@@ -71,6 +74,7 @@ issueRead NoIssue = refused
 abbrev pub grantorOf : GrantorFields → Grantor
 grantorOf f = record { grantor = f .grantor; notBefore = f .«not_before» }
 
+-- that and the place after it, or a refusal
 abbrev pub grantorRead : GrantorRead → Got Grantor
 grantorRead (IsGrantor f next) = got (grantorOf f) next
 grantorRead NoGrantor = refused
@@ -79,6 +83,7 @@ grantorRead NoGrantor = refused
 abbrev pub idsOf : IdsFields → Ids
 idsOf f = record { terminal = f .terminal; id = f .id; fay = f .fay }
 
+-- that and the place after it, or a refusal
 abbrev pub idsRead : IdsRead → Got Ids
 idsRead (AreIds f next) = got (idsOf f) next
 idsRead NoIds = refused
@@ -87,6 +92,7 @@ idsRead NoIds = refused
 abbrev pub payloadOf : PayloadFields → PayloadSeen
 payloadOf f = seenIn (f .keys) (grantsOf (f .grants)) (issueOf (f .issue)) (grantorOf (f .grantor)) (idsOf (f .ids))
 
+-- that and the place after it, or a refusal
 abbrev pub payloadRead : PayloadRead → Got PayloadSeen
 payloadRead (IsPayload f next) = got (payloadOf f) next
 payloadRead NoPayload = refused

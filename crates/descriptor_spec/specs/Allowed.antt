@@ -22,6 +22,7 @@ pub record ModeOk (seen : List ℕ) (m : ℕ) : Type 0 where
   pub known : m < 4
   pub new : isIn m seen ≡ false
 
+-- those of `seen` and one more
 abbrev pub seenWith : List ℕ → ℕ → List ℕ
 seenWith seen m = m ∷ seen
 

@@ -22,6 +22,7 @@ grantOf f = record {
       spanOf (f .pattern) (f .len);
 }
 
+-- that and the place after it, or a refusal
 abbrev pub grantRead : GrantRead → Got GrantSeen
 grantRead (IsGrant f next) = got (grantOf f) next
 grantRead NoGrant = refused

@@ -43,6 +43,7 @@ pub record ByNumber (s : List ℕ) : Type 0 where
   pub structure : (handed s .answer ≡ 1) ↔ (readOf s ≡ structure)
   pub validity : (handed s .answer ≡ 2) ↔ (readOf s ≡ validity)
 
+-- it does for all bytes
 abbrev pub NumberTells : Type 0
 NumberTells = (s : List ℕ) → ByNumber s
 
@@ -118,6 +119,7 @@ pub record GrantIn (s : List ℕ) (at : ℕ) (g : GrantSeen) (n : ℕ) : Type 0 
   pub few : g .pairs ≤ 8
   pub small : g .mask < 16
 
+-- so is each grant that is answered
 abbrev pub GrantBounds : Type 0
 GrantBounds = (s : List ℕ) (at : ℕ) → Holds (GrantIn s at) (grantAt s at)
 
@@ -132,6 +134,7 @@ pub record MoreIn (sum : Sum) (at : ℕ) (more : Sum) (n : ℕ) : Type 0 where
   pub few : more .pairs ≤ sum .pairs + 8
   pub small : sum .mask < 16 → more .mask < 16
 
+-- so is each sum that is answered
 abbrev pub MoreBounds : Type 0
 MoreBounds = (s : List ℕ) (first : ℕ) (sum : Sum) (at : ℕ) → Holds (MoreIn sum at) (moreAt s first sum at)
 
@@ -141,6 +144,7 @@ pub record GrantsIn (s : List ℕ) (at : ℕ) (g : GrantsSeen) (n : ℕ) : Type 
   pub first : g .first + terminalSize ≤ length s
   pub small : g .sum .mask < 16
 
+-- so are all grants that are answered
 abbrev pub GrantsBounds : Type 0
 GrantsBounds = (s : List ℕ) (at : ℕ) → Holds (GrantsIn s at) (grantsAt s at)
 
@@ -151,6 +155,7 @@ pub record IdsIn (s : List ℕ) (at : ℕ) (ids : Ids) (n : ℕ) : Type 0 where
   pub id : ids .id + idSize ≤ length s
   pub fay : ids .fay + faySize ≤ length s
 
+-- so do those that are answered
 abbrev pub IdsBounds : Type 0
 IdsBounds = (s : List ℕ) (at : ℕ) → Holds (IdsIn s at) (idsAt s at)
 
@@ -162,6 +167,7 @@ pub record PayloadIn (s : List ℕ) (p : PayloadSeen) : Type 0 where
   pub id : p .id + idSize ≤ length s
   pub fay : p .fay + faySize ≤ length s
 
+-- so is each payload that is answered, and it ends not before its place
 abbrev pub PayloadBounds : Type 0
 PayloadBounds = (s : List ℕ) (at : ℕ) → Holds (λ p n. (at ≤ n) × PayloadIn s p) (payloadAt s at)
 

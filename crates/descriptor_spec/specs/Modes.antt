@@ -5,10 +5,11 @@ use Prim.Native.Nat.{ℕ, _+_}
 use Rattle.descriptor_spec.specs.Model.{Grant}
 use Rattle.descriptor_spec.specs.Allowed.{isIn}
 
--- how many modes there are, and the highest of their numbers
+-- how many modes there are
 abbrev pub modeCount : ℕ
 modeCount = 4
 
+-- the highest of their numbers
 abbrev pub highestMode : ℕ
 highestMode = 3
 

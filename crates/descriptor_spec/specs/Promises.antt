@@ -274,6 +274,7 @@ pub record Answered (s : List ℕ) : Type 0 where
   pub validity : (handed s .answer ≡ 2) ↔ ((d : Descriptor) × Formed d × (7776000 < d .payload .notAfter - d .payload .notBefore)
       × (s ≡ encode d))
 
+-- all bytes are answered so
 abbrev pub AnsweredExactly : Type 0
 AnsweredExactly = (s : List ℕ) → AreBytes s → Answered s
 
@@ -372,6 +373,7 @@ pub record PayloadOf (s : List ℕ) : Type 0 where
       ≡ record { start = handed s .«payload_at»; len = handed s .«payload_len» }
   pub refused : (handed s .answer ≡ 0 → ⊥) → payloadSpan s (readingOf (readOf s)) ≡ record { start = 0; len = 0 }
 
+-- it is so for all bytes
 abbrev pub PayloadHanded : Type 0
 PayloadHanded = (s : List ℕ) → AreBytes s → PayloadOf s
 

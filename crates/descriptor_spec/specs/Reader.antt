@@ -98,6 +98,7 @@ pub record Issue : Type 0 where
   pub issuer : Span
   pub notAfter : ℕ
 
+-- the four at a place, in that order
 unfoldable pub issueAt : List ℕ → ℕ → Got Issue
 issueAt s at =
     bind (optPairsAt s at kMetadata 16) (λ metadata n.
@@ -111,6 +112,7 @@ pub record Grantor : Type 0 where
   pub grantor : Optional
   pub notBefore : ℕ
 
+-- the two at a place, in that order
 unfoldable pub grantorAt : List ℕ → ℕ → Got Grantor
 grantorAt s at =
     bind (optKindAt s at kGrantorId (Text 1 128)) (λ grantor n.
@@ -123,6 +125,7 @@ pub record Ids : Type 0 where
   pub id : ℕ
   pub fay : ℕ
 
+-- the three at a place, in that order
 unfoldable pub idsAt : List ℕ → ℕ → Got Ids
 idsAt s at =
     bind (keyedAt s at kTerminalId (kindAt Terminal s)) (λ terminal n.
@@ -168,6 +171,7 @@ payloadFits s p =
     && (same (part s (p .grants .first) terminalSize) (part s (p .terminal) terminalSize)
     && (leb (p .issuedAt) (p .notBefore) && ltb (p .notBefore) (p .notAfter)))
 
+-- the payload at a place
 unfoldable pub payloadAt : List ℕ → ℕ → Got PayloadSeen
 payloadAt s at =
     bind (countAt s at 5 8 10) (λ keys n.
@@ -193,6 +197,7 @@ pub record Seen : Type 0 where
   pub payload : PayloadSeen
   pub signature : SignatureSeen
 
+-- the descriptor at a place
 unfoldable pub descriptorAt : List ℕ → ℕ → Got Seen
 descriptorAt s at =
     bind (keyedAt s at beforePayload (payloadAt s)) (λ p n.
@@ -211,5 +216,6 @@ whole len (got v n) =
     cond (eqb n len) (cond (leb (v .payload .notAfter - v .payload .notBefore) longestPeriod) (read v) validity) structure
 whole len refused = structure
 
+-- reading the whole of s, which has no more bytes than the most
 unfoldable pub readOf : List ℕ → Answer
 readOf s = cond (leb (length s) longest) (whole (length s) (descriptorAt s 0)) structure

@@ -34,6 +34,7 @@ pairRead at NoPair = refused
 abbrev pub signatureOf : SignatureFields → SignatureSeen
 signatureOf f = record { keyId = spanOf (f .key) (f .len); algorithm = f .algorithm; value = spanOf (f .value) (f .size) }
 
+-- that and the place after it, or a refusal
 abbrev pub signatureRead : SignatureRead → Got SignatureSeen
 signatureRead (IsSignature f next) = got (signatureOf f) next
 signatureRead NoSignature = refused

@@ -129,6 +129,7 @@ abbrev pub heldAt : Held → Finding
 heldAt (Body at n f) = Found at n
 heldAt Missing = NotFound
 
+-- the lookup by what the check of the image says
 abbrev pub foundIn : ImageCheck → Finding
 foundIn (Sound n end h) = heldAt h
 foundIn Unsound = BadImage

@@ -97,6 +97,7 @@ pub record BodyOk (seen : List Row) (r : Row) : Type 0 where
   pub reads : isRead (reading (r .body)) ≡ true
   pub new : hasId (idOf (r .body)) seen ≡ false
 
+-- those of `seen` and one more
 abbrev pub seenWith : List Row → Row → List Row
 seenWith seen r = seen ++ (r ∷ [])
 

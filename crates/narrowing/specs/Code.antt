@@ -36,13 +36,15 @@ markedAt s p d zero at = d
 markedAt s p d (suc n) at =
     elim (grantAt s at) [ got g next ↦ markedAt s p (marked 0 d (textRange (below s (g .pattern)) p) (g .mask)) n next | refused ↦ d ]
 
--- a table of grants has three numbers a row: where the grant's levels begin, where they end, and its mask
+-- a table of grants has three numbers a row: where the grant's levels begin
 abbrev pub rowStart : List ℕ → ℕ → ℕ
 rowStart t i = getD t (3 * i) 0
 
+-- where they end
 abbrev pub rowEnd : List ℕ → ℕ → ℕ
 rowEnd t i = getD t (3 * i + 1) 0
 
+-- and its mask
 abbrev pub rowMask : List ℕ → ℕ → ℕ
 rowMask t i = getD t (3 * i + 2) 0
 

@@ -49,10 +49,12 @@ abbrev pub least : (ℕ → Bool) → ℕ → ℕ → Option ℕ
 least f a zero = none
 least f a (suc n) = choose (f a) (some a) (least f (suc a) n)
 
+-- there is a number
 abbrev pub isSome : Option ℕ → Bool
 isSome none = false
 isSome (some k) = true
 
+-- a number, or 0 where there is none
 abbrev pub orZero : Option ℕ → ℕ
 orZero none = 0
 orZero (some k) = k

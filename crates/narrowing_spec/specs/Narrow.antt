@@ -68,10 +68,11 @@ withParent s validity t = NoParent
 unfoldable pub narrow : List ℕ → List ℕ → Narrowing
 narrow s t = withParent s (readOf s) t
 
--- document 01's answer and numbers; the other numbers are 0 but for 20
+-- an answer whose other numbers are 0
 abbrev pub plain : ℕ → NarrowingNumbers
 plain n = record { answer = n; grant = 0; mode = 0; levels = 0 }
 
+-- document 01's answer and numbers; the other numbers are 0 but for 20
 abbrev pub numbersOf : Narrowing → NarrowingNumbers
 numbersOf Accepted = plain 0
 numbersOf NoParent = plain 21

@@ -5,13 +5,15 @@ use Prim.Native.Nat.{ℕ}
 use lib.Dec.{leb, eqb}
 use Rattle.steps.specs.declared.Window.{Window}
 
--- the host's verdicts: signature good, bad, no such key
+-- the host's verdict on a signature: it is good
 abbrev pub good : ℕ
 good = 0
 
+-- it is bad
 abbrev pub bad : ℕ
 bad = 1
 
+-- there is no such key
 abbrev pub noKey : ℕ
 noKey = 2
 

@@ -24,7 +24,7 @@ child-exactly s t z =
     )
 
 pub constrained-exactly : ConstrainedExactly
-constrained-exactly s t p c bs bt ap ac es et = by-numbers (narrow s t) Constrained (order-constrained s t p c bs bt ap ac es et)
+constrained-exactly s t p c bs bt op oc es et = by-numbers (narrow s t) Constrained (order-constrained s t p c bs bt op oc es et)
 
 pub period-exactly : PeriodExactly
 period-exactly s t p c a b = by-numbers (narrow s t) Period (narrow-period s t p c a b)

@@ -20,7 +20,7 @@ use submission::Submission;
 ghost use mathlib.Core.Path.{_≡_};
 ghost use Rattle.cbor_item_spec.specs.Item as items;
 ghost use Rattle.resource_spec.specs.Text as texts;
-ghost use Rattle.descriptor_spec.specs.Code.{grantRead};
+ghost use Rattle.descriptor.specs.Code.{grantRead};
 ghost use Rattle.descriptor_spec.specs.Numbers as descriptors;
 ghost use Rattle.image_spec.specs.Check as images;
 ghost use Rattle.image_spec.specs.NewImage as creations;

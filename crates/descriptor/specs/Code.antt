@@ -1,5 +1,5 @@
 -- A reader of the promises does not need this page.
--- What the answers of the inner functions say, as answers of exact readers.
+-- What the answers of the reader of a grant and of the inner functions say, as answers of exact readers.
 use mathlib.Core.Bool.{not}
 use Prim.Native.Nat.{ℕ, _+_, _/_, _%_}
 use lib.Dec.{eqb}
@@ -7,7 +7,10 @@ use Rattle.octets.specs.Span.{spanOf}
 use Rattle.exact.specs.Reads.{Got, got, refused, guard}
 use Rattle.entries.specs.declared.signature.SignatureFields.{SignatureFields}
 use Rattle.entries.specs.Code.{signatureOf}
-use Rattle.descriptor_spec.specs.Reader.{Sum, GrantsSeen, Issue, Grantor, Ids, PayloadSeen, seenIn, Seen}
+use Rattle.descriptor_spec.specs.Reader.{GrantSeen, Sum, GrantsSeen, Issue, Grantor, Ids, PayloadSeen, seenIn, Seen}
+use Rattle.descriptor.specs.declared.GrantFields.{GrantFields}
+use Rattle.descriptor.specs.declared.GrantRead.{GrantRead}
+use Rattle.descriptor.specs.declared.GrantRead.the-variants.{IsGrant, NoGrant}
 use Rattle.descriptor.specs.declared.grants.Sum as sums
 use Rattle.descriptor.specs.declared.grants.SumRead.{SumRead}
 use Rattle.descriptor.specs.declared.grants.SumRead.the-variants.{IsSum, NoSum}
@@ -34,6 +37,22 @@ unfoldable pub withMode : ℕ → ℕ → ℕ → Got ℕ
 withMode mask bit next = guard (not (eqb (mask / bit % 2) 1)) (got (mask + bit) next)
 
 -- ---- grants
+
+-- what is seen of a grant
+abbrev pub grantOf : GrantFields → GrantSeen
+grantOf f = record {
+  mask = f .mask;
+  modes = f .modes;
+  constraints = f .constraints;
+  pairs = f .pairs;
+  pattern =
+      spanOf (f .pattern) (f .len);
+}
+
+-- that and the place after it, or a refusal
+abbrev pub grantRead : GrantRead → Got GrantSeen
+grantRead (IsGrant f next) = got (grantOf f) next
+grantRead NoGrant = refused
 
 -- the sum over grants
 abbrev pub sumOf : sums.Sum → Sum

@@ -21,8 +21,7 @@ ghost use Rattle.exact.specs.Reads.{got, guard};
 ghost use Rattle.entries_spec.specs.Value.{flag};
 ghost use Rattle.resource_spec.specs.Identifier.{terminalSize};
 ghost use Rattle.descriptor_spec.specs.Reader.{grantAt, moreAt, grantsAt};
-ghost use Rattle.descriptor_spec.specs.Code.{grantOf, grantRead};
-ghost use Rattle.descriptor.specs.Code.{sumOf, sumRead, grantsRead};
+ghost use Rattle.descriptor.specs.Code.{grantOf, grantRead, sumOf, sumRead, grantsRead};
 
 // The union of masks and the number of constraint pairs.
 pub(crate) struct Sum {

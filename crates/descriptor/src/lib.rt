@@ -7,16 +7,32 @@ mod whole;
 
 pub use descriptor_spec::DescriptorNumbers;
 pub use descriptor_spec::Fields;
-pub use descriptor_spec::GrantFields;
 pub use descriptor_spec::GrantNumbers;
-pub use descriptor_spec::GrantRead;
 pub use descriptor_spec::Part;
 pub use descriptor_spec::Reading;
 ghost use mathlib.Core.Path.{_≡_};
 ghost use Rattle.octets.specs.Bytes.{PartOf};
 ghost use Rattle.descriptor_spec.specs.Reader.{readOf, grantAt};
-ghost use Rattle.descriptor_spec.specs.Code.{readingOf, grantRead};
+ghost use Rattle.descriptor_spec.specs.Code.{readingOf};
+ghost use Rattle.descriptor.specs.Code.{grantRead};
 ghost use Rattle.descriptor_spec.specs.Numbers.{payloadSpan};
+
+// What is seen of a grant: the mask of its modes, the place of their array, the place of the constraints' map (0 where there is none) and
+// the number of its pairs, and the pattern's place and length.
+pub struct GrantFields {
+    pub mask: u64,
+    pub modes: usize,
+    pub constraints: usize,
+    pub pairs: u64,
+    pub pattern: usize,
+    pub len: usize,
+}
+
+// A grant, and the place after it.
+pub enum GrantRead {
+    IsGrant { fields: GrantFields, next: usize },
+    NoGrant,
+}
 
 // Reads s as a descriptor.
 pub fn read_descriptor(s: &[u8]) -> Reading

@@ -1,31 +1,11 @@
 -- A reader of the promises does not need this page.
--- What reading and the reader of a grant answer: the types of src/lib.rt for what is seen.
-use Rattle.octets.specs.Span.{Span, spanOf}
-use Rattle.exact.specs.Reads.{Got, got, refused}
-use Rattle.descriptor_spec.specs.declared.GrantFields.{GrantFields}
-use Rattle.descriptor_spec.specs.declared.GrantRead.{GrantRead}
-use Rattle.descriptor_spec.specs.declared.GrantRead.the-variants.{IsGrant, NoGrant}
+-- What reading answers: the types of src/lib.rt for what is seen.
+use Rattle.octets.specs.Span.{Span}
 use Rattle.descriptor_spec.specs.declared.Part.{Part}
 use Rattle.descriptor_spec.specs.declared.Fields.{Fields}
 use Rattle.descriptor_spec.specs.declared.Reading.{Reading}
 use Rattle.descriptor_spec.specs.declared.Reading.the-variants.{Read, Structure, Validity}
-use Rattle.descriptor_spec.specs.Reader.{GrantSeen, Seen, Answer, read, structure, validity}
-
--- what is seen of a grant
-abbrev pub grantOf : GrantFields → GrantSeen
-grantOf f = record {
-  mask = f .mask;
-  modes = f .modes;
-  constraints = f .constraints;
-  pairs = f .pairs;
-  pattern =
-      spanOf (f .pattern) (f .len);
-}
-
--- that and the place after it, or a refusal
-abbrev pub grantRead : GrantRead → Got GrantSeen
-grantRead (IsGrant f next) = got (grantOf f) next
-grantRead NoGrant = refused
+use Rattle.descriptor_spec.specs.Reader.{Seen, Answer, read, structure, validity}
 
 -- a part of the bytes
 abbrev pub partOf : Span → Part

@@ -39,23 +39,6 @@ pub enum Reading {
     Validity,
 }
 
-// What is seen of a grant: the mask of its modes, the place of their array, the place of the constraints' map (0 where there is none) and
-// the number of its pairs, and the pattern's place and length.
-pub struct GrantFields {
-    pub mask: u64,
-    pub modes: usize,
-    pub constraints: usize,
-    pub pairs: u64,
-    pub pattern: usize,
-    pub len: usize,
-}
-
-// A grant, and the place after it.
-pub enum GrantRead {
-    IsGrant { fields: GrantFields, next: usize },
-    NoGrant,
-}
-
 // A descriptor in document 01's numbers, as include/cap.h has them: the answer, 0, 1 or 2; and with 0 its parts, places and numbers.
 #[repr(C)]
 pub struct DescriptorNumbers {

@@ -4,7 +4,7 @@ mod core;
 
 use descriptor::GrantRead;
 ghost use mathlib.Core.Path.{_≡_};
-ghost use Rattle.descriptor_spec.specs.Code.{grantRead};
+ghost use Rattle.descriptor.specs.Code.{grantRead};
 ghost use Rattle.descriptor_spec.specs.Reader.{grantAt};
 ghost use Rattle.grant_reader.specs.Code.{startOf, placeAfter, nthOf};
 

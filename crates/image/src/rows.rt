@@ -29,9 +29,8 @@ ghost use lib.Dec.{eqb};
 ghost use Rattle.octets.specs.Number.{numberAt};
 ghost use Rattle.descriptor_spec.specs.Allowed.{idSize};
 ghost use Rattle.image_spec.specs.Layout.{headerSize, rowSize, mostRows, rowPlace, LayoutOk};
-ghost use Rattle.image_spec.specs.Check.{headerFits, idAmong, rowFits, rowAt, heldWith, rowsFrom, checkAnswer};
+ghost use Rattle.image_spec.specs.Check.{headerFits, idAmong, rowFits, rowAt, heldWith, rowsFrom, checkAnswer, checkOf, heldAt, findOf};
 ghost use Rattle.image.specs.Code.{rowRead};
-ghost use Rattle.image_spec.specs.Check.{checkOf, heldAt, findOf};
 
 // What was read of a row's body, and the place after it.
 pub(crate) enum RowRead {

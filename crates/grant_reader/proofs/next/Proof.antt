@@ -46,11 +46,11 @@ use denote.Triple.Table.{entered, cited}
 use denote.Triple.Walked.{says, Stays, stay-none, walkOf, goes-none, Walks, ends-at, walked, walk-meets}
 use denote.Exit.{yes}
 use denote.Triple.Clauses.{ensured, lasts}
-use Rattle.descriptor_spec.specs.declared.GrantRead.{GrantRead}
-use Rattle.descriptor_spec.specs.Code.{grantRead}
+use Rattle.descriptor.specs.declared.GrantRead.{GrantRead}
+use Rattle.descriptor.specs.Code.{grantRead}
 use Rattle.descriptor_spec.specs.Reader.{grantAt}
-use Rattle.descriptor_spec.proofs.GrantRead as G
-use Rattle.descriptor_spec.proofs.GrantRead.Laws as G′
+use Rattle.descriptor.proofs.GrantRead as G
+use Rattle.descriptor.proofs.GrantRead.Laws as G′
 use Rattle.grant_reader.specs.declared.GrantReader.{GrantReader}
 use Rattle.grant_reader.proofs.GrantReader as R
 use Rattle.grant_reader.proofs.GrantReader.Laws as R′

@@ -1,7 +1,7 @@
 -- `of_grant` meets its contract. Assumes nothing.
 use mathlib.Core.Path.{sym, ap}
-use Rattle.descriptor_spec.specs.declared.GrantRead.{GrantRead}
-use Rattle.descriptor_spec.specs.Code.{grantRead}
+use Rattle.descriptor.specs.declared.GrantRead.{GrantRead}
+use Rattle.descriptor.specs.Code.{grantRead}
 use Rattle.descriptor_spec.specs.declared.GrantNumbers.{GrantNumbers}
 use Rattle.descriptor_spec.specs.Numbers.{grantNumbers}
 use borrow.Author.Needs.{needs}

@@ -10,8 +10,7 @@ use Rattle.entries_spec.specs.Keys.{kGrants}
 use Rattle.entries_spec.specs.Value.{countAt, keyedAt}
 use Rattle.entries.specs.Code.{countRead}
 use Rattle.entries_spec.proofs.ValueBounds.{count-room}
-use Rattle.descriptor_spec.specs.Code.{grantRead}
-use Rattle.descriptor.specs.Code.{sumOf, sumRead}
+use Rattle.descriptor.specs.Code.{grantRead, sumOf, sumRead}
 use Rattle.descriptor_spec.specs.Reader.{grantsAt}
 use Rattle.descriptor.proofs.RoomCode.{grant-room, more-room}
 use Rattle.descriptor.proofs.GrantCode.{grantsFrom, grants-begin, grants-next, grants-stop, grants-done}

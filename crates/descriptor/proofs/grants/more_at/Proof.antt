@@ -2,7 +2,7 @@
 use mathlib.Core.Path.{refl, sym, ap, _∙_}
 use native.Mathlib.Omega.{arith}
 use Rattle.exact.proofs.ReadsLaws.{took, stopped, flag-yes, flag-no}
-use Rattle.descriptor_spec.specs.Code.{grantRead}
+use Rattle.descriptor.specs.Code.{grantRead}
 use Rattle.descriptor_spec.specs.Reader.{moreAt}
 use Rattle.descriptor.proofs.RoomCode.{grant-room}
 use borrow.Author.Needs.{needs}

@@ -3,7 +3,7 @@ use mathlib.Core.Path.{_≡_, sym, ap, _∙_}
 use borrow.Author.Needs.{needs}
 use Rattle.grant_reader.proofs.core.nth.Statement.{statement}
 use Rattle.grant_reader.proofs.core.nth.Tie as tie
-use Rattle.descriptor_spec.specs.Code.{grantRead}
+use Rattle.descriptor.specs.Code.{grantRead}
 use Rattle.descriptor_spec.specs.Reader.{grantAt}
 use Rattle.grant_reader.specs.Code.{placeFrom, nthOf}
 use Rattle.grant_reader.proofs.WalkLaws.{nth-from, from-here, from-step, refused-stays}

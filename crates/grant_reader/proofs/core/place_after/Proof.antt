@@ -3,7 +3,7 @@ use mathlib.Core.Path.{sym, ap, _∙_}
 use borrow.Author.Needs.{needs}
 use Rattle.grant_reader.proofs.core.place_after.Statement.{statement}
 use Rattle.grant_reader.proofs.core.place_after.Tie as tie
-use Rattle.descriptor_spec.specs.Code.{grantRead}
+use Rattle.descriptor.specs.Code.{grantRead}
 use Rattle.grant_reader.proofs.WalkLaws.{after-got, after-none}
 
 returns : tie.Need-returns

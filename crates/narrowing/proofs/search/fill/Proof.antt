@@ -6,7 +6,7 @@ use native.Mathlib.Omega.{arith}
 use lib.ListN.{length}
 use borrow.Author.Needs.{needs}
 use Rattle.resource_spec.specs.Identifier.{levelsPlace}
-use Rattle.descriptor_spec.specs.Code.{grantRead}
+use Rattle.descriptor.specs.Code.{grantRead}
 use Rattle.descriptor_spec.proofs.Laws.{pattern-room}
 use Rattle.narrowing.proofs.TableLaws.{Begun, written-length, second-room, third-room, begun-first, begun-next, begun-stop}
 use Rattle.narrowing.proofs.TableLaws.{begun-done}

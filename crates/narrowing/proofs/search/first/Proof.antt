@@ -4,8 +4,8 @@ use Prim.Native.Nat.{ℕ, _+_, _-_, _≤_}
 use native.Mathlib.Omega.{arith}
 use lib.ListN.{length}
 use Rattle.resource_spec.specs.Identifier.{levelsPlace}
-use Rattle.descriptor_spec.specs.declared.GrantRead.the-variants.{IsGrant}
-use Rattle.descriptor_spec.specs.Code.{grantRead}
+use Rattle.descriptor.specs.declared.GrantRead.the-variants.{IsGrant}
+use Rattle.descriptor.specs.Code.{grantRead}
 use Rattle.descriptor_spec.specs.Reader.{grantAt}
 use Rattle.descriptor_spec.proofs.Laws.{pattern-room}
 use Rattle.narrowing.specs.Code.{Filled, firstIn}

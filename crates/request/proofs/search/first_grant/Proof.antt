@@ -13,8 +13,8 @@ use Rattle.resource_spec.specs.Text.{levelsMatch}
 use Rattle.octets.proofs.PartLaws.{part-shorter}
 use Rattle.resource.specs.Laws.{Goes, Stepped}
 use Rattle.resource.proofs.Laws.{step-decides, deep-matches, next-same}
-use Rattle.descriptor_spec.specs.declared.GrantRead.the-variants.{IsGrant}
-use Rattle.descriptor_spec.specs.Code.{grantRead}
+use Rattle.descriptor.specs.declared.GrantRead.the-variants.{IsGrant}
+use Rattle.descriptor.specs.Code.{grantRead}
 use Rattle.descriptor_spec.specs.Reader.{grantAt}
 use Rattle.descriptor_spec.proofs.Laws.{pattern-room}
 use Rattle.request_spec.specs.declared.Matched.the-variants.{IsAt}

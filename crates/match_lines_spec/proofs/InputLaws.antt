@@ -10,7 +10,8 @@ use borrow.Author.Tests.{ne-eqb, lt-ltb, le-ltb}
 use Rattle.octets.specs.Write.{over}
 use Rattle.match_lines_spec.specs.Lines.{verdictLine, verdict, lastLine, answersFrom}
 use Rattle.match_lines_spec.specs.Block.{progressOf, outputOf, bufferOf, endProgress, endOutput}
-use Rattle.match_lines_spec.specs.Promises.{NoNewline, EachLine, LastLine, BlockWritten, BlockKept, BlockRefused, EndWritten, EndRefused}
+use Rattle.match_lines_spec.specs.Promises.{NoNewline, EachLine, LastLine, BlockWritten, BlockKept}
+use Rattle.match_lines_spec.specs.Promises.{BlockRefused, EndWritten, EndRefused}
 use Rattle.match_lines_spec.proofs.BlockLaws.{answers-newline, answers-byte, begun-end}
 
 -- ---- the lines of an input

@@ -57,7 +57,8 @@ add-if-counts c =
 add-if-counts-2 : tie.Need-add-if-counts-2
 add-if-counts-2 c =
     let p = c .before in
-    let h = p .before .before .before .before .before .before .before .before .before .before .before .before .before .before .before .before .before .before in
+    let m = p .before .before .before .before .before .before .before .before .before in
+    let h = m .before .before .before .before .before .before .before .before .before in
     omega (
       arith,
       h .good .0,

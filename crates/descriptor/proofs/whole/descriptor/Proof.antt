@@ -43,9 +43,10 @@ fits k = let r = payload-room _ _ (payload k) in (r .0, r .1 .lasts)
 
 -- the descriptor that was read
 signed : (g : tie.After-signature)
-    → let k = g .before .before .before .before .before .before .before .payload .given .0 in
+    → let p = g .before .before .before .before .before .before .before in
+    let k = p .payload .given .0 in
     got (seenOf (k .0) (k .1 .0 - 9) (g .signature .given .0 .0)) (g .signature .given .0 .1 .0)
-    ≡ descriptorAt (g .before .before .before .before .before .before .before .before .before .before .before .before .before .before .before .args .s .now) 0
+    ≡ descriptorAt (p .before .before .before .before .before .before .before .before .args .s .now) 0
 unfolding descriptorAt beforePayload beforeKeyId kPayload kVersion kSignature kKeyId
 signed g =
     let f = g .before .before .before in

@@ -15,7 +15,9 @@ well-fay : (e : tie.Else4)
 well-fay e = sym (e .before .is-fay .ensures) ∙ not-false _ (e .if4 .left)
 
 well-terminal : (e : tie.Else5)
-    → isTerminal (e .before .before .before .before .before .before .before .before .before .before .before .before .before .args .terminal .now) ≡ true
+    → isTerminal
+    (e .before .before .before .before .before .before .before .before .before .before .before .before .before .args .terminal .now)
+    ≡ true
 well-terminal e = sym (e .before .is-terminal .ensures) ∙ not-false _ (e .if5 .left)
 
 returns : tie.Need-returns

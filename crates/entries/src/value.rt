@@ -6,7 +6,7 @@ pub use entries_spec::Optional;
 use octets::has_at;
 ghost use mathlib.Core.Path.{_≡_};
 ghost use mathlib.Core.Bool.{_&&_};
-ghost use Prim.Native.Nat.{_≤_};
+ghost use Prim.Native.Nat.{_≤_, _<_};
 ghost use lib.ListN.{length};
 ghost use Rattle.cbor_item_spec.specs.Utf8.{isUtf8};
 ghost use Rattle.cbor_item_spec.specs.Head.{spanRead};
@@ -36,10 +36,31 @@ pub enum OptionalRead {
     NoOptional,
 }
 
+// A number from lo to hi, which is below 24, under a head of the major type: the head is one byte.
+fn small_count_at(s: &[u8], at: usize, major: u8, lo: u64, hi: u64) -> CountRead
+    requires { ⌜ hi < 24 ⌝ }
+    ensures { λ r. ⌜ countRead r ≡ countAt (now (s .entry)) at major lo hi ⌝ }
+{
+    if s.len() <= at {
+        return CountRead::NoCount;
+    }
+    let number = (s[at] % 32) as u64;
+    if (s[at] / 32 == major) & ((lo <= number) & (number <= hi)) {
+        return CountRead::IsCount {
+            value: number,
+            next: at + 1,
+        };
+    }
+    CountRead::NoCount
+}
+
 // A number from lo to hi under a head of the major type.
 pub fn count_at(s: &[u8], at: usize, major: u8, lo: u64, hi: u64) -> CountRead
     ensures { λ r. ⌜ countRead r ≡ countAt (now (s .entry)) at major lo hi ⌝ }
 {
+    if hi < 24 {
+        return small_count_at(s, at, major, lo, hi);
+    }
     let HeadRead::IsHead {
         major: kind,
         number,

@@ -1,18 +1,17 @@
 -- Laws of bytes at a place (specs/Bytes.antt). Assumes nothing.
 use mathlib.Core.Path.{_≡_, refl, sym, ap, ap₂, _∙_, subst}
 use mathlib.Core.Logic.{_≢_, ⊎-elim}
-use mathlib.Core.Bool.{Bool, true, false, not, _&&_}
+use mathlib.Core.Bool.{Bool, true, false, not}
 use mathlib.Core.List.{List, [], _∷_, _++_}
-use Prim.Native.Nat.{ℕ, suc, _+_, _-_, _≤_, _<_}
-use native.Mathlib.Nat.{add-zero}
-use native.Mathlib.Numerals.{add-one}
+use Prim.Native.Nat.{ℕ, _+_, _-_, _≤_, _<_}
 use native.Mathlib.Omega.{arith}
-use lib.ListN.{length, take, drop, getD, length-append, length-take, length-drop, drop-of-length-le}
+use lib.ListN.{length, take, drop, getD, length-append, length-take, length-drop}
 use lib.Seq.{take-add, drop-drop, take-at, drop-at, take-length, take-all, take-take, drop-cons}
 use lib.Dec.{T, eqb, eqb→eq, eqb-refl}
 use mir.Syntax.{w8}
 use mir.Val.{Fits}
-use mir.Facts.{and-yes, yes-and, or-yes, eqb-no, yes-eqb, no-eqb}
+use mir.Facts.{and-yes, yes-and, or-yes, eqb-no}
+use borrow.Author.Tests.{ne-eqb}
 use Rattle.octets.specs.Bytes.{AreBytes, part, Has, same, hasAt, clash}
 
 -- what is known of a lent slice: its elements are bytes
@@ -140,24 +139,13 @@ pub yes-hasAt : (s : List ℕ) (at : ℕ) (k : List ℕ) → Has s at k → T (h
 unfolding hasAt Has
 yes-hasAt s at k h = rw h (same-refl k)
 
--- for a loop that has compared i bytes: the next, none left, and too few
-pub hasAt-next : (s : List ℕ) (at : ℕ) (k : List ℕ) (i : ℕ) → i < length k → at + i < length s
-    → hasAt s (at + i) (drop i k) ≡ (eqb (getD s (at + i) 0) (getD k i 0) && hasAt s (at + (i + 1)) (drop (i + 1) k))
-unfolding hasAt part same
-hasAt-next s at k i hk hs =
-    let a : drop i k ≡ getD k i 0 ∷ drop (i + 1) k = rw (add-one i) (drop-cons k i 0 hk) in
-    let e : at + (i + 1) ≡ suc (at + i) = omega arith in
-    let b : drop (at + i) s ≡ getD s (at + i) 0 ∷ drop (at + (i + 1)) s = rw e (drop-cons s (at + i) 0 hs) in
-    ap₂ (λ (x y : List ℕ). same (take (length x) y) x) a b
-
-pub hasAt-done : (s : List ℕ) (at : ℕ) (k : List ℕ) (i : ℕ) → length k ≤ i → hasAt s (at + i) (drop i k) ≡ true
-unfolding hasAt part same
-hasAt-done s at k i h = ap (λ (x : List ℕ). same (take (length x) (drop (at + i) s)) x) (drop-of-length-le k h)
-
 -- no bytes stand at any place
 pub hasAt-none : (s : List ℕ) (at : ℕ) (k : List ℕ) → length k ≡ 0 → hasAt s at k ≡ true
-hasAt-none s at k e = ap (λ (p : ℕ). hasAt s p k) (sym (add-zero at)) ∙ hasAt-done s at k 0 (omega arith)
+unfolding hasAt part same
+hasAt-none s at [] e = refl
+hasAt-none s at (x ∷ k) e = absurd (omega arith)
 
+-- bytes do not stand where s ends before them
 pub hasAt-short : (s : List ℕ) (at : ℕ) (k : List ℕ) → 0 < length k → length s < at + length k → hasAt s at k ≡ false
 hasAt-short s at k pos h =
     elim (hasAt s at k) as (λ b. (T b → Has s at k) → b ≡ false) [
@@ -165,24 +153,11 @@ hasAt-short s at k pos h =
       | true ↦ λ f. absurd (omega (arith, has-fits s at k pos (f tt)))
     ] (hasAt-yes s at k)
 
-pub hasAt-begin : (s : List ℕ) (at : ℕ) (k : List ℕ) → hasAt s (at + 0) (drop 0 k) ≡ hasAt s at k
-hasAt-begin s at k = ap (λ (p : ℕ). hasAt s p k) (add-zero at)
-
-pub hasAt-alike : (s : List ℕ) (at : ℕ) (k : List ℕ) (i : ℕ) → i < length k → at + i < length s → getD s (at + i) 0 ≡ getD k i 0
-    → hasAt s (at + (i + 1)) (drop (i + 1) k) ≡ hasAt s (at + i) (drop i k)
-hasAt-alike s at k i hk hs e = sym (hasAt-next s at k i hk hs ∙ go (eqb (getD s (at + i) 0) (getD k i 0)) (yes-eqb e))
-  where
-    go : (b : Bool) → T b → (b && hasAt s (at + (i + 1)) (drop (i + 1) k)) ≡ hasAt s (at + (i + 1)) (drop (i + 1) k)
-    go true t = refl
-    go false t = absurd t
-
-pub hasAt-differs : (s : List ℕ) (at : ℕ) (k : List ℕ) (i : ℕ) → i < length k → at + i < length s → getD s (at + i) 0 ≢ getD k i 0
-    → false ≡ hasAt s (at + i) (drop i k)
-hasAt-differs s at k i hk hs e = sym (hasAt-next s at k i hk hs ∙ go (eqb (getD s (at + i) 0) (getD k i 0)) (no-eqb e))
-  where
-    go : (b : Bool) → T (not b) → (b && hasAt s (at + (i + 1)) (drop (i + 1) k)) ≡ false
-    go true t = absurd t
-    go false t = refl
+-- nor where the first of them does not
+pub hasAt-differs : (s : List ℕ) (at : ℕ) (k : List ℕ) → 0 < length k → at < length s → getD s at 0 ≢ getD k 0 0 → hasAt s at k ≡ false
+unfolding hasAt part same
+hasAt-differs s at [] hk hs e = absurd (omega arith)
+hasAt-differs s at (x ∷ k) hk hs e = rw (drop-cons s at 0 hs, ne-eqb (getD s at 0) x e)
 
 clash-take : (l a b : List ℕ) → T (clash a b) → take (length a) l ≡ a → take (length b) l ≡ b → ⊥
 unfolding clash

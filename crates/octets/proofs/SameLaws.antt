@@ -6,10 +6,10 @@ use Prim.Native.Nat.{ℕ, zero, suc, _+_, _-_, _≤_, _<_}
 use native.Mathlib.Omega.{arith}
 use native.Mathlib.Numerals.{add-one}
 use lib.Dec.{T, leb, eqb}
-use lib.ListN.{length, getD, take}
-use lib.Seq.{take-length, take-all}
+use lib.ListN.{length, getD, take, drop, length-drop}
+use lib.Seq.{take-length, take-all, getD-drop}
 use borrow.Author.Tests.{eq-eqb, ne-eqb, le-leb, lt-leb}
-use Rattle.octets.specs.Bytes.{same}
+use Rattle.octets.specs.Bytes.{part, same, hasAt}
 use Rattle.octets.proofs.BytesLaws.{same-eq, same-refl, T-of}
 
 -- ---- what the test says
@@ -110,6 +110,19 @@ module _ (a b : List ℕ) (i : ℕ) (pos : 0 < i) (ha : i ≤ length a) (hb : i 
 pub same-end : (a b : List ℕ) (i : ℕ) → i ≡ 0 → same (take i a) (take i b) ≡ true
 unfolding same
 same-end a b i e = ap (λ (k : ℕ). same (take k a) (take k b)) e
+
+-- ---- a loop that compares the bytes at a place
+
+-- the first i + 1 bytes at a place are those of k where the first i are and the next is
+pub same-at-last : (s : List ℕ) (at : ℕ) (k : List ℕ) (i : ℕ) → at + i < length s → i < length k
+    → same (part s at (i + 1)) (take (i + 1) k) ≡ (same (part s at i) (take i k) && eqb (getD s (at + i) 0) (getD k i 0))
+unfolding part
+same-at-last s at k i hs hk = rw (← getD-drop at s i 0) (same-last (drop at s) k i (omega (arith, length-drop at s)) hk)
+
+-- all bytes of k were compared
+pub same-at-all : (s : List ℕ) (at : ℕ) (k : List ℕ) (i : ℕ) → i ≡ length k → same (part s at i) (take i k) ≡ hasAt s at k
+unfolding hasAt
+same-at-all s at k i e = rw (e, take-length k)
 
 -- ---- whether both begin with the same n bytes
 

@@ -3,7 +3,8 @@ ghost use mathlib.Core.Path.{_≡_};
 ghost use Rattle.octets.specs.Bytes.{hasAt};
 ghost use Rattle.octets.specs.Order.{before as beforeOf};
 
-// Whether the bytes of s at `at` begin with k.
+// Whether the bytes of s at `at` begin with k. The first byte is looked at alone, since most texts that are not k differ there; then
+// all are compared with no way out before the last, so that many are compared at once.
 pub(crate) fn has_at(s: &[u8], at: usize, k: &[u8]) -> bool
     ensures { λ r. ⌜ r ≡ hasAt (now (s .entry)) at (now (k .entry)) ⌝ }
 {
@@ -16,14 +17,16 @@ pub(crate) fn has_at(s: &[u8], at: usize, k: &[u8]) -> bool
     if s.len() - k.len() < at {
         return false;
     }
+    if s[at] != k[0] {
+        return false;
+    }
+    let mut ok = true;
     let mut i = 0;
     while i < k.len() {
-        if s[at + i] != k[i] {
-            return false;
-        }
+        ok = ok & (s[at + i] == k[i]);
         i += 1;
     }
-    true
+    ok
 }
 
 // Whether x stands before y in bytewise order.

@@ -126,12 +126,11 @@ none-some = some-levels (λ q. coverRange done q ≡ range 0 0) refl (λ q. refl
 some-none : (l : List ℕ) (ls : List (List ℕ)) → coverRange (levelsOf (l ∷ ls)) done ≡ range 0 0
 some-none = some-levels (λ q. coverRange q done ≡ range 0 0) refl (λ q. refl) (λ n q. refl)
 
--- the levels after the first decide, and there are fewer of them
+-- both have levels after the first, and those decide
 pub record Goes (q p : List ℕ) (i j : ℕ) : Type 0 where
   pub in-q : i < length q
   pub in-p : j < length p
   pub decides : textRange q p ≡ textRange (drop (i + 1) q) (drop (j + 1) p)
-  pub fewer : length (levels (drop (i + 1) q)) < length (levels q)
 
 -- what is told of two texts that are not "**" by the step of their first levels
 abbrev pub Stepped : List ℕ → List ℕ → LevelStep → Type 0
@@ -168,22 +167,16 @@ cover-says q p (Next i j) f d c =
       in-q = f .0;
       in-p = f .1;
       decides = first-cover q p (levels (drop (i + 1) q)) (levels (drop (j + 1) p)) true (f .2) d c;
-      fewer = omega (arith, ap length (f .2 .of-p));
     }
 
 -- it holds of each two texts
 pub step-decides : (q p : List ℕ) → isDeep q ≡ false → isDeep p ≡ false → Stepped q p (stepOf q p)
 step-decides q p d c = cover-says q p (stepOf q p) (step-levels q p) d c
 
--- the levels after the first, as the code hands them on
-module _ (q p : List ℕ) (i j : ℕ) (g : Goes q p i j) where
-  -- there are fewer of them
-  pub next-fewer : length (levels (take (length q - (i + 1)) (drop (i + 1) q))) < length (levels q)
-  next-fewer = rw (part-to-end q (i + 1)) (g .fewer)
-
-  -- they decide
-  pub next-same : textRange (take (length q - (i + 1)) (drop (i + 1) q)) (take (length p - (j + 1)) (drop (j + 1) p)) ≡ textRange q p
-  next-same = rw (part-to-end q (i + 1), part-to-end p (j + 1)) (sym (g .decides))
+-- the levels after the first, as slices that go to the end, decide
+pub next-same : (q p : List ℕ) (i j : ℕ) → Goes q p i j
+    → textRange q p ≡ textRange (take (length q - (i + 1)) (drop (i + 1) q)) (take (length p - (j + 1)) (drop (j + 1) p))
+next-same q p i j g = rw (part-to-end q (i + 1), part-to-end p (j + 1)) (g .decides)
 
 -- "**" covers whatever is left
 some-cover : (l : List ℕ) (ls : List (List ℕ)) → coverRange deep (levelsOf (l ∷ ls)) ≡ range 0 most

@@ -2,7 +2,6 @@
 use resource::LevelStep;
 use resource::is_deep;
 ghost use mathlib.Core.Path.{_≡_};
-ghost use Prim.Native.Nat.{_<_};
 ghost use Rattle.resource_spec.specs.Level.{levels};
 ghost use Rattle.resource_spec.specs.Text.{levelsOf};
 ghost use Rattle.narrowing.specs.Range.{freshRange, textRange, marked};
@@ -43,20 +42,27 @@ fn fresh(q: &[u8]) -> Range
     }
 }
 
-// With how many names for the "**" of p q covers p.
+// With how many names for the "**" of p q covers p. Each turn of the loop compares the first levels of what is left of both.
 pub(crate) fn cover(q: &[u8], p: &[u8]) -> Range
     ensures { λ r. ⌜ r ≡ textRange (now (q .entry)) (now (p .entry)) ⌝ }
 {
-    if is_deep(q) {
-        return Range { lo: 0, hi: 128 };
-    }
-    if is_deep(p) {
-        return fresh(q);
-    }
-    match resource::step_levels(q, p) {
-        LevelStep::Differ => Range { lo: 0, hi: 0 },
-        LevelStep::Finish => Range { lo: 0, hi: 1 },
-        LevelStep::Next { p: i, r: j } => cover(&q[i + 1..], &p[j + 1..]),
+    let mut rest_q = q;
+    let mut rest_p = p;
+    loop {
+        if is_deep(rest_q) {
+            return Range { lo: 0, hi: 128 };
+        }
+        if is_deep(rest_p) {
+            return fresh(rest_q);
+        }
+        match resource::step_levels(rest_q, rest_p) {
+            LevelStep::Differ => return Range { lo: 0, hi: 0 },
+            LevelStep::Finish => return Range { lo: 0, hi: 1 },
+            LevelStep::Next { p: i, r: j } => {
+                rest_q = &rest_q[i + 1..];
+                rest_p = &rest_p[j + 1..];
+            }
+        }
     }
 }
 

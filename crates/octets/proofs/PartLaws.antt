@@ -19,6 +19,10 @@ part-to-end s a = take-all (length s - a) (drop a s) (omega (arith, length-drop 
 pub part-shorter : (s : List ℕ) (n : ℕ) → n < length s → length (take (length s - (n + 1)) (drop (n + 1) s)) < length s
 part-shorter s n h = rw (part-to-end s (n + 1), length-drop (n + 1) s) (omega arith)
 
+-- a part to the end is no longer than the whole may be
+pub part-no-longer : (s : List ℕ) (a n : ℕ) → length s ≤ n → length (take (length s - a) (drop a s)) ≤ n
+part-no-longer s a n h = rw (part-to-end s a, length-drop a s) (omega arith)
+
 -- the first n elements without the first m are the first n - m of those after the first m
 pub drop-take : (m n : ℕ) (l : List ℕ) → drop m (take n l) ≡ take (n - m) (drop m l)
 drop-take zero n l = rw (sub-zero n)

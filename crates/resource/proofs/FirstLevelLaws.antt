@@ -8,7 +8,7 @@ use native.Mathlib.Nat.{add-zero, zero-add}
 use native.Mathlib.Numerals.{add-one}
 use native.Mathlib.Omega.{arith}
 use lib.ListN.{length, getD, drop, take, length-append, drop-of-length-le}
-use lib.Seq.{drop-cons}
+use lib.Seq.{drop-cons, drop-append-add}
 use lib.Dec.{eqb}
 use borrow.Author.Tests.{eq-eqb, ne-eqb}
 use Rattle.resource.specs.declared.LevelStep.{LevelStep}
@@ -19,14 +19,13 @@ use Rattle.resource_spec.specs.Level.{isStar, isDeep, levels}
 use Rattle.resource_spec.specs.Pattern.{Levels, done, deep, matches}
 use Rattle.resource_spec.specs.Text.{withLevel, levelsOf, levelsMatch}
 use Rattle.resource.specs.Code.{levelLength, nameStep, starFirst, starStep, stepOf}
-use Rattle.resource.specs.Laws.{alike, Firsts, FirstLevels, Goes, Stepped, StepLevels, FirstStar, StepDecides, DeepMatches}
+use Rattle.resource.specs.Laws.{alike, Firsts, FirstLevels, Goes, Stepped, StepLevels, FirstStar, StepDecides, DeepMatches, NextSame}
 use Rattle.octets.proofs.Tests.{by-cond, no-flag}
 use Rattle.octets.proofs.SameLaws.{same-equal}
 use Rattle.octets.proofs.PartLaws.{part-to-end}
 use Rattle.octets.proofs.ScanLaws.{before-other, without-first, without-rest}
 use Rattle.resource_spec.specs.Laws.{Parted, last, more}
 use Rattle.resource_spec.proofs.Laws.{each-parted, levels-one, levels-more, levels-some, spelled-first}
-use Rattle.resource.proofs.ScanCode.{drop-more}
 
 -- ---- a name against a name, by its first bytes
 
@@ -254,6 +253,10 @@ front-step l k {a} {b} h g e f = rw (front-star l h e, front-length k g f) (go (
 
 -- ---- what the step says of the levels
 
+-- what is after the first level and its "/"
+drop-more : (l t : List ℕ) → drop (length l + 1) (l ++ (47 ∷ t)) ≡ t
+drop-more l t = drop-append-add l (47 ∷ t) 1
+
 -- the first levels, and those after them
 front-firsts : (l k : List ℕ) {a b : List ℕ} (t : Bool) → without 47 l ≡ true → without 47 k ≡ true → Ends a → Ends b
     → (isStar l || same l k) ≡ t
@@ -351,15 +354,9 @@ match-says p r (Next i j) f d =
 pub step-tells : StepDecides
 step-tells p r d = match-says p r (stepOf p r) (first-levels p r) d
 
--- the levels after the first, as the code hands them on
-module _ (p r : List ℕ) (i j : ℕ) (g : Goes p r i j) where
-  -- there are fewer of them
-  pub next-fewer : length (levels (take (length p - (i + 1)) (drop (i + 1) p))) < length (levels p)
-  next-fewer = rw (part-to-end p (i + 1)) (g .fewer)
-
-  -- they decide
-  pub next-decides : levelsMatch (take (length p - (i + 1)) (drop (i + 1) p)) (take (length r - (j + 1)) (drop (j + 1) r)) ≡ levelsMatch p r
-  next-decides = rw (part-to-end p (i + 1), part-to-end r (j + 1)) (sym (g .decides))
+-- the levels after the first, as slices that go to the end, decide
+pub next-decides : NextSame
+next-decides p r i j g = rw (part-to-end p (i + 1), part-to-end r (j + 1)) (sym (g .decides))
 
 -- "**" matches whatever is left
 pub deep-tells : DeepMatches

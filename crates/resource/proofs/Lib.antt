@@ -1,5 +1,6 @@
 pub mod FormCode
-pub mod ScanCode
+pub mod FollowCode
 pub mod TextCode
 pub mod FirstLevelLaws
+pub mod UpToCode
 pub mod Laws

@@ -9,9 +9,16 @@ use lib.ListN.{length, take, drop}
 use Rattle.octets.specs.Bytes.{same}
 use Rattle.resource.specs.declared.LevelStep.{LevelStep}
 use Rattle.resource.specs.declared.LevelStep.the-variants.{Differ, Finish, Next}
+use Rattle.resource_spec.specs.Identifier.{isTerminal, terminalSize}
 use Rattle.resource_spec.specs.Level.{isStar, isDeep, levels}
-use Rattle.resource_spec.specs.Text.{levelsMatch}
-use Rattle.resource.specs.Code.{starFirst, stepOf}
+use Rattle.resource_spec.specs.Text.{patternOk, levelsMatch}
+use Rattle.resource.specs.Code.{patternUnder, starFirst, stepOf}
+
+-- ---- a pattern under a terminal id
+
+-- where t is a terminal id, what is told of s is whether s is a pattern that may enter and begins with t
+abbrev pub PatternUnder : Type 0
+PatternUnder = (t s : List ℕ) → isTerminal t ≡ true → patternUnder t s ≡ (patternOk s && same (take terminalSize s) t)
 
 -- ---- the first level of a text
 

@@ -9,7 +9,7 @@ ghost use mathlib.Core.Path.{_≡_};
 ghost use Rattle.resource_spec.specs.Identifier.{isFay, isTerminal};
 ghost use Rattle.resource_spec.specs.Level.{isDeep};
 ghost use Rattle.resource_spec.specs.Text.{resourceOk, patternOk, matching};
-ghost use Rattle.resource.specs.Code.{stepOf};
+ghost use Rattle.resource.specs.Code.{patternUnder, stepOf};
 
 // The first levels of a pattern and of a path: they do not match; they match and are the last; or they match, and "/" follows the
 // p bytes of the one and the r bytes of the other.
@@ -45,6 +45,14 @@ pub fn is_pattern(s: &[u8]) -> bool
     ensures { λ r. ⌜ r ≡ patternOk (now (s .entry)) ⌝ }
 {
     levels::pattern(s)
+}
+
+// Whether s begins with the first 45 bytes of t, and "/" and well-formed levels follow, in at most 256 bytes. Where those bytes of t are a
+// terminal id, this is whether s is a pattern that begins with it; the id is not looked at again.
+pub fn is_pattern_under(s: &[u8], t: &[u8]) -> bool
+    ensures { λ r. ⌜ r ≡ patternUnder (now (t .entry)) (now (s .entry)) ⌝ }
+{
+    levels::pattern_under(s, t)
 }
 
 // Whether p is "**".

@@ -1,14 +1,21 @@
 // Matching a pattern against a path, level by level from the left.
 use crate::LevelStep;
 use crate::Matching;
+use crate::levels::LONGEST;
+use crate::levels::below;
 use crate::levels::pattern;
 use crate::levels::resource;
 use resource_spec::sizes::LEVELS_PLACE;
 use resource_spec::sizes::TERMINAL_SIZE;
 ghost use mathlib.Core.Path.{_≡_};
+ghost use mathlib.Core.Bool.{cond};
+ghost use Prim.Native.Nat.{_≤_};
+ghost use lib.ListN.{length};
+ghost use Rattle.resource_spec.specs.declared.Matching.the-variants.{No, Malformed};
 ghost use Rattle.resource_spec.specs.Level.{isDeep};
-ghost use Rattle.resource_spec.specs.Text.{levelsMatch, matching};
-ghost use Rattle.resource.specs.Code.{levelLength, nameStep, starFirst, starStep, stepOf};
+ghost use Rattle.resource_spec.specs.Text.{longestText, resourceOk, levelsMatch, matching};
+ghost use Rattle.resource.specs.Code.{levelLength, nameStep, starFirst, starStep, stepOf, upTo};
+ghost use Rattle.resource.specs.Laws.{Stepped};
 
 // A name of p against a name of r.
 fn name_step(p: &[u8], r: &[u8]) -> LevelStep
@@ -83,32 +90,66 @@ pub(crate) fn is_deep(p: &[u8]) -> bool
     (p[0] == b'*') & (p[1] == b'*')
 }
 
-// Whether the levels p of a pattern match the levels r of a path: the first of each, and then the remaining ones.
-pub(crate) fn levels(p: &[u8], r: &[u8]) -> bool
-    ensures { λ o. ⌜ o ≡ levelsMatch (now (p .entry)) (now (r .entry)) ⌝ }
+// The first level of p from i on against the first level of r from j on; n and m are where p and r end. A "**" that is all that p has left
+// matches what r has left.
+fn step_at(p: &[u8], i: usize, n: usize, r: &[u8], j: usize, m: usize) -> LevelStep
+    requires { ⌜ (i ≤ n) × (n ≤ length (now p)) × (j ≤ m) × (m ≤ length (now r)) ⌝ }
+    ensures { λ o. ⌜ Stepped (upTo (now (p .entry)) i n) (upTo (now (r .entry)) j m) o ⌝ }
 {
-    if is_deep(p) {
-        return true;
+    if is_deep(&p[i..n]) {
+        return LevelStep::Finish;
     }
-    match first_step(p, r) {
+    first_step(&p[i..n], &r[j..m])
+}
+
+// Whether the levels of p from i on match the levels of r from j on: the first of each, and then the remaining ones. All that the call hands
+// on are two addresses and four numbers, so that the compiler makes a loop of it.
+fn levels_at(p: &[u8; LONGEST], i: usize, n: usize, r: &[u8; LONGEST], j: usize, m: usize) -> bool
+    requires { ⌜ (i ≤ n) × (n ≤ longestText) × (j ≤ m) × (m ≤ longestText) ⌝ }
+    ensures { λ o. ⌜ o ≡ levelsMatch (upTo (now (p .entry)) i n) (upTo (now (r .entry)) j m) ⌝ }
+{
+    match step_at(p, i, n, r, j, m) {
         LevelStep::Differ => false,
         LevelStep::Finish => true,
-        LevelStep::Next { p: i, r: j } => levels(&p[i + 1..], &r[j + 1..]),
+        LevelStep::Next { p: a, r: b } => levels_at(p, i + a + 1, n, r, j + b + 1, m),
     }
 }
 
-// Whether the pattern p matches the resource id r.
+// Whether the levels p of a pattern match the levels r of a path. Both are copied, since a slice is handed on by the address of its
+// pointer and length, and no call that hands one on becomes a loop.
+fn levels(p: &[u8], r: &[u8]) -> bool
+    requires { ⌜ (length (now p) ≤ longestText) × (length (now r) ≤ longestText) ⌝ }
+    ensures { λ o. ⌜ o ≡ levelsMatch (now (p .entry)) (now (r .entry)) ⌝ }
+{
+    let mut a = [0u8; LONGEST];
+    let mut b = [0u8; LONGEST];
+    octets::put(&mut a, 0, p);
+    octets::put(&mut b, 0, r);
+    levels_at(&a, 0, p.len(), &b, 0, r.len())
+}
+
+// What matching a pattern with a text of another terminal id answers.
+fn other_terminal(r: &[u8]) -> Matching
+    ensures { λ o. ⌜ o ≡ cond (resourceOk (now (r .entry))) No Malformed ⌝ }
+{
+    if resource(r) {
+        return Matching::No;
+    }
+    Matching::Malformed
+}
+
+// Whether the pattern p matches the resource id r. Where r begins with the terminal id of p, that id is not looked at a second time.
 pub(crate) fn texts(p: &[u8], r: &[u8]) -> Matching
     ensures { λ o. ⌜ o ≡ matching (now (p .entry)) (now (r .entry)) ⌝ }
 {
     if !pattern(p) {
         return Matching::Malformed;
     }
-    if !resource(r) {
-        return Matching::Malformed;
-    }
     if !octets::same_start(p, r, TERMINAL_SIZE) {
-        return Matching::No;
+        return other_terminal(r);
+    }
+    if !below(r, false) {
+        return Matching::Malformed;
     }
     if levels(&p[LEVELS_PLACE..], &r[LEVELS_PLACE..]) {
         return Matching::Yes;

@@ -1,16 +1,27 @@
 -- A reader of the promises does not need this page.
 -- What the answers of the reader of a grant and of the inner functions say, as answers of exact readers.
-use mathlib.Core.Bool.{not}
-use Prim.Native.Nat.{ℕ, _+_, _/_, _%_}
+use mathlib.Core.Bool.{Bool, not}
+use mathlib.Core.List.{List}
+use Prim.Native.Nat.{ℕ, _+_, _/_, _%_, _≤_}
+use lib.ListN.{length}
 use lib.Dec.{eqb}
-use Rattle.octets.specs.Span.{spanOf}
-use Rattle.exact.specs.Reads.{Got, got, refused, guard}
+use Rattle.octets.specs.Bytes.{part}
+use Rattle.octets.specs.Span.{Span, spanOf}
+use Rattle.exact.specs.Reads.{Got, got, refused, bind, guard}
+use Rattle.resource_spec.specs.Identifier.{terminalSize}
+use Rattle.resource_spec.specs.Text.{patternOk}
+use Rattle.resource.specs.Code.{patternUnder}
+use Rattle.entries_spec.specs.Keys.{kModes, kConstraints, kResourcePattern}
+use Rattle.entries_spec.specs.Value.{countAt, stringAt, keyedAt, flag}
+use Rattle.entries_spec.specs.Reader.{optPairsAt}
 use Rattle.entries.specs.declared.signature.SignatureFields.{SignatureFields}
 use Rattle.entries.specs.Code.{signatureOf}
-use Rattle.descriptor_spec.specs.Reader.{GrantSeen, Sum, GrantsSeen, Issue, Grantor, Ids, PayloadSeen, seenIn, Seen}
+use Rattle.descriptor_spec.specs.Reader.{modesAt, GrantSeen, Sum, GrantsSeen, Issue, Grantor, Ids, PayloadSeen, seenIn, Seen}
 use Rattle.descriptor.specs.declared.GrantFields.{GrantFields}
 use Rattle.descriptor.specs.declared.GrantRead.{GrantRead}
 use Rattle.descriptor.specs.declared.GrantRead.the-variants.{IsGrant, NoGrant}
+use Rattle.descriptor.specs.declared.grants.TerminalId.{TerminalId}
+use Rattle.descriptor.specs.declared.grants.TerminalId.the-variants.{Any, At}
 use Rattle.descriptor.specs.declared.grants.Sum as sums
 use Rattle.descriptor.specs.declared.grants.SumRead.{SumRead}
 use Rattle.descriptor.specs.declared.grants.SumRead.the-variants.{IsSum, NoSum}
@@ -37,6 +48,36 @@ unfoldable pub withMode : ℕ → ℕ → ℕ → Got ℕ
 withMode mask bit next = guard (not (eqb (mask / bit % 2) 1)) (got (mask + bit) next)
 
 -- ---- grants
+
+-- the terminal id that is asked for stands in s
+abbrev pub TerminalFits : List ℕ → TerminalId → Type 0
+TerminalFits s Any = Unit {0}
+TerminalFits s (At first) = first + terminalSize ≤ length s
+
+-- a pattern of the terminal id that is asked for; the test of one that stands in s does not look at the form of this id
+abbrev pub isPatternOf : List ℕ → TerminalId → List ℕ → Bool
+isPatternOf s Any c = patternOk c
+isPatternOf s (At first) c = patternUnder (part s first terminalSize) c
+
+-- the pattern of a grant after its key, of the terminal id that is asked for
+abbrev pub patternAt : List ℕ → TerminalId → ℕ → Got Span
+patternAt s terminal at = keyedAt s at kResourcePattern (stringAt 3 (isPatternOf s terminal) s)
+
+-- the grant at a place, whose pattern has the terminal id that is asked for
+unfoldable pub grantUnder : List ℕ → TerminalId → ℕ → Got GrantSeen
+grantUnder s terminal at =
+    bind (countAt s at 5 2 3) (λ c n.
+    bind (modesAt s n) (λ mask n₁.
+    bind (optPairsAt s n₁ kConstraints 8) (λ constraints n₂.
+    bind (patternAt s terminal n₂) (λ pattern n₃.
+    guard (eqb c (2 + flag (constraints .there)))
+    (got (record {
+      mask = mask;
+      modes = n + length kModes;
+      constraints = constraints .at;
+      pairs = constraints .size;
+      pattern = pattern;
+    }) n₃)))))
 
 -- what is seen of a grant
 abbrev pub grantOf : GrantFields → GrantSeen

@@ -1,9 +1,11 @@
 -- `grants_at` meets its contract. Assumes nothing.
 use mathlib.Core.Path.{_≡_, sym, ap, _∙_}
+use mathlib.Core.Bool.{true}
 use Prim.Native.Nat.{_+_, _*_, _≤_}
 use native.Mathlib.Omega.{arith}
 use lib.ListN.{length}
-use Rattle.resource_spec.specs.Identifier.{terminalSize}
+use Rattle.octets.specs.Bytes.{part}
+use Rattle.resource_spec.specs.Identifier.{isTerminal, terminalSize}
 use Rattle.exact.specs.Reads.{got}
 use Rattle.exact.proofs.ReadsLaws.{took, stopped}
 use Rattle.entries_spec.specs.Keys.{kGrants}
@@ -13,6 +15,7 @@ use Rattle.entries_spec.proofs.ValueBounds.{count-room}
 use Rattle.descriptor.specs.Code.{grantRead, sumOf, sumRead}
 use Rattle.descriptor_spec.specs.Reader.{grantsAt}
 use Rattle.descriptor.proofs.RoomCode.{grant-room, more-room}
+use Rattle.descriptor.proofs.UnderCode.{grant-terminal}
 use Rattle.descriptor.proofs.GrantCode.{grantsFrom, grants-begin, grants-next, grants-stop, grants-done}
 use borrow.Author.Needs.{needs}
 use Rattle.descriptor.proofs.grants.grants_at.Statement.{statement}
@@ -20,6 +23,7 @@ use Rattle.descriptor.proofs.grants.grants_at.Tie as tie
 
 abbrev Inv-loop : tie.InvT-loop
 Inv-loop s at value next start after first sum₀ left₀ here₀ sum left here = (first + terminalSize ≤ length s)
+    × (isTerminal (part s first terminalSize) ≡ true)
     × (sum .pairs + left * 8 ≤ 2048)
     × (grantsFrom s value start first left (sumOf sum) here ≡ grantsAt s at)
 
@@ -55,16 +59,16 @@ loop-holds c =
     let k = g .before .before .before .before in
     let e = sym (ap grantRead (g .fields .given .1)) ∙ g .before .before .grant-at .ensures in
     let r = grant-room _ _ e in
-    (omega (arith, r .long, r .fits), omega (arith, r .few, limits k .1), grants-begin _ _ (counted k) e)
+    (omega (arith, r .long, r .fits), grant-terminal _ _ e, omega (arith, r .few, limits k .1), grants-begin _ _ (counted k) e)
 
 more-at-requires : tie.Need-more-at-requires Inv-loop μ-loop
-more-at-requires c κs = (c .before .loop .inv .0, omega (arith, c .before .loop .inv .1))
+more-at-requires c κs = let i = c .before .loop .inv in ((i .0, i .1), omega (arith, i .2))
 
 returns-3 : tie.Need-returns-3 Inv-loop μ-loop
 returns-3 c =
     let l = c .before .before .before .before in
     grants-stop _ _ _ _ _ _ _ (c .before .before .before .loop-test .taken)
-    (sym (ap sumRead (c .enum-told3 .given .1)) ∙ c .before .before .more-at .ensures) ∙ l .loop .inv .2
+    (sym (ap sumRead (c .enum-told3 .given .1)) ∙ c .before .before .more-at .ensures) ∙ l .loop .inv .3
 
 loop-again : tie.Need-loop-again Inv-loop μ-loop
 loop-again c =
@@ -72,13 +76,14 @@ loop-again c =
     let l = m .before .before .before .before in
     let e = sym (ap sumRead (m .more .given .1)) ∙ m .before .before .more-at .ensures in (
       l .loop .inv .0,
-      omega (arith, l .loop .inv .1, more-room _ _ _ _ e .few),
+      l .loop .inv .1,
+      omega (arith, l .loop .inv .2, more-room _ _ _ _ e .few),
       grants-next _ _ _ _ _ _ _
-          (m .before .before .before .loop-test .taken) e ∙ l .loop .inv .2,
+          (m .before .before .before .loop-test .taken) e ∙ l .loop .inv .3,
     )
 
 returns-4 : tie.Need-returns-4 Inv-loop μ-loop
-returns-4 c = grants-done _ _ _ _ _ _ _ (omega arith) ∙ c .before .loop .inv .2
+returns-4 c = grants-done _ _ _ _ _ _ _ (omega arith) ∙ c .before .loop .inv .3
 
 pub grants-at-spec : {M : Type 1} → statement M
 grants-at-spec =

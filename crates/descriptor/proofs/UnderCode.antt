@@ -22,10 +22,9 @@ use Rattle.resource_spec.specs.Text.{patternOk}
 use Rattle.resource_spec.proofs.Laws.{pattern-terminal, pattern-short}
 use Rattle.resource.specs.Code.{patternUnder}
 use Rattle.resource.proofs.Laws.{pattern-under}
-use Rattle.entries_spec.specs.declared.Optional.{Optional}
 use Rattle.entries_spec.specs.Kinds.{isKind}
 use Rattle.entries_spec.specs.Keys.{kModes, kConstraints, kResourcePattern}
-use Rattle.entries_spec.specs.Value.{countAt, stringAt, kindAt, keyedAt, flag}
+use Rattle.entries_spec.specs.Value.{countAt, stringAt, kindAt, flag}
 use Rattle.entries_spec.specs.Reader.{optPairsAt}
 use Rattle.descriptor_spec.specs.Reader.{modesAt, GrantSeen, grantAt, Sum, addGrant, moreAt}
 use Rattle.descriptor_spec.specs.Laws.{GrantIn}

@@ -3,11 +3,11 @@
 use mathlib.Core.Path.{_≡_, refl, sym, ap, subst, _∙_}
 use mathlib.Core.Bool.{Bool, true, false, cond, _&&_, _||_, and-true, and-false}
 use mathlib.Core.List.{List, [], _∷_, _++_, append-nil}
-use Prim.Native.Nat.{ℕ, suc, _+_, _-_, _≤_, _<_}
+use Prim.Native.Nat.{ℕ, suc, _+_, _≤_, _<_}
 use native.Mathlib.Nat.{add-zero, zero-add}
 use native.Mathlib.Numerals.{add-one}
 use native.Mathlib.Omega.{arith}
-use lib.ListN.{length, getD, drop, take, length-append, drop-of-length-le}
+use lib.ListN.{length, getD, drop, length-append, drop-of-length-le}
 use lib.Seq.{drop-cons, drop-append-add}
 use lib.Dec.{eqb}
 use borrow.Author.Tests.{eq-eqb, ne-eqb}
@@ -19,7 +19,7 @@ use Rattle.resource_spec.specs.Level.{isStar, isDeep, levels}
 use Rattle.resource_spec.specs.Pattern.{Levels, done, deep, matches}
 use Rattle.resource_spec.specs.Text.{withLevel, levelsOf, levelsMatch}
 use Rattle.resource.specs.Code.{levelLength, nameStep, starFirst, starStep, stepOf}
-use Rattle.resource.specs.Laws.{alike, Firsts, FirstLevels, Goes, Stepped, StepLevels, FirstStar, StepDecides, DeepMatches, NextSame}
+use Rattle.resource.specs.Laws.{alike, Firsts, FirstLevels, Stepped, StepLevels, FirstStar, StepDecides, DeepMatches, NextSame}
 use Rattle.octets.proofs.Tests.{by-cond, no-flag}
 use Rattle.octets.proofs.SameLaws.{same-equal}
 use Rattle.octets.proofs.PartLaws.{part-to-end}

@@ -12,7 +12,7 @@ use borrow.Author.Tests.{leb-true, eqb-true, le-leb, eq-eqb}
 use Rattle.octets.specs.Bytes.{same}
 use Rattle.octets.proofs.PartLaws.{part-to-end}
 use Rattle.octets.proofs.SameLaws.{same-equal, start-answer}
-use Rattle.octets.proofs.Tests.{and-left, and-right, no-flag}
+use Rattle.octets.proofs.Tests.{and-left, and-right}
 use Rattle.resource_spec.specs.Identifier.{Slot, isTerminal, uuidForm, terminalForm, levelsPlace, terminalSize}
 use Rattle.resource_spec.specs.declared.Matching.the-variants.{Yes, No, Malformed}
 use Rattle.resource_spec.specs.Level.{levels, levelsOk}

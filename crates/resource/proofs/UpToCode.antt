@@ -1,7 +1,7 @@
 -- Laws of the levels between two places of a text, as `levels_at` hands them on, and of a text copied to the beginning of an array.
 -- Assumes nothing.
-use mathlib.Core.Path.{_≡_, sym, ap, subst, _∙_}
-use mathlib.Core.Bool.{Bool, true, false}
+use mathlib.Core.Path.{_≡_, sym, ap, _∙_}
+use mathlib.Core.Bool.{Bool}
 use mathlib.Core.List.{List}
 use Prim.Native.Nat.{ℕ, _+_, _-_, _≤_, _<_}
 use native.Mathlib.Omega.{arith}
@@ -11,12 +11,10 @@ use Rattle.octets.specs.Bytes.{part, Has}
 use Rattle.octets.specs.Write.{putAt}
 use Rattle.octets.proofs.PartLaws.{drop-take}
 use Rattle.octets.proofs.OverLaws.{put-fits, over-has}
-use Rattle.resource.specs.declared.LevelStep.{LevelStep}
-use Rattle.resource_spec.specs.Level.{isDeep, levels}
+use Rattle.resource_spec.specs.Level.{levels}
 use Rattle.resource_spec.specs.Text.{levelsMatch}
-use Rattle.resource.specs.Code.{stepOf, upTo}
-use Rattle.resource.specs.Laws.{Goes, Stepped}
-use Rattle.resource.proofs.FirstLevelLaws.{step-tells}
+use Rattle.resource.specs.Code.{upTo}
+use Rattle.resource.specs.Laws.{Goes}
 
 -- ---- between two places
 
@@ -30,10 +28,6 @@ drop-later s i n a =
 -- how many bytes it has
 length-up-to : (s : List ℕ) (i n : ℕ) → n ≤ length s → length (upTo s i n) ≡ n - i
 length-up-to s i n h = length-take-le (n - i) (drop i s) (omega (arith, length-drop i s))
-
--- what the step of the first levels says, where the pattern is not "**"
-pub step-says : (p r : List ℕ) {d : Bool} {o : LevelStep} → d ≡ isDeep p → d ≡ false → o ≡ stepOf p r → Stepped p r o
-step-says p r e f g = subst (Stepped p r) (sym g) (step-tells p r (sym e ∙ f))
 
 module _ (p r : List ℕ) (i n j m a b : ℕ) (h : n ≤ length p) (k : m ≤ length r) (g : Goes (upTo p i n) (upTo r j m) a b) where
   -- the "/" of p stands before its end

@@ -14,6 +14,7 @@ ghost use lib.ListN.{length};
 ghost use Rattle.resource_spec.specs.declared.Matching.the-variants.{No, Malformed};
 ghost use Rattle.resource_spec.specs.Level.{isDeep};
 ghost use Rattle.resource_spec.specs.Text.{longestText, resourceOk, levelsMatch, matching};
+ghost use Rattle.resource.specs.declared.LevelStep.the-variants.{Differ, Finish};
 ghost use Rattle.resource.specs.Code.{levelLength, nameStep, starFirst, starStep, stepOf, upTo};
 ghost use Rattle.resource.specs.Laws.{Stepped};
 
@@ -70,14 +71,26 @@ fn star_step(p: &[u8], r: &[u8]) -> LevelStep
     LevelStep::Next { p: 1, r: n }
 }
 
-// The first level of p against the first level of r.
-pub(crate) fn first_step(p: &[u8], r: &[u8]) -> LevelStep
-    ensures { λ o. ⌜ o ≡ stepOf (now (p .entry)) (now (r .entry)) ⌝ }
+// The first level of p, which is not that of r, against the first level of r.
+fn star_or_differ(p: &[u8], r: &[u8]) -> LevelStep
+    ensures { λ o. ⌜ o ≡ cond (starFirst (now (p .entry))) (starStep (now (p .entry)) (now (r .entry)) (levelLength (now (r .entry)))) Differ ⌝ }
 {
     if star_first(p) {
         return star_step(p, r);
     }
-    name_step(p, r)
+    LevelStep::Differ
+}
+
+// The first level of p against the first level of r. Equal levels are found in one pass over their bytes; only where they are not equal is it
+// looked whether the one of p is "*".
+pub(crate) fn first_step(p: &[u8], r: &[u8]) -> LevelStep
+    ensures { λ o. ⌜ o ≡ stepOf (now (p .entry)) (now (r .entry)) ⌝ }
+{
+    match name_step(p, r) {
+        LevelStep::Differ => star_or_differ(p, r),
+        LevelStep::Finish => LevelStep::Finish,
+        LevelStep::Next { p: i, r: j } => LevelStep::Next { p: i, r: j },
+    }
 }
 
 // Whether p is "**".
@@ -90,16 +103,27 @@ pub(crate) fn is_deep(p: &[u8]) -> bool
     (p[0] == b'*') & (p[1] == b'*')
 }
 
+// The levels p of a pattern, of which the first does not match.
+fn deep_or_differ(p: &[u8]) -> LevelStep
+    ensures { λ o. ⌜ o ≡ cond (isDeep (now (p .entry))) Finish Differ ⌝ }
+{
+    if is_deep(p) {
+        return LevelStep::Finish;
+    }
+    LevelStep::Differ
+}
+
 // The first level of p from i on against the first level of r from j on; n and m are where p and r end. A "**" that is all that p has left
 // matches what r has left.
 fn step_at(p: &[u8], i: usize, n: usize, r: &[u8], j: usize, m: usize) -> LevelStep
     requires { ⌜ (i ≤ n) × (n ≤ length (now p)) × (j ≤ m) × (m ≤ length (now r)) ⌝ }
     ensures { λ o. ⌜ Stepped (upTo (now (p .entry)) i n) (upTo (now (r .entry)) j m) o ⌝ }
 {
-    if is_deep(&p[i..n]) {
-        return LevelStep::Finish;
+    match first_step(&p[i..n], &r[j..m]) {
+        LevelStep::Differ => deep_or_differ(&p[i..n]),
+        LevelStep::Finish => LevelStep::Finish,
+        LevelStep::Next { p: a, r: b } => LevelStep::Next { p: a, r: b },
     }
-    first_step(&p[i..n], &r[j..m])
 }
 
 // Whether the levels of p from i on match the levels of r from j on: the first of each, and then the remaining ones. All that the call hands

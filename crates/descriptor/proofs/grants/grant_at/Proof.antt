@@ -1,6 +1,5 @@
 -- `grant_at` meets its contract. Assumes nothing.
 use mathlib.Core.Path.{_∙_}
-use borrow.Author.Needs.{needs}
 use Rattle.descriptor.proofs.UnderCode.{any-grant}
 use Rattle.descriptor.proofs.grants.grant_at.Statement.{statement}
 use Rattle.descriptor.proofs.grants.grant_at.Tie as tie

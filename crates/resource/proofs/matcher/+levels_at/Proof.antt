@@ -1,12 +1,11 @@
 -- `levels_at` meets its contract. It calls itself on the remaining levels, whose count falls. Assumes nothing.
-use mathlib.Core.Path.{_≡_, sym, subst, _∙_}
+use mathlib.Core.Path.{sym, subst, _∙_}
 use Prim.Native.Nat.{ℕ, _+_, _≤_, _<_}
 use native.Mathlib.Omega.{arith}
 use lib.ListN.{length}
 use borrow.Author.Needs.{needs}
 use borrow.Fn.Kinds.{In}
 use borrow.Fn.PlainCycle.{Measures, is, falls, and}
-use Rattle.resource.specs.declared.LevelStep.{LevelStep}
 use Rattle.resource_spec.specs.Level.{levels as levelsIn}
 use Rattle.resource.specs.Code.{upTo}
 use Rattle.resource.specs.Laws.{Goes, Stepped}

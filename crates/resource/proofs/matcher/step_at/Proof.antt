@@ -1,22 +1,24 @@
 -- `step_at` meets its contract. Assumes nothing.
 use mathlib.Core.Path.{sym, _∙_}
 use borrow.Author.Needs.{needs}
-use Rattle.resource.proofs.FirstLevelLaws.{deep-tells}
-use Rattle.resource.proofs.UpToCode.{step-says}
+use Rattle.resource.proofs.NameFirstCode.{step-known, deep-says}
 use Rattle.resource.proofs.matcher.step_at.Statement.{statement}
 use Rattle.resource.proofs.matcher.step_at.Tie as tie
 
 returns : tie.Need-returns
-returns c = deep-tells _ _ (sym (c .before .is-deep .ensures) ∙ c .if1 .taken)
+returns c =
+    let t = c .before .before in
+    deep-says _ _ (sym (t .enum-told .given .1) ∙ t .before .before .first-step .ensures) (c .deep-or-differ .ensures)
 
 returns-2 : tie.Need-returns-2
-returns-2 c =
-    let e = c .before .before .before in
-    step-says _ _ (e .before .is-deep .ensures) (e .if1 .left) (c .first-step .ensures)
+returns-2 c = step-known _ _ (sym (c .enum-told2 .given .1) ∙ c .before .before .first-step .ensures) tt
+
+returns-3 : tie.Need-returns-3
+returns-3 c = let n = c .before in step-known _ _ (sym (n .a .given .1) ∙ n .before .before .first-step .ensures) tt
 
 pub step-at-spec : {M : Type 1} → statement M
 step-at-spec =
     tie.close
-    (tie.spec (λ c. search needs) (λ c. search needs) (λ c. search needs) (λ c κs. search needs) returns (λ c. search needs)
-    (λ c. search needs) (λ c. search needs) (λ c. search needs) (λ c. search needs) (λ c. search needs) (λ c κs. search needs)
-    returns-2)
+    (tie.spec (λ c. search needs) (λ c. search needs) (λ c. search needs) (λ c. search needs) (λ c. search needs)
+    (λ c. search needs) (λ c κs. search needs) (λ c. search needs) (λ c. search needs) (λ c. search needs) (λ c. search needs)
+    (λ c κs. search needs) (λ c. search needs) (λ c. search needs) returns returns-2 returns-3)

@@ -216,6 +216,10 @@ def vectors():
         ("keys of different lengths", encode(payload(metadata={"b": "1", "aa": "2", "ccc": "3"}))),
         ("pattern of 256 bytes", encode(payload(grants=[grant(pattern=T + "/" + "a" * 210)]))),
         (
+            "later patterns of every kind",
+            encode(payload(grants=[grant(pattern=T + "/" + levels) for levels in ("a", "a" * 210, "/".join("n" * 105), "**", "*/b/**", "*")])),
+        ),
+        (
             "upper-case hexadecimal digits",
             encode(payload(subject_fay_id=FAY.upper().replace("FAY", "fay"), terminal_id=upper, grants=[grant(pattern=upper + "/a")])),
         ),
@@ -259,6 +263,9 @@ def vectors():
         ("a longer head of a text", swap(base, b"\x69issuer_id\x63uni", b"\x69issuer_id\x78\x03uni")),
         ("a longer head of a map", swap(base, b"\xa3\x67payload", b"\xb8\x03\x67payload")),
         ("a longer head of an array", swap(base, b"\x66grants\x81", b"\x66grants\x98\x01")),
+        ("a longer head of a grant", swap(base, b"\xa2\x65modes", b"\xb8\x02\x65modes")),
+        ("a longer head of modes", swap(base, b"\x65modes\x81", b"\x65modes\x98\x01")),
+        ("modes with the additional information 28", swap(base, b"\x65modes\x81", b"\x65modes\x9c")),
         ("an array of no definite length", swap(base, b"\x65modes\x81\x64read", b"\x65modes\x9f\x64read\xff")),
         ("a text of no definite length", swap(base, b"\x69issuer_id\x63uni", b"\x69issuer_id\x7f\x63uni\xff")),
         ("a tag", swap(base, b"\x69not_after\x19\x0b\xb8", b"\x69not_after\xc1\x19\x0b\xb8")),
@@ -301,6 +308,20 @@ def vectors():
         ("pattern T", encode(payload(grants=[grant(pattern=T)]))),
         ("pattern T/", encode(payload(grants=[grant(pattern=T + "/")]))),
         ("pattern of 257 bytes", encode(payload(grants=[grant(pattern=T + "/" + "a" * 211)]))),
+        *[
+            (f"later pattern {name}", encode(payload(grants=[grant(), grant(pattern=pattern)])))
+            for name, pattern in (
+                ("T", T),
+                ("T/", T + "/"),
+                ("T-a", T + "-a"),
+                ("T//a", T + "//a"),
+                ("T/cam*", T + "/cam*"),
+                ("T/**/a", T + "/**/a"),
+                ("T/***", T + "/***"),
+                ("of 257 bytes", T + "/" + "a" * 211),
+                ("of a malformed terminal id", T[:-1] + "g/a"),
+            )
+        ],
         ("pattern of another terminal, first", encode(payload(grants=[grant(pattern=U + "/a"), grant()]))),
         ("pattern of another terminal, later", encode(payload(grants=[grant(), grant(pattern=U + "/a")]))),
         ("patterns of another terminal, all", encode(payload(grants=[grant(pattern=U + "/a"), grant(pattern=U + "/b")]))),

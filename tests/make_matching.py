@@ -86,9 +86,9 @@ def chosen():
     for name, n in (("256 bytes", 256), ("257 bytes", 257)):
         yield f"pattern of {name}", "/" + "n" * (n - 46), "/n"
         yield f"resource of {name}", "/*", "/" + "n" * (n - 46)
-    for level in ("**/a", "a*", "*a", "***", "a**", "", "a/", "/a", "a//b", "a b", "a\n", "a\0", "ü", "a/**/b"):
+    for level in ("**/a", "a*", "*a", "***", "a**", "", "a/", "/a", "a//b", "a b", "a\n", "a\0", "ü", "a/**/b", "a/***", "*/a*", "**a", "a/*/"):
         yield f"pattern T/{plain(level)}", "/" + level, "/a"
-    for level in ("*", "**", "a/*", "", "a/", "/a", "a//b", "a b", "a\n", "a\0", "ü"):
+    for level in ("*", "**", "a/*", "a/**", "a**", "", "a/", "/a", "a//b", "a b", "a\n", "a\0", "ü"):
         yield f"resource T/{plain(level)}", "/**", "/" + level
     yield "no level", T, T
     yield "no pattern", "", "/a"

@@ -27,9 +27,7 @@ fn main() {
     for rows in [1, 64] {
         request(rows);
     }
-    for levels in [10, 100] {
-        matching(levels);
-    }
+    matching();
     for grants in [1, 16, 256] {
         let bytes = rooms(grants).bytes();
         narrowing(&format!("narrowing, grants {grants}"), &bytes, &bytes);
@@ -107,16 +105,29 @@ fn request(rows: u64) {
     );
 }
 
-/// A match of so many levels.
-fn matching(levels: usize) {
-    let path = format!("{TERMINAL}/{}", vec!["n"; levels].join("/"));
-    let pattern = format!("{TERMINAL}/{}/*", vec!["n"; levels - 1].join("/"));
-    let (pattern, path) = (pattern.as_bytes(), path.as_bytes());
+/// Matches of 10, 100 and 105 equal levels of one letter, the most that fit, and how many times as long as ten the longer ones take.
+fn matching() {
+    let ten = matching_equal(10);
+    for levels in [100, 105] {
+        let (library, ordinary) = matching_equal(levels);
+        line(
+            &format!("matching, levels {levels} to 10"),
+            &format!("{} times", ratio(library, ten.0)),
+            &format!("{} times", ratio(ordinary, ten.1)),
+            "",
+        );
+    }
+}
+
+/// A match of so many equal levels of one letter, and its times.
+fn matching_equal(levels: usize) -> (f64, f64) {
+    let text = format!("{TERMINAL}/{}", vec!["n"; levels].join("/"));
+    let (pattern, path) = (text.as_bytes(), text.as_bytes().to_vec());
     race_and_print(
         &format!("matching, levels {levels}"),
-        || 1 - cap::numbers::matching(black_box(pattern), black_box(path)).yes,
-        || 1 - reference::matching(black_box(pattern), black_box(path)).yes,
-    );
+        || 1 - cap::numbers::matching(black_box(pattern), black_box(&path)).yes,
+        || 1 - reference::matching(black_box(pattern), black_box(&path)).yes,
+    )
 }
 
 /// Narrowing of a child under a parent.
@@ -259,8 +270,12 @@ fn mode_each(patterns: impl Iterator<Item = String>) -> (Model, Model) {
     )
 }
 
-/// Times the two and prints the time of a call.
-fn race_and_print(case: &str, library: impl FnMut() -> u64, ordinary: impl FnMut() -> u64) {
+/// Times the two, prints the time of a call, and answers both times.
+fn race_and_print(
+    case: &str,
+    library: impl FnMut() -> u64,
+    ordinary: impl FnMut() -> u64,
+) -> (f64, f64) {
     let (library, ordinary) = race(library, ordinary);
     line(
         case,
@@ -268,6 +283,7 @@ fn race_and_print(case: &str, library: impl FnMut() -> u64, ordinary: impl FnMut
         &shown(ordinary),
         &ratio(library, ordinary),
     );
+    (library, ordinary)
 }
 
 /// The seconds that a call of each takes in its best round; each call must answer 0.

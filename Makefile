@@ -6,7 +6,7 @@ CARGO := cargo --offline
 # cargo's own folder, where it is not on the path
 export PATH := $(PATH):$(shell getent passwd "$$(id -u)" | cut -d: -f6)/.cargo/bin
 
-.PHONY: test lib install example match bench promises layers header calls differential vectors stored encoder tools
+.PHONY: test lib install example match lines bench promises layers header calls differential vectors stored encoder tools
 
 # proves every crate of crates.txt from nothing, tries the must-fail edits, runs the programs, and compares the library with ordinary Rust
 test:
@@ -35,6 +35,11 @@ match:
 	rt check match_tool
 	cat crates/match_tool/stdin
 	target/bin/match_tool < crates/match_tool/stdin
+
+# a million lines through the matching tool: its answers compared, and how many it gives in a second
+lines: tools
+	rt check match_tool
+	tests/lines
 
 # the header in C99 and in C++, without a warning
 header:

@@ -117,6 +117,7 @@ fn matching() {
             "",
         );
     }
+    matching_malformed();
 }
 
 /// A match of so many equal levels of one letter, and its times.
@@ -128,6 +129,18 @@ fn matching_equal(levels: usize) -> (f64, f64) {
         || 1 - cap::numbers::matching(black_box(pattern), black_box(&path)).yes,
         || 1 - reference::matching(black_box(pattern), black_box(&path)).yes,
     )
+}
+
+/// A pattern of 256 bytes that is malformed at its first level.
+fn matching_malformed() {
+    let path = format!("{TERMINAL}/{}", "n".repeat(210));
+    let pattern = format!("{TERMINAL}/*{}", "n".repeat(209));
+    let (pattern, path) = (pattern.as_bytes(), path.as_bytes());
+    race_and_print(
+        "matching, malformed at the beginning",
+        || 15 - cap::numbers::matching(black_box(pattern), black_box(path)).answer,
+        || 15 - reference::matching(black_box(pattern), black_box(path)).answer,
+    );
 }
 
 /// Narrowing of a child under a parent.

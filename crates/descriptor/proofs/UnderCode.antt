@@ -106,32 +106,40 @@ module _ {S : Type 0} (s : List ℕ) (test first second : List ℕ → Bool) (bo
   abbrev seen : Span → GrantSeen
   seen c = record { mask = mask; modes = modes; constraints = constraints; pairs = pairs; pattern = c }
 
+  -- a string that passes a test
+  abbrev passing : (List ℕ → Bool) → Bool → Got Span → Got Span
+  passing t key o = guard key (bind o (λ c n. guard (t (part s (c .start) (c .len))) (got c n)))
+
+  -- the grant with the pattern, where its map has as many keys as its head says
+  abbrev counted : Bool → Got Span → Got GrantSeen
+  counted count o = bind o (λ c n. guard count (got (seen c) n))
+
   -- a pattern that passes two tests at once is one that passes the first, and then the second
   pattern-both : (key : Bool) (o : Got Span) (count : Bool)
-      → bind (bind (guard key (bind o (λ c n. guard (test (part s (c .start) (c .len))) (got c n)))) (λ c n. guard count (got (seen c) n))) k
-      ≡ bind (bind (guard key (bind o (λ c n. guard (first (part s (c .start) (c .len))) (got c n)))) (λ c n. guard count (got (seen c) n)))
-      (λ g n. guard (second (part s (g .pattern .start) (g .pattern .len))) (k g n))
+      → bind (counted count (passing test key o)) k
+      ≡ bind (counted count (passing first key o)) (λ g n. guard (second (part s (g .pattern .start) (g .pattern .len))) (k g n))
   unfolding bind guard
   pattern-both false o count = refl
   pattern-both true refused count = refl
-  pattern-both true (got c n) count =
-      rw (both (part s (c .start) (c .len))) (go (first (part s (c .start) (c .len))) count)
+  pattern-both true (got c n) count = rw (both (part s (c .start) (c .len))) (go (first (part s (c .start) (c .len))) count)
     where
+      found : Bool → Got Span
+      found b = guard b (got c n)
+
+      miscounts : (b : Bool) → bind (counted false (found b)) k ≡ refused
+      miscounts true = refl
+      miscounts false = refl
+
+      counts : (b : Bool) → bind (counted true (found b)) k ≡ guard b (k (seen c) n)
+      counts true = refl
+      counts false = refl
+
       go : (a q : Bool)
-          → bind (bind (guard (a && second (part s (c .start) (c .len))) (got c n)) (λ c n. guard q (got (seen c) n))) k
-          ≡ bind (bind (guard a (got c n)) (λ c n. guard q (got (seen c) n)))
-          (λ g n. guard (second (part s (g .pattern .start) (g .pattern .len))) (k g n))
+          → bind (counted q (found (a && second (part s (c .start) (c .len))))) k
+          ≡ bind (counted q (found a)) (λ g n. guard (second (part s (g .pattern .start) (g .pattern .len))) (k g n))
       go false q = refl
-      go true false = miscounted (second (part s (c .start) (c .len)))
-        where
-          miscounted : (b : Bool) → bind (bind (guard b (got c n)) (λ c n. guard false (got (seen c) n))) k ≡ refused
-          miscounted true = refl
-          miscounted false = refl
-      go true true = counted (second (part s (c .start) (c .len)))
-        where
-          counted : (b : Bool) → bind (bind (guard b (got c n)) (λ c n. guard true (got (seen c) n))) k ≡ guard b (k (seen c) n)
-          counted true = refl
-          counted false = refl
+      go true false = miscounts (second (part s (c .start) (c .len)))
+      go true true = counts (second (part s (c .start) (c .len)))
 
 module _ (s : List ℕ) (first : ℕ) (sum : Sum) (at : ℕ) (e : isTerminal (part s first terminalSize) ≡ true) where
   -- the terminal id at `first`, looked for at once or after the pattern was checked
@@ -146,7 +154,8 @@ module _ (s : List ℕ) (first : ℕ) (sum : Sum) (at : ℕ) (e : isTerminal (pa
       bind-both (optPairsAt s n₁ kConstraints 8) _ _ _ _ (λ constraints n₂.
       pattern-both s (patternUnder (part s first terminalSize)) patternOk (λ x. same (take terminalSize x) (part s first terminalSize))
       (λ x. pattern-under (part s first terminalSize) x e)
-      mask (n + length kModes) (constraints .at) (constraints .size) (λ g m. got (addGrant sum g) m) (hasAt s n₂ kResourcePattern) (spanAt s (n₂ + length kResourcePattern) 3)
+      mask (n + length kModes) (constraints .at) (constraints .size)
+      (λ g m. got (addGrant sum g) m) (hasAt s n₂ kResourcePattern) (spanAt s (n₂ + length kResourcePattern) 3)
       (eqb c (2 + flag (constraints .there))))))
 
   -- so one more grant is one whose pattern is under the terminal id at `first`

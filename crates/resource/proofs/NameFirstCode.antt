@@ -1,5 +1,5 @@
--- Laws of comparing two first levels byte by byte before it is looked whether the one of the pattern is a wildcard (specs/Code.antt): levels
--- that are equal match in either case. Assumes nothing.
+-- Laws of comparing two first levels byte by byte before it is looked whether the one of the pattern is a wildcard (specs/Code.antt):
+-- levels that are equal match in either case. Assumes nothing.
 use mathlib.Core.Path.{_≡_, refl, sym, ap, subst, _∙_}
 use mathlib.Core.Bool.{Bool, true, false, cond, _&&_}
 use mathlib.Core.List.{List, [], _∷_}

@@ -73,7 +73,8 @@ fn star_step(p: &[u8], r: &[u8]) -> LevelStep
 
 // The first level of p, which is not that of r, against the first level of r.
 fn star_or_differ(p: &[u8], r: &[u8]) -> LevelStep
-    ensures { λ o. ⌜ o ≡ cond (starFirst (now (p .entry))) (starStep (now (p .entry)) (now (r .entry)) (levelLength (now (r .entry)))) Differ ⌝ }
+    ensures { λ o. ⌜ o ≡ cond (starFirst (now (p .entry)))
+        (starStep (now (p .entry)) (now (r .entry)) (levelLength (now (r .entry)))) Differ ⌝ }
 {
     if star_first(p) {
         return star_step(p, r);
@@ -81,8 +82,8 @@ fn star_or_differ(p: &[u8], r: &[u8]) -> LevelStep
     LevelStep::Differ
 }
 
-// The first level of p against the first level of r. Equal levels are found in one pass over their bytes; only where they are not equal is it
-// looked whether the one of p is "*".
+// The first level of p against the first level of r. Equal levels are found in one pass over their bytes; only where they are not equal is
+// it looked whether the one of p is "*".
 pub(crate) fn first_step(p: &[u8], r: &[u8]) -> LevelStep
     ensures { λ o. ⌜ o ≡ stepOf (now (p .entry)) (now (r .entry)) ⌝ }
 {
@@ -126,8 +127,8 @@ fn step_at(p: &[u8], i: usize, n: usize, r: &[u8], j: usize, m: usize) -> LevelS
     }
 }
 
-// Whether the levels of p from i on match the levels of r from j on: the first of each, and then the remaining ones. All that the call hands
-// on are two addresses and four numbers, so that the compiler makes a loop of it.
+// Whether the levels of p from i on match the levels of r from j on: the first of each, and then the remaining ones. All that the call
+// hands on are two addresses and four numbers, so that the compiler makes a loop of it.
 fn levels_at(p: &[u8; LONGEST], i: usize, n: usize, r: &[u8; LONGEST], j: usize, m: usize) -> bool
     requires { ⌜ (i ≤ n) × (n ≤ longestText) × (j ≤ m) × (m ≤ longestText) ⌝ }
     ensures { λ o. ⌜ o ≡ levelsMatch (upTo (now (p .entry)) i n) (upTo (now (r .entry)) j m) ⌝ }

@@ -6,7 +6,7 @@ CARGO := cargo --offline
 # cargo's own folder, where it is not on the path
 export PATH := $(PATH):$(shell getent passwd "$$(id -u)" | cut -d: -f6)/.cargo/bin
 
-.PHONY: test lib install example match lines bench promises layers header calls differential vectors stored encoder tools
+.PHONY: test lib install example match lines bench promises layers header calls rows differential vectors stored encoder tools
 
 # proves every crate of crates.txt from nothing, tries the must-fail edits, runs the programs, and compares the library with ordinary Rust
 test:
@@ -80,6 +80,12 @@ stored: encoder
 calls: lib
 	cc -std=c99 -Wall -Wextra -pedantic -Werror -Iinclude tests/calls.c target/staticlib/libcap.a -o target/calls
 	target/calls
+
+# the search in a slice of rows of the revocation list, from C: known answers, and random lists beside a plain loop
+rows:
+	rt staticlib revocation_slice
+	cc -std=c99 -Wall -Wextra -pedantic -Werror tests/rows.c target/staticlib/librevocation_slice.a -o target/rows
+	target/rows
 
 # the library compared with the ordinary Rust implementation, and that with the stored vectors
 differential: lib tools

@@ -1,0 +1,4 @@
+pub mod RowLaws
+pub mod ByteLaws
+pub mod Promises
+pub mod Examples

@@ -1,0 +1,2 @@
+pub mod Revocation
+pub mod Promises

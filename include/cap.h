@@ -31,7 +31,7 @@ enum cap_answer {
     CAP_DUPLICATE_DESCRIPTOR_ID = 5,     /* E_DUPLICATE_DESCRIPTOR_ID: other bytes are held under the id */
     CAP_STORAGE_FULL = 6,                /* E_STORAGE_FULL: 64 rows are held, or the larger image exceeds the buffer */
     CAP_DESCRIPTOR_NOT_FOUND = 7,        /* E_DESCRIPTOR_NOT_FOUND: the id is not held */
-    CAP_DESCRIPTOR_REVOKED = 8,          /* E_DESCRIPTOR_REVOKED: the id is in the revocation list */
+    CAP_DESCRIPTOR_REVOKED = 8,          /* E_DESCRIPTOR_REVOKED: a row of the revocation list has the id, and its moment is not after now */
     CAP_DESCRIPTOR_NOT_YET_VALID = 9,    /* E_DESCRIPTOR_NOT_YET_VALID: now < not_before */
     CAP_DESCRIPTOR_EXPIRED = 10,         /* E_DESCRIPTOR_EXPIRED: now >= not_after */
     CAP_SUBJECT_MISMATCH = 11,           /* E_SUBJECT_MISMATCH: another fay */
@@ -158,7 +158,9 @@ cap_stored cap_image_find(const uint8_t *image, size_t image_len, const uint8_t 
 uint64_t cap_submit(uint8_t *image, size_t image_len, const uint8_t *descriptor, size_t descriptor_len, uint64_t now, uint64_t verdict,
                     uint64_t valid_from, uint64_t has_valid_until, uint64_t valid_until);
 
-/* Decides a request for the stored descriptor with the id; `revoked` is a list of ids of 16 bytes. */
+/* Decides a request for the stored descriptor with the id. `revoked` is the revocation list: rows of 24 bytes in any order, each a descriptor id (16), then the
+ * moment from which on it is revoked, in seconds, big-endian (8). An id may recur. A length that is no multiple of 24 is answered 15; a list without rows is
+ * passed as any empty slice, as CAP_EMPTY. */
 cap_decision cap_request(const uint8_t *image, size_t image_len, const uint8_t *id, size_t id_len, const uint8_t *fay, size_t fay_len,
                          const uint8_t *terminal, size_t terminal_len, const uint8_t *resource, size_t resource_len, uint64_t mode, uint64_t now,
                          uint64_t session_length, const uint8_t *revoked, size_t revoked_len, uint64_t verdict, uint64_t valid_from,

@@ -392,10 +392,16 @@ typedef struct asked {
     cap_decision expected;
 } asked;
 
+/* The revocation list, of which a request takes so many bytes as it says: another id, then id 7 from 2501 on, then id 7 from 2500 on. */
+static const uint8_t revoked[] = {
+    9, 9, 9, 9, 9, 9, 9, 9, 9, 9, 9, 9, 9, 9, 9, 9, 0, 0, 0, 0, 0, 0, 0, 0,
+    7, 7, 7, 7, 7, 7, 7, 7, 7, 7, 7, 7, 7, 7, 7, 7, 0, 0, 0, 0, 0, 0, 2501 / 256, 2501 % 256,
+    7, 7, 7, 7, 7, 7, 7, 7, 7, 7, 7, 7, 7, 7, 7, 7, 0, 0, 0, 0, 0, 0, 2500 / 256, 2500 % 256,
+};
+
 static void decided(const uint8_t *image, size_t n, const asked *q) {
-    uint8_t id[16], revoked[32] = {0};
+    uint8_t id[16];
     memset(id, q->id, 16);
-    memset(revoked + 16, 7, 16);
     what = q->name;
     cap_decision d = cap_request(image, n, id, 16, (const uint8_t *)q->fay, strlen(q->fay), (const uint8_t *)q->terminal, strlen(q->terminal),
                                  (const uint8_t *)q->resource, strlen(q->resource), q->mode, q->now, 77, revoked, q->revoked_len, q->verdict, q->valid_from,
@@ -413,12 +419,14 @@ static void requests(void) {
     cap_image_new(image, sizeof image);
     submitted("stored for requests", image, sizeof image, &b, 2500, 0, 0, 0, 0, 0);
     const asked all[] = {
-        {"granted", 7, FAY, T, T "/a/b", 2, 2500, 16, 0, 2500, 0, 0, {.answer = 0, .grant = 1, .mask = 6, .session_end = 2577}},
+        {"granted", 7, FAY, T, T "/a/b", 2, 2500, 24, 0, 2500, 0, 0, {.answer = 0, .grant = 1, .mask = 6, .session_end = 2577}},
+        {"revoked from the next second on", 7, FAY, T, T "/a/b", 2, 2500, 48, 0, 0, 0, 0, {.answer = 0, .grant = 1, .mask = 6, .session_end = 2577}},
         {"granted up to not_after", 7, FAY, T, T "/door", 0, 2999, 0, 0, 0, 1, 2999, {.answer = 0, .grant = 0, .mask = 1, .session_end = 3000}},
         {"mode 4", 7, FAY, T, T "/a/b", 4, 2500, 0, 0, 0, 0, 0, {.answer = 15}},
-        {"a list of 17 bytes", 7, FAY, T, T "/a/b", 2, 2500, 17, 0, 0, 0, 0, {.answer = 15}},
+        {"a list of 25 bytes", 7, FAY, T, T "/a/b", 2, 2500, 25, 0, 0, 0, 0, {.answer = 15}},
         {"not held", 8, FAY, T, T "/a/b", 2, 2500, 0, 0, 0, 0, 0, {.answer = 7}},
-        {"revoked", 7, FAY, T, T "/a/b", 2, 3000, 32, 0, 0, 0, 0, {.answer = 8}},
+        {"revoked from now on", 7, FAY, T, T "/a/b", 2, 2500, 72, 0, 0, 0, 0, {.answer = 8}},
+        {"revoked and expired", 7, FAY, T, T "/a/b", 2, 3000, 48, 0, 0, 0, 0, {.answer = 8}},
         {"not yet valid", 7, FAY, T, T "/a/b", 2, 1999, 0, 0, 0, 0, 0, {.answer = 9}},
         {"expired", 7, OTHER_FAY, T, T "/a/b", 2, 3000, 0, 0, 0, 0, 0, {.answer = 10}},
         {"another subject", 7, OTHER_FAY, OTHER_T, T "/a/b", 2, 2500, 0, 0, 0, 0, 0, {.answer = 11}},

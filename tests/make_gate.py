@@ -1,7 +1,7 @@
 """The gate among the stored vectors: calls on one image that stays from call to call.
 
 The descriptors are made by the same independent encoder as those of make_descriptors.py. The expected output is from the image, submission
-and request below, which are written from document 01 and know nothing of the Rattle code.
+and request below, which are written from documents 01 and 02 and know nothing of the Rattle code.
 """
 import re
 
@@ -13,7 +13,7 @@ DAY = 86400
 LAST = 2**64 - 1
 
 
-# ---- an ordinary image, submission and request, by document 01
+# ---- an ordinary image, submission and request, by documents 01 and 02
 
 
 def number(s, at, w):
@@ -110,6 +110,11 @@ def find(s, ident):
     return answered(7)
 
 
+def is_revoked(rows, ident, now):
+    """Whether a row of the revocation list has the id and a moment that is not after now."""
+    return any(rows[at : at + 16] == ident and number(rows, at + 16, 8) <= now for at in range(0, len(rows), 24))
+
+
 def request(s, q):
     if (
         q["verdict"] > 2
@@ -118,7 +123,7 @@ def request(s, q):
         or not re.match(rf"fay:{UUID}\Z", q["fay"])
         or not re.match(rf"terminal:{UUID}\Z", q["terminal"])
         or not is_resource(q["resource"].encode())
-        or len(q["revoked"]) % 16
+        or len(q["revoked"]) % 24
     ):
         return answered(15)
     held = sound(s)
@@ -128,7 +133,7 @@ def request(s, q):
     if body is None:
         return answered(7)
     f = read(body)[1]
-    if q["id"] in [q["revoked"][i : i + 16] for i in range(0, len(q["revoked"]), 16)]:
+    if is_revoked(q["revoked"], q["id"], q["now"]):
         return answered(8)
     if q["now"] < f["not_before"]:
         return answered(9)
@@ -197,6 +202,11 @@ class Run:
 
 def ident(i):
     return i.to_bytes(2, "big") + bytes(13) + bytes([i % 251])
+
+
+def revocation(moment, i=bytes(range(16))):
+    """A row of the revocation list, of the id that most requests have."""
+    return i + moment.to_bytes(8, "big")
 
 
 def made(i, **more):
@@ -382,12 +392,9 @@ def requests(r):
     r.request("resource without a level", resource=T)
     r.request("resource with an empty level", resource=T + "/a//b")
     r.request("resource with a wildcard", resource=T + "/a/*")
-    r.request("revocation list of 15 bytes", revoked=bytes(15))
+    r.request("revocation list of 23 bytes", revoked=bytes(23))
     r.request("id not held", id=ident(3))
-    r.request("revoked", revoked=bytes(range(16)))
-    r.request("revoked, second of three", revoked=bytes(16) + bytes(range(16)) + bytes(16))
-    r.request("revoked, last of two", revoked=bytes(16) + bytes(range(16)))
-    r.request("not revoked, the id stands across two", revoked=bytes(8) + bytes(range(16)) + bytes(8))
+    r.request("revoked", revoked=revocation(0))
     r.request("not yet valid", now=1999)
     r.request("expired", now=3000)
     r.request("another subject", fay=FAY.replace("7e21", "7e22"))
@@ -403,9 +410,9 @@ def requests(r):
     r.request("signature bad", verdict=1)
     # each adjacent pair
     r.request("malformed, and id not held", id=ident(3), mode=4)
-    r.request("not held, and in the list", id=ident(3), revoked=ident(3))
-    r.request("revoked, and not yet valid", revoked=bytes(range(16)), now=1999)
-    r.request("revoked and expired", revoked=bytes(range(16)), now=3000)
+    r.request("not held, and in the list", id=ident(3), revoked=revocation(0, ident(3)))
+    r.request("revoked, and not yet valid", revoked=revocation(0), now=1999)
+    r.request("revoked and expired", revoked=revocation(0), now=3000)
     r.request("not yet valid, and another subject", now=1999, fay=FAY.replace("7e21", "7e22"))
     r.request("expired and wrong subject", now=3000, fay=FAY.replace("7e21", "7e22"))
     r.request("another subject, and another terminal", fay=FAY.replace("7e21", "7e22"), terminal=U)
@@ -441,8 +448,61 @@ def requests(r):
     r.request("no image, id not held", id=ident(3))
 
 
+def revocation_lists(r):
+    """Moments before, at and after the clock, ids that recur, places in the list, and lengths."""
+    other = revocation(0, bytes(16))
+    r.load("4,000 bytes", b"\xaa" * 4000)
+    r.new("new image")
+    r.submit("stored, valid from 2,000 to 3,000", encode())
+    r.submit("stored, valid up to 2^64 - 1", made(2, issued_at=0, not_before=LAST - 10, not_after=LAST), now=LAST - 10)
+    # one row, at clock 2,000
+    r.request("no row")
+    r.request("moment = now - 1", revoked=revocation(1999))
+    r.request("moment = now", revoked=revocation(2000))
+    r.request("moment = now + 1", revoked=revocation(2001))
+    r.request("moment 0", revoked=revocation(0))
+    r.request("moment 2^64 - 1", revoked=revocation(LAST))
+    r.request("moment 1, which is 2^56 in the other byte order", revoked=revocation(1))
+    r.request("moment 2^56, which is 1 in the other byte order", revoked=revocation(1 << 56))
+    r.request("moment 2^32", revoked=revocation(1 << 32))
+    # the clock at its ends
+    r.request("clock 0, moment 0", now=0, revoked=revocation(0))
+    r.request("clock 0, moment 1", now=0, revoked=revocation(1))
+    r.request("clock 2^64 - 2, moment 2^64 - 2", id=ident(2), now=LAST - 1, revoked=revocation(LAST - 1, ident(2)))
+    r.request("clock 2^64 - 2, moment 2^64 - 1", id=ident(2), now=LAST - 1, revoked=revocation(LAST, ident(2)))
+    r.request("clock 2^64 - 1, moment 2^64 - 1", id=ident(2), now=LAST, revoked=revocation(LAST, ident(2)))
+    # an id that recurs
+    r.request("one row in the future, then one past", revoked=revocation(2001) + revocation(1999))
+    r.request("one row past, then one in the future", revoked=revocation(1999) + revocation(2001))
+    r.request("both past, the later first", revoked=revocation(1999) + revocation(1998))
+    r.request("both past, the earlier first", revoked=revocation(1998) + revocation(1999))
+    r.request("both in the future, the later first", revoked=revocation(2002) + revocation(2001))
+    r.request("both in the future, the earlier first", revoked=revocation(2001) + revocation(2002))
+    r.request("the same row twice", revoked=revocation(2000) + revocation(2000))
+    r.request("three rows, the second from now on", revoked=revocation(2001) + revocation(2000) + revocation(LAST))
+    r.request("in the future, and another id past", revoked=revocation(2001) + other)
+    r.request("another id past, and in the future", revoked=other + revocation(2001))
+    # places in the list
+    r.request("second of three", revoked=other + revocation(2000) + other)
+    r.request("last of two", revoked=other + revocation(2000))
+    r.request("an id that differs in the first byte", revoked=revocation(0, b"\x01" + bytes(range(1, 16))))
+    r.request("an id that differs in the last byte", revoked=revocation(0, bytes(range(15)) + b"\x00"))
+    r.request("the id stands from byte 8 of a row on", revoked=bytes(8) + bytes(range(16)) + bytes(24))
+    r.request("the id stands across two rows", revoked=bytes(16) + bytes(range(16)) + bytes(16))
+    # lengths
+    for n in (1, 15, 16, 23, 25, 47, 49):
+        r.request(f"list length {n}", revoked=(revocation(0) * 3)[:n])
+    r.request("list length 48, two other ids", revoked=other + other)
+    # before the steps on the period
+    r.request("revoked from now on, and expired", now=3000, revoked=revocation(3000))
+    r.request("revoked in the future, and expired", now=3000, revoked=revocation(3001))
+    r.request("revoked from now on, and not yet valid", now=1999, revoked=revocation(1999))
+    r.request("revoked in the future, and not yet valid", now=1999, revoked=revocation(2000))
+
+
 def gate(v):
     r = Run(v)
-    for heading, calls in (("Images", images), ("Submissions", submissions), ("Requests", requests)):
+    groups = (("Images", images), ("Submissions", submissions), ("Requests", requests), ("Revocation lists", revocation_lists))
+    for heading, calls in groups:
         v.heading("## " + heading)
         calls(r)

@@ -162,6 +162,13 @@ grep -v lab-2026 keys.txt >fewer-keys.txt
 must 1 'refused: E_VERIFICATION_KEY_INVALID (14)' '  key: "lab-2026" of issuer "Lab Office" for ed25519: no such key' \
     -- request image fewer-keys.txt "${id}01" "$student" "$terminal" "$device/camera/front" read $start $hour
 
+heading 'A revocation that takes effect at a moment'
+printf '%s %s\n' "${id}01" $((start + 2 * hour)) "${id}01" $((start + day)) >revoked-later.txt
+ask 0 "granted: read of \"$device/camera/front\"" \
+    -- 01 "$student" "$terminal" "$device/camera/front" read $((start + 2 * hour - 1)) revoked-later.txt
+ask 1 'refused: E_DESCRIPTOR_REVOKED (8)' "  now: $((start + 2 * hour)) (2026-01-01 02:00:00 UTC)" \
+    -- 01 "$student" "$terminal" "$device/camera/front" read $((start + 2 * hour)) revoked-later.txt
+
 heading 'A stored descriptor that someone has changed on the disk'
 must 0 'new image: 2048 bytes, no descriptor' -- new changed 2048
 must 0 "stored: descriptor ${id}01" -- submit changed keys.txt student.cbor $start
@@ -184,5 +191,11 @@ must 2 'error: bad argument: MODE: look' \
     -- request image keys.txt "${id}01" "$student" "$terminal" "$device/camera/front" look $start $hour
 cat keys.txt keys.txt >twice.txt
 must 2 'error: twice.txt: line 6: an earlier line has the same issuer, key id and algorithm' -- submit image twice.txt student.cbor $start
+printf '%s\n' "${id}01" "${id}01 tomorrow" >bad-moment.txt
+ask 2 "error: bad-moment.txt: line 2: the moment isn't a number of seconds" \
+    -- 01 "$student" "$terminal" "$device/camera/front" read $start bad-moment.txt
+printf '%s\n' "${id}01 $start $hour" >three-fields.txt
+ask 2 'error: three-fields.txt: line 1: a revocation has 1 or 2 fields' \
+    -- 01 "$student" "$terminal" "$device/camera/front" read $start three-fields.txt
 
 printf '\n%s answers, each as it must be.\n' "$checked"

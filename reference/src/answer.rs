@@ -16,7 +16,7 @@ pub(crate) const DUPLICATE_DESCRIPTOR_ID: u64 = 5;
 pub(crate) const STORAGE_FULL: u64 = 6;
 /// The id is not held.
 pub(crate) const DESCRIPTOR_NOT_FOUND: u64 = 7;
-/// The id is in the revocation list.
+/// A row of the revocation list has the id, and its moment is not after now.
 pub(crate) const DESCRIPTOR_REVOKED: u64 = 8;
 /// The period has not begun.
 pub(crate) const DESCRIPTOR_NOT_YET_VALID: u64 = 9;

@@ -1,4 +1,4 @@
-//! An ordinary implementation of the gate in Rust, written from document 01 and the sources that it names.
+//! An ordinary implementation of the gate in Rust, written from documents 01 and 02 and the sources that they name.
 //!
 //! It shares no code with the proved library. Each public function takes the same slices and numbers as the call of the
 //! same name in `include/cap.h` and answers with the same numbers, so that the two can be compared on any input.

@@ -7,8 +7,12 @@ use crate::answer::{
 };
 use crate::descriptor::{Grant, Reading};
 use crate::image::Image;
+use crate::item::big_endian;
 use crate::resource::{is_fay_id, is_resource_id, is_terminal_id, pattern_matches};
 use crate::submission::key_is_open;
+
+/// The length of a row of the revocation list.
+const LIST_ROW: usize = 24;
 
 /// The texts and numbers of a request.
 #[derive(Clone, Copy, Debug, Default, PartialEq, Eq)]
@@ -27,7 +31,8 @@ pub struct Request<'a> {
     pub now: u64,
     /// The longest session that the host allows, in seconds.
     pub session_length: u64,
-    /// The revocation list: ids of 16 bytes each.
+    /// The revocation list: rows of 24 bytes, a descriptor id (16) and the moment from which on it is revoked, in seconds,
+    /// big-endian (8).
     pub revoked: &'a [u8],
     /// The host's verdict: 0 signature good, 1 bad, 2 no such key.
     pub verdict: u64,
@@ -86,12 +91,12 @@ fn is_well_formed(with: &Request) -> bool {
         && is_fay_id(with.fay)
         && is_terminal_id(with.terminal)
         && is_resource_id(with.resource)
-        && with.revoked.chunks_exact(16).remainder().is_empty()
+        && with.revoked.chunks_exact(LIST_ROW).remainder().is_empty()
 }
 
 /// The steps from the revocation list to the terminal.
 fn check_descriptor(held: &Reading, with: &Request) -> Result<(), u64> {
-    if with.revoked.chunks(16).any(|id| id == with.id) {
+    if is_revoked(with) {
         Err(DESCRIPTOR_REVOKED)
     } else if with.now < held.numbers.not_before {
         Err(DESCRIPTOR_NOT_YET_VALID)
@@ -104,6 +109,14 @@ fn check_descriptor(held: &Reading, with: &Request) -> Result<(), u64> {
     } else {
         Ok(())
     }
+}
+
+/// Whether some row of the revocation list has the id and a moment that is not after now.
+fn is_revoked(with: &Request) -> bool {
+    with.revoked.chunks(LIST_ROW).any(|row| {
+        let (id, moment) = row.split_at(16);
+        id == with.id && big_endian(moment) <= with.now
+    })
 }
 
 /// The first grant with the mode, a matching pattern and no constraint pair, and its place.

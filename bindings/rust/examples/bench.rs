@@ -6,7 +6,7 @@
 use std::hint::black_box;
 use std::time::{Duration, Instant};
 
-use encoder::{grant, image, Model, Row, FAY, TERMINAL};
+use encoder::{grant, image, revocation, Model, Row, FAY, TERMINAL};
 use reference::{Request, Submission};
 
 #[allow(dead_code)]
@@ -24,8 +24,8 @@ fn main() {
     for grants in [1, 15, 256] {
         reading(grants);
     }
-    for rows in [1, 64] {
-        request(rows);
+    for (rows, revoked) in [(1, 0), (64, 0), (1, 1000)] {
+        request(rows, revoked);
     }
     matching();
     for grants in [1, 16, 256] {
@@ -66,11 +66,13 @@ fn reading(grants: usize) {
     );
 }
 
-/// A request for the last of so many rows.
-fn request(rows: u64) {
+/// A request for the last of so many rows, with a revocation list of so many other ids.
+fn request(rows: u64, revoked: u64) {
     let models: Vec<Model> = (0..rows).map(|number| rooms(1).numbered(number)).collect();
     let held = image(&models.iter().map(Row::of).collect::<Vec<_>>());
     let resource = format!("{TERMINAL}/lab/room-000/camera/front");
+    let others = (rows..rows + revoked).map(|number| revocation(&rooms(1).numbered(number).id, 0));
+    let list = others.collect::<Vec<_>>().concat();
     let asked = Request {
         id: &models[models.len() - 1].id,
         fay: FAY.as_bytes(),
@@ -78,10 +80,11 @@ fn request(rows: u64) {
         resource: resource.as_bytes(),
         now: 2500,
         session_length: 100,
+        revoked: &list,
         ..Request::default()
     };
     race_and_print(
-        &format!("request, rows {rows}"),
+        &format!("request, rows {rows}, revoked {revoked}"),
         || {
             let (a, image) = (black_box(&asked), black_box(&held));
             cap::numbers::request(

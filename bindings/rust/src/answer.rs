@@ -23,7 +23,7 @@ pub enum Answer {
     StorageFull = 6,
     /// The id is not held.
     DescriptorNotFound = 7,
-    /// The id is in the revocation list.
+    /// A row of the revocation list has the id, and its moment is not after now.
     DescriptorRevoked = 8,
     /// The clock is before not_before.
     DescriptorNotYetValid = 9,

@@ -7,10 +7,12 @@
 
 mod answer;
 pub mod numbers;
+mod revocation;
 
 use std::iter::FusedIterator;
 
 pub use answer::Answer;
+pub use revocation::Revocation;
 
 /// The modes, by their numbers.
 #[derive(Clone, Copy, Debug, PartialEq, Eq)]
@@ -64,8 +66,8 @@ pub struct Request<'a> {
     pub now: u64,
     /// The longest session that the host allows, in seconds.
     pub session_length: u64,
-    /// The ids of the revoked descriptors.
-    pub revoked: &'a [[u8; 16]],
+    /// The revocation list, its rows in any order; an id may recur.
+    pub revoked: &'a [Revocation],
     /// The key and the signature.
     pub key: Key,
 }
@@ -150,7 +152,7 @@ pub fn request(image: &[u8], with: &Request) -> Result<numbers::Decision, Answer
         with.mode as u64,
         with.now,
         with.session_length,
-        with.revoked.as_flattened(),
+        revocation::bytes_of(with.revoked),
         with.key.verdict as u64,
         with.key.valid_from,
         u64::from(with.key.valid_until.is_some()),

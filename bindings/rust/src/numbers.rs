@@ -264,7 +264,9 @@ pub fn submit(
     }
 }
 
-/// Decides a request for the stored descriptor with the id; `revoked` is a list of ids of 16 bytes.
+/// Decides a request for the stored descriptor with the id. `revoked` is the revocation list: rows of 24 bytes in any order,
+/// each a descriptor id (16), then the moment from which on it is revoked, in seconds, big-endian (8). An id may recur. A
+/// length that is no multiple of 24 is answered 15.
 #[allow(clippy::too_many_arguments)]
 pub fn request(
     image: &[u8],

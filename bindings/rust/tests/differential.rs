@@ -102,7 +102,9 @@ fn cases_for(slip: Slip) -> Cases {
         Slip::NewImageCleared | Slip::EditionNotRead => cases::images::run,
         Slip::DuplicateAccepted | Slip::TailCleared | Slip::AheadWraps => cases::submissions::run,
         Slip::KeyNeverEnds | Slip::SessionNotCut | Slip::SessionWraps => cases::requests::run,
-        Slip::RevokedIgnored | Slip::ExpiryLate => cases::requests::run,
+        Slip::RevokedIgnored | Slip::RevokedAtOnce | Slip::RevokedLate => cases::requests::run,
+        Slip::RevokedByFirstRow | Slip::RevokedMomentReversed => cases::requests::run,
+        Slip::ExpiryLate => cases::requests::run,
         Slip::HighestMode | Slip::LevelsAlwaysOne => cases::narrowing::run,
     }
 }

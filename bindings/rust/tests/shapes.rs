@@ -4,7 +4,7 @@
 #[path = "support/encoder.rs"]
 mod encoder;
 
-use cap::{numbers, Answer, Key, Mode, Refusal, Request, Verdict};
+use cap::{numbers, Answer, Key, Mode, Refusal, Request, Revocation, Verdict};
 use encoder::{grant, Model, FAY, MODES, TERMINAL};
 
 const GOOD: Key = Key {
@@ -149,9 +149,15 @@ fn a_body_is_stored_found_and_asked_for() {
         cap::request(&image, &write),
         Err(Answer::AuthorizationInsufficient)
     );
-    let revoked = Request {
-        revoked: &[[9; 16], id],
+    let later = [Revocation::new([9; 16], 0), Revocation::new(id, 2501)];
+    let not_yet_revoked = Request {
+        revoked: &later,
         ..asked
+    };
+    assert_eq!(cap::request(&image, &not_yet_revoked), Ok(granted));
+    let revoked = Request {
+        now: 2501,
+        ..not_yet_revoked
     };
     assert_eq!(
         cap::request(&image, &revoked),
@@ -165,6 +171,14 @@ fn a_body_is_stored_found_and_asked_for() {
         ..asked
     };
     assert_eq!(cap::request(&image, &forged), Err(Answer::InvalidSignature));
+}
+
+#[test]
+fn a_row_of_the_revocation_list_has_24_bytes() {
+    const ROW: Revocation = Revocation::new([9; 16], 2501);
+    assert_eq!((size_of_val(&ROW), align_of_val(&ROW)), (24, 1));
+    assert_eq!((ROW.id(), ROW.moment()), (&[9; 16], 2501));
+    assert!(format!("{ROW:?}").ends_with("moment: 2501 }"));
 }
 
 #[test]

@@ -1,23 +1,17 @@
--- Laws of the arguments of a request and of the list of ids (specs/Request.antt of `request_spec`), in the code's own form. Assumes
--- nothing.
-use mathlib.Core.Path.{_≡_, refl, sym, ap, _∙_}
-use mathlib.Core.Bool.{Bool, true, false, _&&_}
-use mathlib.Core.List.{List}
-use Prim.Native.Nat.{ℕ, suc, _+_, _-_, _*_, _/_, _%_, _≤_, _<_}
-use native.Mathlib.Omega.{arith}
-use lib.ListN.{length, take, drop}
+-- Laws of the arguments of a request (specs/Request.antt of `request_spec`), in the code's own form. Assumes nothing.
+use mathlib.Core.Path.{_≡_, sym, _∙_}
+use mathlib.Core.Bool.{true, false, _&&_}
+use Prim.Native.Nat.{_%_, _≤_, _<_}
+use lib.ListN.{length}
 use lib.Dec.{eqb}
 use borrow.Author.Tests.{le-leb, lt-leb, eq-eqb, ne-eqb}
-use Rattle.octets.specs.Bytes.{part, same}
 use Rattle.resource_spec.specs.Identifier.{isFay, isTerminal}
 use Rattle.resource_spec.specs.Text.{resourceOk}
 use Rattle.steps.specs.Key.{isVerdict}
 use Rattle.descriptor_spec.specs.Allowed.{idSize}
-use Rattle.octets.proofs.PartLaws.{lent-part}
 use Rattle.descriptor_spec.specs.Modes.{highestMode}
-use Rattle.request_spec.specs.Request.{Request, wellFormed, listedAmong, isListed}
-
--- ---- the arguments
+use Rattle.revocation_spec.specs.Revocation.{revocationSize}
+use Rattle.request_spec.specs.Request.{Request, wellFormed}
 
 module _ (q : Request) where
   -- another verdict is malformed
@@ -38,7 +32,7 @@ module _ (q : Request) where
   module _ (h : q .verdict ≤ 2) (k : q .mode ≤ highestMode) (l : length (q .id) ≡ idSize) where
     -- else the identifiers tell, and the length of the list
     texts-left : wellFormed q
-        ≡ (isFay (q .fay) && (isTerminal (q .terminal) && (resourceOk (q .resource) && eqb (length (q .revoked) % idSize) 0)))
+        ≡ (isFay (q .fay) && (isTerminal (q .terminal) && (resourceOk (q .resource) && eqb (length (q .revoked) % revocationSize) 0)))
     unfolding wellFormed isVerdict
     texts-left = rw (le-leb (q .verdict) 2 h, le-leb (q .mode) highestMode k, eq-eqb (length (q .id)) idSize l)
 
@@ -56,41 +50,6 @@ module _ (q : Request) where
       no-resource f g = sym (texts-left ∙ rw (e, f, g))
 
       -- else the length of the list tells
-      pub list-left : isTerminal (q .terminal) ≡ true → resourceOk (q .resource) ≡ true → eqb (length (q .revoked) % idSize) 0
+      pub list-left : isTerminal (q .terminal) ≡ true → resourceOk (q .resource) ≡ true → eqb (length (q .revoked) % revocationSize) 0
           ≡ wellFormed q
       list-left f g = sym (texts-left ∙ rw (e, f, g))
-
--- ---- the list of ids
-
--- the whole list is looked through
-pub listed-begin : (revoked id : List ℕ) → isListed revoked id ≡ listedAmong revoked id (length revoked / idSize)
-unfolding isListed
-listed-begin revoked id = refl
-
--- no id is before the first
-pub listed-none : (revoked id : List ℕ) (i : ℕ) → i ≤ 0 → listedAmong revoked id i ≡ false
-unfolding listedAmong
-listed-none revoked id i h = let k : i ≡ 0 = omega arith in ap (listedAmong revoked id) k
-
--- the last of the first ids, and then those before it
-listed-suc : (revoked id : List ℕ) (j : ℕ) (t : Bool) → same (part revoked (idSize * j) idSize) id ≡ t
-    → listedAmong revoked id (suc j) ≡ elim t [ true ↦ true | false ↦ listedAmong revoked id j ]
-unfolding listedAmong
-listed-suc revoked id j t e = rw (e, listedAmong)
-
-module _ (revoked id : List ℕ) (i : ℕ) {b : Bool} (h : 0 < i)
-    (e : b ≡ same (take (idSize * (i - 1) + idSize - idSize * (i - 1)) (drop (idSize * (i - 1)) revoked)) id) where
-  -- the code compares the last of the first i ids
-  last-of : (t : Bool) → b ≡ t → listedAmong revoked id i ≡ elim t [ true ↦ true | false ↦ listedAmong revoked id (i - 1) ]
-  last-of t f =
-      let k : i ≡ suc (i - 1) = omega arith in
-      ap (listedAmong revoked id) k
-      ∙ listed-suc revoked id (i - 1) t (ap (λ (x : List ℕ). same x id) (sym (lent-part revoked (idSize * (i - 1)) idSize)) ∙ sym e ∙ f)
-
-  -- where it is the id, the id is among them
-  pub listed-hit : b ≡ true → listedAmong revoked id i ≡ true
-  listed-hit f = last-of true f
-
-  -- else those before it count
-  pub listed-next : b ≡ false → listedAmong revoked id i ≡ listedAmong revoked id (i - 1)
-  listed-next f = last-of false f

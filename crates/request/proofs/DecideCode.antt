@@ -25,7 +25,7 @@ use Rattle.request.specs.declared.decide.Applicability.{Applicability}
 use Rattle.request.specs.declared.decide.Applicability.the-variants.{Applies, Refused}
 use Rattle.request_spec.specs.declared.Matched.{Matched}
 use Rattle.request_spec.specs.declared.Matched.the-variants.{IsAt, Nothing}
-use Rattle.request_spec.specs.Request.{Request, wellFormed, isListed}
+use Rattle.request_spec.specs.Request.{Request, wellFormed, revokedNow}
 use Rattle.request_spec.specs.Decision.{revocationSteps, descriptorSteps, keySteps, laterSteps, stepsBy, grantedBy, factsOf, firstFrom}
 use Rattle.request_spec.specs.Decision.{matchedOn, decidedOn, factsIn, matchedIn, stepsOf, decisionOf, numbersOf}
 use Rattle.request.specs.Code.{appliesWith, applicabilityOf, signedBy}
@@ -97,7 +97,7 @@ module _ (q : Request) (b : List ℕ) (f : Fields) where
       (λ a. absurd (false≢true (passed-by answerOf 13 (descriptorSteps (factsOf b f) (q .fay) (q .terminal) (q .clock) Nothing) a)))
 
   -- what is decided on a body that is not revoked, by the stage
-  on-stage : isListed (q .revoked) (q .id) ≡ false
+  on-stage : revokedNow q ≡ false
       → afterStage signedWith (applicabilityOf b f (q .fay) (q .terminal) (q .resource) (q .mode) (q .clock)) ≡ decidedOn q b f
   unfolding decidedOn laterSteps revocationSteps applicabilityOf grantedBy inOrder orElse
   on-stage e =
@@ -107,7 +107,7 @@ module _ (q : Request) (b : List ℕ) (f : Fields) where
       (λ grant mask i. ap (λ (n : Matched). inOrder ks (grantedBy q (factsOf b f) n)) i)
       ∙ sym (rw e (order-append (descriptorSteps (factsOf b f) (q .fay) (q .terminal) (q .clock) m) ks (grantedBy q (factsOf b f) m)))
 
-  module _ (e : isListed (q .revoked) (q .id) ≡ false) where
+  module _ (e : revokedNow q ≡ false) where
     -- where a grant serves, what the key and the signature come to is decided
     pub on-applies : (grant mask : ℕ) {x : Decision} → Applies grant mask
         ≡ applicabilityOf b f (q .fay) (q .terminal) (q .resource) (q .mode) (q .clock)
@@ -120,7 +120,7 @@ module _ (q : Request) (b : List ℕ) (f : Fields) where
     on-refused x a = ap (afterStage signedWith) a ∙ on-stage e
 
   -- what is decided on a body that is revoked
-  pub on-revoked : isListed (q .revoked) (q .id) ≡ true → answers.Revoked ≡ decidedOn q b f
+  pub on-revoked : revokedNow q ≡ true → answers.Revoked ≡ decidedOn q b f
   unfolding decidedOn laterSteps revocationSteps inOrder orElse
   on-revoked e = sym (rw e)
 

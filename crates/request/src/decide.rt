@@ -9,6 +9,7 @@ use request_spec::Matched;
 use resource_spec::sizes::FAY_SIZE;
 use resource_spec::sizes::LEVELS_PLACE;
 use resource_spec::sizes::TERMINAL_SIZE;
+use revocation_spec::sizes::REVOCATION_SIZE;
 ghost use mathlib.Core.Path.{_≡_};
 ghost use mathlib.Core.Bool.{true};
 ghost use Prim.Native.Nat.{_+_, _≤_, min};
@@ -16,7 +17,7 @@ ghost use lib.ListN.{length};
 ghost use Rattle.resource_spec.specs.Identifier.{terminalSize};
 ghost use Rattle.resource_spec.specs.Text.{resourceOk};
 ghost use Rattle.descriptor_spec.specs.Modes.{highestMode};
-ghost use Rattle.request_spec.specs.Request.{requestOf, wellFormed, isListed};
+ghost use Rattle.request_spec.specs.Request.{requestOf, wellFormed};
 ghost use Rattle.request_spec.specs.Decision.{matchedOn, decidedOn};
 ghost use Rattle.request.specs.Code.{BodyFits, applicabilityOf, signedBy};
 
@@ -58,22 +59,7 @@ pub(crate) fn well_formed(
     if !resource::is_resource(resource) {
         return false;
     }
-    revoked.len() % ID_SIZE == 0
-}
-
-// Whether the id is in the list.
-fn is_listed(revoked: &[u8], id: &[u8]) -> bool
-    ensures { λ r. ⌜ r ≡ isListed (now (revoked .entry)) (now (id .entry)) ⌝ }
-{
-    let mut i = revoked.len() / ID_SIZE;
-    while 0 < i {
-        i -= 1;
-        let at = ID_SIZE * i;
-        if same_bytes(&revoked[at..at + ID_SIZE], id) {
-            return true;
-        }
-    }
-    false
+    revoked.len() % REVOCATION_SIZE == 0
 }
 
 // The smaller of not_after and the clock and the session length together, which may be more than a number holds.
@@ -180,7 +166,7 @@ pub(crate) fn on_body(
         (requestOf (now (id .entry)) (now (fay .entry)) (now (terminal .entry)) (now (resource .entry)) mode (environment .clock)
         (environment .session) (now (revoked .entry)) (environment .verdict) (environment .window)) (now (body .entry)) fields ⌝ }
 {
-    if is_listed(revoked, id) {
+    if revocation::is_revoked(revoked, id, environment.clock) {
         return Decision::Revoked;
     }
     match check_descriptor(

@@ -1,7 +1,7 @@
 -- What well-formed arguments of a request say (specs/Request.antt). Assumes nothing.
 use mathlib.Core.Path.{_≡_}
 use mathlib.Core.Bool.{true}
-use Prim.Native.Nat.{_%_, _≤_}
+use Prim.Native.Nat.{_≤_}
 use lib.ListN.{length}
 use lib.Dec.{leb, eqb}
 use borrow.Author.Tests.{leb-true}
@@ -23,7 +23,7 @@ module _ (q : Request) (w : wellFormed q ≡ true) where
   pub formed-resource : resourceOk (q .resource) ≡ true
   unfolding wellFormed
   formed-resource =
-      and-left (resourceOk (q .resource)) (eqb (length (q .revoked) % idSize) 0)
+      and-left (resourceOk (q .resource)) _
       (and-right (isTerminal (q .terminal)) _
       (and-right (isFay (q .fay)) _
       (and-right (eqb (length (q .id)) idSize) _ (and-right (leb (q .mode) highestMode) _ (and-right (isVerdict (q .verdict)) _ w)))))

@@ -6,7 +6,7 @@ use Prim.Native.Nat.{ℕ, _≤_, _<_}
 use native.Mathlib.Omega.{arith}
 use borrow.Author.Tests.{le-leb, lt-leb, lt-ltb, le-ltb}
 use Rattle.descriptor_spec.specs.Model.{Descriptor}
-use Rattle.request_spec.specs.Request.{Request, isListed}
+use Rattle.request_spec.specs.Request.{Request, revokedNow}
 use Rattle.request_spec.specs.Decision.{decisionOf, numbersOf}
 use Rattle.request_spec.specs.Promises.{held, Under, refusal, formed, stepsFor, grantedFor, BeginBoundary, EndBoundary}
 use Rattle.request_spec.proofs.NumberLaws.{answerOf, decided-exactly, refusals-zero}
@@ -15,7 +15,7 @@ use Rattle.steps.proofs.Laws.{not-by, failed-by}
 
 module _ (s : List ℕ) (q : Request) (d : Descriptor) (u : Under s (q .id) (held d)) where
   -- the answer is no number but 0 that only steps have which pass
-  not-answered : (n : ℕ) → (0 ≡ n → ⊥) → passesBy answerOf n (stepsFor q (held d)) ≡ true → numbersOf (decisionOf s q) .answer ≡ n → ⊥
+  pub not-answered : (n : ℕ) → (0 ≡ n → ⊥) → passesBy answerOf n (stepsFor q (held d)) ≡ true → numbersOf (decisionOf s q) .answer ≡ n → ⊥
   not-answered n other k z =
       let e = sym (ap answerOf (decided-exactly s q (held d) u)) ∙ z in
       other (sym (ap answerOf (not-by answerOf n (stepsFor q (held d)) (grantedFor q (held d)) k e .1)) ∙ e)
@@ -29,13 +29,13 @@ module _ (s : List ℕ) (q : Request) (d : Descriptor) (u : Under s (q .id) (hel
   )
 
   -- where a step of the number n fails and those before it pass, the answer is n
-  answered : (n : ℕ) → (n ≡ 0 → ⊥) → failsBy answerOf n (stepsFor q (held d)) ≡ true → numbersOf (decisionOf s q) ≡ refusal n
+  pub answered : (n : ℕ) → (n ≡ 0 → ⊥) → failsBy answerOf n (stepsFor q (held d)) ≡ true → numbersOf (decisionOf s q) ≡ refusal n
   answered n other e =
       let z : numbersOf (decisionOf s q) .answer ≡ n =
       ap answerOf (decided-exactly s q (held d) u) ∙ failed-by answerOf n (stepsFor q (held d)) (grantedFor q (held d)) e in
       refusals-zero s q (λ o. other (sym z ∙ o)) ∙ ap refusal z
 
-  module _ (w : formed q ≡ true) (l : isListed (q .revoked) (q .id) ≡ false) where
+  module _ (w : formed q ≡ true) (l : revokedNow q ≡ false) where
     -- before not_before the answer is 9, where the steps before pass
     too-early : q .clock < d .payload .notBefore → numbersOf (decisionOf s q) ≡ refusal 9
     too-early h = answered 9 (λ e. omega arith) (rw (w, l, lt-leb (d .payload .notBefore) (q .clock) h))

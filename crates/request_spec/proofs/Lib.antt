@@ -1,5 +1,4 @@
 pub mod ArgumentLaws
-pub mod ListedLaws
 pub mod HeldLaws
 pub mod GrantLaws
 pub mod MeaningLaws
@@ -7,6 +6,7 @@ pub mod ServingLaws
 pub mod UnderLaws
 pub mod NumberLaws
 pub mod BoundaryLaws
+pub mod RevocationLaws
 pub mod GivenLaws
 pub mod StoredLaws
 pub mod Promises

@@ -1,12 +1,12 @@
 -- The promises of specs/Promises.antt, each from its law. Assumes nothing.
 use mathlib.Core.Path.{refl}
-use Rattle.request_spec.specs.Promises.{ArgumentsInOrder, ListedExactly, AllStored, DecidedExactly, GrantedExactly, RefusedExactly}
+use Rattle.request_spec.specs.Promises.{ArgumentsInOrder, AllStored, DecidedExactly, GrantedExactly, RefusedExactly}
 use Rattle.request_spec.specs.Promises.{RefusalsZero, EditionsRefused, GrantedGives, BeginBoundary, EndBoundary, StoredDecided}
-use Rattle.request_spec.specs.Promises.{OthersDecided}
-use Rattle.request_spec.proofs.ListedLaws as listed
+use Rattle.request_spec.specs.Promises.{OthersDecided, RevokedRefused, RowMoreRefuses, EarlyRowWaits, StaysRevoked}
 use Rattle.request_spec.proofs.UnderLaws as under
 use Rattle.request_spec.proofs.NumberLaws as numbers
 use Rattle.request_spec.proofs.GivenLaws as given
+use Rattle.request_spec.proofs.RevocationLaws as revocation
 use Rattle.request_spec.proofs.BoundaryLaws as boundary
 use Rattle.request_spec.proofs.StoredLaws as stored
 
@@ -14,9 +14,6 @@ use Rattle.request_spec.proofs.StoredLaws as stored
 
 pub arguments-in-order : ArgumentsInOrder
 arguments-in-order id fay terminal resource mode clock session revoked verdict window = refl
-
-pub listed-exactly : ListedExactly
-listed-exactly = listed.listed-exactly
 
 -- ---- what an image holds under an id
 
@@ -44,6 +41,20 @@ editions-refused = numbers.editions-refused
 
 pub granted-gives : GrantedGives
 granted-gives = given.granted-gives
+
+-- ---- the revocation list
+
+pub revoked-refused : RevokedRefused
+revoked-refused = revocation.revoked-refused
+
+pub row-more-refuses : RowMoreRefuses
+row-more-refuses = revocation.row-more-refuses
+
+pub early-row-waits : EarlyRowWaits
+early-row-waits = revocation.early-row-waits
+
+pub stays-revoked : StaysRevoked
+stays-revoked = revocation.stays-revoked
 
 -- ---- both sides of not_before and not_after
 

@@ -24,7 +24,7 @@ use Rattle.request_spec.specs.declared.DecisionNumbers.{DecisionNumbers}
 use Rattle.request_spec.specs.declared.Decision.the-variants as answers
 use Rattle.request_spec.specs.declared.Matched.{Matched}
 use Rattle.request_spec.specs.declared.Matched.the-variants.{IsAt, Nothing}
-use Rattle.request_spec.specs.Request.{Request, wellFormed, isListed}
+use Rattle.request_spec.specs.Request.{Request, wellFormed, revokedNow}
 
 -- ---- the steps
 
@@ -40,9 +40,9 @@ abbrev pub isMatched : Matched → Bool
 isMatched (IsAt grant mask) = true
 isMatched Nothing = false
 
--- 8: the id is revoked
+-- 8: the id is revoked now
 unfoldable pub revocationSteps : Request → List (Step Decision)
-revocationSteps q = step (not (isListed (q .revoked) (q .id))) answers.Revoked ∷ []
+revocationSteps q = step (not (revokedNow q)) answers.Revoked ∷ []
 
 -- 9 to 13: the descriptor's period, its subject, its terminal, and a grant that serves
 unfoldable pub descriptorSteps : Facts → List ℕ → List ℕ → ℕ → Matched → List (Step Decision)

@@ -2,7 +2,7 @@
 use mathlib.Core.Path.{_≡_}
 use mathlib.Core.Logic.{_↔_, _⊎_}
 use mathlib.Core.Bool.{Bool, true, false, not, cond, _&&_, _||_}
-use mathlib.Core.List.{List, [], _∷_}
+use mathlib.Core.List.{List, [], _∷_, _++_}
 use Prim.Native.Nat.{ℕ, _+_, _*_, _%_, _≤_, _<_, min}
 use lib.ListN.{length, getD}
 use lib.Dec.{leb, ltb, eqb}
@@ -15,13 +15,14 @@ use Rattle.entries_spec.specs.Model.{pairCount}
 use Rattle.descriptor_spec.specs.Model.{Grant, Descriptor, encode}
 use Rattle.descriptor_spec.specs.Allowed.{isIn, Allowed}
 use Rattle.descriptor_spec.specs.Modes.{unionOf}
+use Rattle.revocation_spec.specs.Revocation.{isRevoked, revocationsOf}
 use Rattle.steps.specs.declared.Window.{Window}
 use Rattle.steps.specs.Order.{Step, step, inOrder, AllPass, FirstFails}
 use Rattle.image_spec.specs.Image.{Row, rowOf}
 use Rattle.image_spec.specs.Edition1.{Holds}
 use Rattle.submission_spec.specs.Submission.{submitted, afterOf, numberOf}
 use Rattle.request_spec.specs.declared.DecisionNumbers.{DecisionNumbers}
-use Rattle.request_spec.specs.Request.{Request, requestOf, isListed}
+use Rattle.request_spec.specs.Request.{Request, requestOf}
 use Rattle.request_spec.specs.Decision.{decisionOf, numbersOf}
 
 -- ---- the arguments
@@ -42,11 +43,6 @@ ArgumentsInOrder = (id fay terminal resource : List ℕ) (mode clock session : �
       verdict = verdict;
       window = window;
     }
-
--- an id is in the revocation list exactly when it is one of its parts of 16 bytes
-abbrev pub ListedExactly : Type 0
-ListedExactly = (revoked id : List ℕ) → (isListed revoked id ≡ true)
-    ↔ ((i : ℕ) × (16 * (i + 1) ≤ length revoked) × (part revoked (16 * i) 16 ≡ id))
 
 -- ---- what an image holds under an id
 
@@ -83,14 +79,14 @@ abbrev pub refusal : ℕ → DecisionNumbers
 refusal n = record { answer = n; grant = 0; mask = 0; «session_end» = 0 }
 
 -- the arguments are well formed: the verdict is not above 2, the mode not above 3, the id 16 bytes; the fay, terminal and resource ids
--- are well formed, the last at most 256 bytes; the revocation list is a multiple of 16
+-- are well formed, the last at most 256 bytes; the revocation list is a multiple of 24
 abbrev pub formed : Request → Bool
 formed q =
     leb (q .verdict) 2
     && (leb (q .mode) 3
     && (eqb (length (q .id)) 16
     && (isFay (q .fay)
-    && (isTerminal (q .terminal) && ((leb (length (q .resource)) 256 && isResource (q .resource)) && eqb (length (q .revoked) % 16) 0)))))
+    && (isTerminal (q .terminal) && ((leb (length (q .resource)) 256 && isResource (q .resource)) && eqb (length (q .revoked) % 24) 0)))))
 
 -- a grant serves: it has the mode, a matching pattern and no constraint pair
 abbrev pub grantServes : Grant → ℕ → Path → Bool
@@ -113,7 +109,7 @@ stepsFor q (held d) =
     step (formed q) (refusal 15)
     ∷ step true (refusal 16)
     ∷ step true (refusal 7)
-    ∷ step (not (isListed (q .revoked) (q .id))) (refusal 8)
+    ∷ step (not (isRevoked (revocationsOf (q .revoked)) (q .id) (q .clock))) (refusal 8)
     ∷ step (leb (d .payload .notBefore) (q .clock)) (refusal 9)
     ∷ step (ltb (q .clock) (d .payload .notAfter)) (refusal 10)
     ∷ step (same (d .payload .fay) (q .fay)) (refusal 11)
@@ -193,20 +189,59 @@ GrantedGives = (s : List ℕ) (q : Request) → AreBytes s → numbersOf (decisi
     × ((g : Grant) × FirstServes q d (numbersOf (decisionOf s q) .grant) g × (numbersOf (decisionOf s q) .mask ≡ unionOf (g ∷ [])))
     × (numbersOf (decisionOf s q) .«session_end» ≡ min (d .payload .notAfter) (q .clock + q .session))
 
+-- ---- the revocation list: rows of an id and a moment
+
+-- a request for a descriptor that is held is answered 8 exactly when its arguments are well formed and there is a row of 24 bytes whose
+-- first 16 are the id, and whose last 8 are a moment, big-endian, that is not after now
+abbrev pub RevokedRefused : Type 0
+RevokedRefused = (s : List ℕ) (q : Request) (d : Descriptor) → Under s (q .id) (held d)
+    → (numbersOf (decisionOf s q) ≡ refusal 8)
+    ↔ ((formed q ≡ true)
+    × ((i : ℕ) × (24 * (i + 1) ≤ length (q .revoked)) × (part (q .revoked) (24 * i) 16 ≡ q .id)
+    × (numberAt (q .revoked) (24 * i + 16) 8 ≤ q .clock)))
+
+-- the same request with another revocation list
+abbrev pub withRevoked : Request → List ℕ → Request
+withRevoked q revoked =
+    requestOf (q .id) (q .fay) (q .terminal) (q .resource) (q .mode) (q .clock) (q .session) revoked (q .verdict) (q .window)
+
+-- a row more, wherever it stands among the others, leaves the answer or makes it 8; so it never turns a refusal into a grant
+abbrev pub RowMoreRefuses : Type 0
+RowMoreRefuses = (s : List ℕ) (q : Request) (before row after : List ℕ) → length before % 24 ≡ 0 → length row ≡ 24
+    → (numbersOf (decisionOf s (withRevoked q (before ++ (row ++ after)))) ≡ numbersOf (decisionOf s (withRevoked q (before ++ after))))
+    ⊎ (numbersOf (decisionOf s (withRevoked q (before ++ (row ++ after)))) ≡ refusal 8)
+
+-- a row whose moment is after now leaves the answer
+abbrev pub EarlyRowWaits : Type 0
+EarlyRowWaits = (s : List ℕ) (q : Request) (before row after : List ℕ) → length before % 24 ≡ 0 → length row ≡ 24
+    → q .clock < numberAt row 16 8
+    → numbersOf (decisionOf s (withRevoked q (before ++ (row ++ after)))) ≡ numbersOf (decisionOf s (withRevoked q (before ++ after)))
+
+-- the same request at another clock
+abbrev pub atClock : Request → ℕ → Request
+atClock q clock =
+    requestOf (q .id) (q .fay) (q .terminal) (q .resource) (q .mode) clock (q .session) (q .revoked) (q .verdict) (q .window)
+
+-- a request that is answered 8 is answered 8 at each later clock
+abbrev pub StaysRevoked : Type 0
+StaysRevoked = (s : List ℕ) (q : Request) (later : ℕ) → AreBytes s → q .clock ≤ later → numbersOf (decisionOf s q) ≡ refusal 8
+    → numbersOf (decisionOf s (atClock q later)) ≡ refusal 8
+
 -- ---- both sides of not_before and not_after
 
 -- now = not_before is answered neither 9 nor 10; one second before it 9 is answered, where the steps before pass
 abbrev pub BeginBoundary : Type 0
 BeginBoundary = (s : List ℕ) (q : Request) (d : Descriptor) → Under s (q .id) (held d)
     → (q .clock ≡ d .payload .notBefore → (numbersOf (decisionOf s q) .answer ≡ 9 → ⊥) × (numbersOf (decisionOf s q) .answer ≡ 10 → ⊥))
-    × (q .clock + 1 ≡ d .payload .notBefore → formed q ≡ true → isListed (q .revoked) (q .id) ≡ false
+    × (q .clock + 1 ≡ d .payload .notBefore → formed q ≡ true → isRevoked (revocationsOf (q .revoked)) (q .id) (q .clock) ≡ false
     → numbersOf (decisionOf s q) ≡ refusal 9)
 
 -- one second before not_after is answered neither 9 nor 10; now = not_after is answered 10, where the steps before pass
 abbrev pub EndBoundary : Type 0
 EndBoundary = (s : List ℕ) (q : Request) (d : Descriptor) → Under s (q .id) (held d)
     → (q .clock + 1 ≡ d .payload .notAfter → (numbersOf (decisionOf s q) .answer ≡ 9 → ⊥) × (numbersOf (decisionOf s q) .answer ≡ 10 → ⊥))
-    × (q .clock ≡ d .payload .notAfter → formed q ≡ true → isListed (q .revoked) (q .id) ≡ false → numbersOf (decisionOf s q) ≡ refusal 10)
+    × (q .clock ≡ d .payload .notAfter → formed q ≡ true → isRevoked (revocationsOf (q .revoked)) (q .id) (q .clock) ≡ false
+    → numbersOf (decisionOf s q) ≡ refusal 10)
 
 -- ---- with submission
 

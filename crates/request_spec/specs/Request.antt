@@ -1,20 +1,20 @@
--- A request's arguments, and which are well formed. Document 01, "A request, in this order".
-use mathlib.Core.Bool.{Bool, true, false, _&&_}
+-- A request's arguments, and which are well formed. Document 01, "A request, in this order", as document 02 §2 amends it.
+use mathlib.Core.Bool.{Bool, _&&_}
 use mathlib.Core.List.{List}
-use Prim.Native.Nat.{ℕ, zero, suc, _*_, _/_, _%_}
+use Prim.Native.Nat.{ℕ, _%_}
 use lib.ListN.{length}
 use lib.Dec.{leb, eqb}
-use Rattle.octets.specs.Bytes.{part, same}
 use Rattle.resource_spec.specs.Identifier.{isFay, isTerminal}
 use Rattle.resource_spec.specs.Text.{resourceOk}
 use Rattle.steps.specs.declared.Window.{Window}
 use Rattle.steps.specs.Key.{isVerdict}
 use Rattle.descriptor_spec.specs.Allowed.{idSize}
 use Rattle.descriptor_spec.specs.Modes.{highestMode}
+use Rattle.revocation_spec.specs.Revocation.{isRevoked, revocationSize, revocationsOf}
 
 -- the arguments of a request but for the image: the descriptor's id, the fay, the terminal and the resource that ask; the mode; the
--- clock and the host's session length, in seconds; the ids that are revoked, one after the other; the host's verdict on the signature,
--- and the key's window
+-- clock and the host's session length, in seconds; the bytes of the revocation list; the host's verdict on the signature, and the key's
+-- window
 pub record Request : Type 0 where
   pub id : List ℕ
   pub fay : List ℕ
@@ -49,13 +49,8 @@ wellFormed q =
     isVerdict (q .verdict)
     && (leb (q .mode) highestMode
     && (eqb (length (q .id)) idSize
-    && (isFay (q .fay) && (isTerminal (q .terminal) && (resourceOk (q .resource) && eqb (length (q .revoked) % idSize) 0)))))
+    && (isFay (q .fay) && (isTerminal (q .terminal) && (resourceOk (q .resource) && eqb (length (q .revoked) % revocationSize) 0)))))
 
--- the id is one of the first n of the list
-unfoldable pub listedAmong : List ℕ → List ℕ → ℕ → Bool
-listedAmong revoked id zero = false
-listedAmong revoked id (suc n) = elim (same (part revoked (idSize * n) idSize) id) [ true ↦ true | false ↦ listedAmong revoked id n ]
-
--- the id is in the list
-unfoldable pub isListed : List ℕ → List ℕ → Bool
-isListed revoked id = listedAmong revoked id (length revoked / idSize)
+-- a row of the list revokes the id now
+abbrev pub revokedNow : Request → Bool
+revokedNow q = isRevoked (revocationsOf (q .revoked)) (q .id) (q .clock)

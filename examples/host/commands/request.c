@@ -68,7 +68,8 @@ static void print_reason(const request *r, uint64_t answer, const judgement *jud
 
 /* Says whether a refusal of a request came from the clock. */
 static bool clock_decided(uint64_t answer) {
-    return answer == CAP_DESCRIPTOR_NOT_YET_VALID || answer == CAP_DESCRIPTOR_EXPIRED || answer == CAP_VERIFICATION_KEY_INVALID;
+    return answer == CAP_DESCRIPTOR_REVOKED || answer == CAP_DESCRIPTOR_NOT_YET_VALID || answer == CAP_DESCRIPTOR_EXPIRED ||
+           answer == CAP_VERIFICATION_KEY_INVALID;
 }
 
 /* Prints a refused request, with what was compared in the step that failed. */

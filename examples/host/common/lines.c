@@ -1,4 +1,6 @@
 /* Text files that have one entry a line. */
+#define _POSIX_C_SOURCE 200809L
+
 #include "lines.h"
 
 #include <stdio.h>
@@ -67,4 +69,17 @@ bool lines_read(const char *path, line_taker *take, void *taker) {
     bool taken = end_text(path, &file) && take_lines(path, (char *)file.bytes, take, taker);
     file_free(&file);
     return taken;
+}
+
+/* Cuts a line into its fields. */
+size_t cut_fields(char *line, char *fields[], size_t most) {
+    size_t count = 0;
+    char *rest = NULL;
+    for (char *field = strtok_r(line, " \t", &rest); field != NULL; field = strtok_r(NULL, " \t", &rest)) {
+        if (count == most) {
+            return most + 1;
+        }
+        fields[count++] = field;
+    }
+    return count;
 }

@@ -1,6 +1,4 @@
 /* The host's verification keys, from a key file. */
-#define _POSIX_C_SOURCE 200809L
-
 #include "keys.h"
 
 #include <stdio.h>
@@ -78,19 +76,6 @@ static EVP_PKEY *key_from_field(const char *key_file, uint64_t algorithm, const 
     return parse_hex(field, bytes, sizeof bytes, &len) ? public_key_from_bytes(algorithm, bytes, len) : NULL;
 }
 
-/* Cuts a line into its fields, in place; answers how many there are, or one more than the most where there are more. */
-static size_t cut_fields(char *line, char *fields[FIELDS_MAX]) {
-    size_t count = 0;
-    char *rest = NULL;
-    for (char *field = strtok_r(line, " \t", &rest); field != NULL; field = strtok_r(NULL, " \t", &rest)) {
-        if (count == FIELDS_MAX) {
-            return FIELDS_MAX + 1;
-        }
-        fields[count++] = field;
-    }
-    return count;
-}
-
 /* Reads a key from its fields; answers what is wrong, or null. A key is owned by `key` only where nothing is wrong. */
 static const char *key_from_fields(const char *key_file, char *const fields[], size_t count, verification_key *key) {
     if (count < FIELDS_MIN || count > FIELDS_MAX) {
@@ -132,7 +117,7 @@ static const char *take_line(void *taker, const char *path, char *line) {
     key_list *list = taker;
     char *fields[FIELDS_MAX];
     verification_key key = {0};
-    size_t count = cut_fields(line, fields);
+    size_t count = cut_fields(line, fields, FIELDS_MAX);
     const char *wrong = key_from_fields(path, fields, count, &key);
     if (wrong != NULL) {
         return wrong;

@@ -1,4 +1,4 @@
-/* The host's revocation list, from a text file. */
+/* The host's revocation list, from a revocation file. */
 #include "revocations.h"
 
 #include <stdlib.h>
@@ -8,28 +8,58 @@
 #include "files.h"
 #include "lines.h"
 
-/* Takes one line with a descriptor id into the list; answers what is wrong, or null. */
-static const char *take_line(void *taker, const char *path, char *line) {
-    revocation_list *list = taker;
-    uint8_t id[ID_LEN];
-    (void)path;
-    if (!parse_id(line, id)) {
-        return "the line isn't a descriptor id (a UUID text)";
+/* The most fields of a line, and the length of a row: a descriptor id and a moment. */
+enum { FIELDS_MAX = 2, MOMENT_LEN = 8, ROW_LEN = ID_LEN + MOMENT_LEN };
+
+/* Writes a moment, big-endian. */
+static void put_moment(uint8_t bytes[MOMENT_LEN], uint64_t moment) {
+    for (size_t place = MOMENT_LEN; place > 0; place--) {
+        bytes[place - 1] = (uint8_t)(moment & 0xff);
+        moment >>= 8;
     }
-    uint8_t *longer = realloc(list->bytes, list->len + ID_LEN);
+}
+
+/* Makes a row from the fields of a line; answers what is wrong, or null. */
+static const char *row_from_fields(char *const fields[], size_t count, uint8_t row[ROW_LEN]) {
+    uint64_t moment = 0;
+    if (count > FIELDS_MAX) {
+        return "a revocation has 1 or 2 fields";
+    }
+    if (!parse_id(fields[0], row)) {
+        return "the descriptor id isn't a UUID text";
+    }
+    if (count == FIELDS_MAX && !parse_number(fields[1], &moment)) {
+        return "the moment isn't a number of seconds";
+    }
+    put_moment(row + ID_LEN, moment);
+    return NULL;
+}
+
+/* Adds a row to the list; answers what is wrong, or null. */
+static const char *add_row(revocation_list *list, const uint8_t row[ROW_LEN]) {
+    uint8_t *longer = realloc(list->bytes, list->len + ROW_LEN);
     if (longer == NULL) {
         return "no memory";
     }
-    memcpy(longer + list->len, id, ID_LEN);
+    memcpy(longer + list->len, row, ROW_LEN);
     list->bytes = longer;
-    list->len += ID_LEN;
+    list->len += ROW_LEN;
     return NULL;
+}
+
+/* Takes one line of a revocation file into the list; answers what is wrong, or null. */
+static const char *take_line(void *taker, const char *path, char *line) {
+    char *fields[FIELDS_MAX];
+    uint8_t row[ROW_LEN];
+    (void)path;
+    const char *wrong = row_from_fields(fields, cut_fields(line, fields, FIELDS_MAX), row);
+    return wrong != NULL ? wrong : add_row(taker, row);
 }
 
 /* Reads a revocation file, or makes an empty list. */
 bool revocations_read(const char *path, revocation_list *list) {
     list->len = 0;
-    list->bytes = malloc(ID_LEN);
+    list->bytes = malloc(ROW_LEN);
     if (list->bytes == NULL) {
         tell_error("cannot keep the revocation list", path == NULL ? "an empty one" : path, "no memory");
         return false;

@@ -1,4 +1,12 @@
-/* The host's revocation list, from a text file with one descriptor id (a UUID text) a line. */
+/* The host's revocation list, from a revocation file.
+ *
+ * A revocation file is text with one line a row, its fields parted by blanks:
+ *
+ *     ID [MOMENT]
+ *
+ * ID is a descriptor id, a UUID text. MOMENT is that from which on it is revoked, in seconds since 1970; without MOMENT it is revoked from the
+ * start. An id may stand in several lines. Lines of blanks only and lines that begin with # are passed over.
+ */
 #ifndef HOST_REVOCATIONS_H
 #define HOST_REVOCATIONS_H
 
@@ -6,7 +14,7 @@
 #include <stddef.h>
 #include <stdint.h>
 
-/* The list as the gate takes it: ids of 16 bytes, back to back. `bytes` is never null after a successful read. */
+/* The list as the gate takes it: rows of 24 bytes, back to back. `bytes` is never null after a successful read. */
 typedef struct revocation_list {
     uint8_t *bytes;
     size_t len;

@@ -1,4 +1,4 @@
-//! Requests: each step failing alone and in pairs and threes, each limit, and random patterns and paths.
+//! Requests: each step failing alone and in pairs and threes, each limit, revocation lists, and random patterns and paths.
 
 use reference::Request;
 
@@ -7,7 +7,7 @@ use super::images::some_rows;
 use super::paths::{any_levels, any_name};
 use crate::compare::Compare;
 use crate::encoder::{
-    grant, image, modes_of, Grant, Model, Row, FAY, MODES, OTHER_TERMINAL, TERMINAL,
+    grant, image, modes_of, revocation, Grant, Model, Row, FAY, MODES, OTHER_TERMINAL, TERMINAL,
 };
 use crate::random::Random;
 
@@ -32,6 +32,11 @@ pub fn run(compare: &mut Compare, random: &mut Random, rounds: usize) {
     texts(compare);
     clocks(compare);
     revocation_lists(compare, random);
+    revocation_moments(compare);
+    revocation_bytes(compare);
+    for _ in 0..rounds {
+        random_revocations(compare, random);
+    }
     for _ in 0..2 * rounds {
         random_request(compare, random);
     }
@@ -86,7 +91,7 @@ impl Asked {
             fay: model.fay.clone().into(),
             terminal: model.terminal.clone().into(),
             resource: format!("{}/a/b", model.terminal).into(),
-            revoked: vec![0xee; 32],
+            revoked: vec![0xee; 48],
             mode: 0,
             now: model.not_before,
             session_length: 100,
@@ -161,7 +166,8 @@ fn malformed() -> Vec<Change> {
         |a| a.resource.resize(256, b'x'),
         |a| a.resource.resize(257, b'x'),
         |a| a.revoked.push(0),
-        |a| a.revoked.truncate(31),
+        |a| a.revoked.truncate(47),
+        |a| a.revoked.truncate(16),
         |a| set(&mut a.image, 3, 2),
         |a| a.image.truncate(8 + 32 * 4),
         |a| a.image.clear(),
@@ -173,9 +179,14 @@ fn later_steps() -> Vec<Change> {
     vec![
         |a| a.id = vec![0x99; 16],
         |a| a.id = some_rows()[2].id.clone(),
-        |a| a.revoked = a.id.clone(),
-        |a| a.revoked.extend(a.id.clone()),
-        |a| a.revoked = [&[1; 8], &a.id[..], &[1; 8]].concat(),
+        |a| a.revoked = revocation(&a.id, 0),
+        |a| a.revoked = revocation(&a.id, a.now.saturating_sub(1)),
+        |a| a.revoked = revocation(&a.id, a.now),
+        |a| a.revoked = revocation(&a.id, a.now.saturating_add(1)),
+        |a| a.revoked = revocation(&a.id, u64::MAX),
+        |a| a.revoked.extend(revocation(&a.id, a.now)),
+        |a| a.revoked.extend(revocation(&a.id, a.now.saturating_add(1))),
+        |a| a.revoked = [&[0; 8], &a.id[..], &[0; 24]].concat(),
         |a| a.revoked.clear(),
         |a| a.now = 0,
         |a| a.now = 1999,
@@ -288,18 +299,73 @@ fn clocks(compare: &mut Compare) {
     }
 }
 
-/// Lists with the id at each place, at no place, and across two places.
+/// Lists with a row of the id at each place, at no place, and across two rows.
 fn revocation_lists(compare: &mut Compare, random: &mut Random) {
     for length in [0, 1, 2, 3, 10, 100] {
-        let others = random.bytes(16 * length);
-        for at in 0..=others.len().min(64) {
+        let others = random.bytes(24 * length);
+        for at in 0..=others.len().min(72) {
             let mut asked = Asked::fine();
-            asked.revoked = [&others[..at], &asked.id, &others[at..]].concat();
+            let row = revocation(&asked.id, asked.now);
+            asked.revoked = [&others[..at], &row, &others[at..]].concat();
             asked.run(compare);
-            asked.revoked.truncate(16 * length);
+            asked.revoked.truncate(24 * length);
             asked.run(compare);
         }
     }
+}
+
+/// A row and two rows of the id, with moments around the clock, at the ends, and with the clock's bytes the other way round.
+fn revocation_moments(compare: &mut Compare) {
+    let last = u64::MAX;
+    for now in [0, 1, 1999, 2000, 2999, 3000, 1 << 56, last - 1, last] {
+        let mut asked = Asked::fine();
+        asked.now = now;
+        let (before, after) = (now.wrapping_sub(1), now.wrapping_add(1));
+        let rows = [0, before, now, after, last, now.swap_bytes()]
+            .map(|moment| revocation(&asked.id, moment));
+        for first in &rows {
+            asked.revoked = first.clone();
+            asked.run(compare);
+            for second in &rows {
+                asked.revoked = [&first[..], second].concat();
+                asked.run(compare);
+            }
+        }
+    }
+}
+
+/// Rows of the id with each bit changed, and cut to each length.
+fn revocation_bytes(compare: &mut Compare) {
+    let fine = Asked::fine();
+    let row = revocation(&fine.id, fine.now);
+    for bit in 0..8 * row.len() {
+        let mut asked = fine.clone();
+        asked.revoked = row.clone();
+        asked.revoked[bit / 8] ^= 1 << (bit % 8);
+        asked.run(compare);
+    }
+    for length in 0..=3 * row.len() {
+        let mut asked = fine.clone();
+        asked.revoked = row.repeat(3);
+        asked.revoked.truncate(length);
+        asked.run(compare);
+    }
+}
+
+/// A list of few ids, with moments near the clock.
+fn random_revocations(compare: &mut Compare, random: &mut Random) {
+    let mut asked = Asked::fine();
+    asked.now = *random.pick(&[0, 1999, 2000, 2500, 2999, 3000, u64::MAX]);
+    let mut ids = vec![asked.id.clone(); 3];
+    ids[1][0] ^= 1;
+    ids[2][15] ^= 1;
+    asked.revoked.clear();
+    for _ in 0..random.below(8) {
+        let id: &Vec<u8> = random.pick(&ids);
+        let moment = asked.now.wrapping_add(random.below(7) as u64);
+        asked.revoked.extend(revocation(id, moment.wrapping_sub(2)));
+    }
+    asked.run(compare);
 }
 
 /// A descriptor of random grants, and a request that one of them often serves.

@@ -273,6 +273,11 @@ fn pairs_value(pairs: &Pairs) -> Value {
     )
 }
 
+/// A row of the revocation list.
+pub fn revocation(id: &[u8], moment: u64) -> Vec<u8> {
+    [id, &moment.to_be_bytes()].concat()
+}
+
 /// A row of an image to be written.
 #[derive(Clone, Debug)]
 pub struct Row {

@@ -1,5 +1,7 @@
 //! The two implementations under one set of calls, and wrong ones that a comparison has to notice.
 
+use std::collections::HashSet;
+
 use reference::{Request, Submission};
 
 /// An implementation of the gate; each call answers with all its numbers in the order of `include/cap.h`.
@@ -141,13 +143,17 @@ pub enum Slip {
     SessionNotCut,
     SessionWraps,
     RevokedIgnored,
+    RevokedAtOnce,
+    RevokedLate,
+    RevokedByFirstRow,
+    RevokedMomentReversed,
     ExpiryLate,
     HighestMode,
     LevelsAlwaysOne,
 }
 
 /// All slips.
-pub const SLIPS: [Slip; 17] = [
+pub const SLIPS: [Slip; 21] = [
     Slip::EmptyStringAtZero,
     Slip::LongerHeadRead,
     Slip::PeriodOneShort,
@@ -162,6 +168,10 @@ pub const SLIPS: [Slip; 17] = [
     Slip::SessionNotCut,
     Slip::SessionWraps,
     Slip::RevokedIgnored,
+    Slip::RevokedAtOnce,
+    Slip::RevokedLate,
+    Slip::RevokedByFirstRow,
+    Slip::RevokedMomentReversed,
     Slip::ExpiryLate,
     Slip::HighestMode,
     Slip::LevelsAlwaysOne,
@@ -246,11 +256,11 @@ impl Gate for Wrong {
 
     fn request(&self, image: &[u8], with: &Request) -> Vec<u64> {
         let mut with = *with;
-        match self.0 {
-            Slip::KeyNeverEnds => with.has_valid_until = 0,
-            Slip::RevokedIgnored => with.revoked = &[],
-            _ => {}
+        if self.0 == Slip::KeyNeverEnds {
+            with.has_valid_until = 0;
         }
+        let revoked = misread(self.0, with.revoked);
+        with.revoked = &revoked;
         let mut decision = Ordinary.request(image, &with);
         let sum = with.now.checked_add(with.session_length);
         match (self.0, decision[0]) {
@@ -278,6 +288,33 @@ impl Gate for Wrong {
         }
         narrowing
     }
+}
+
+/// A revocation list as a slip reads its rows; one that isn't of whole rows stays as it is.
+fn misread(slip: Slip, list: &[u8]) -> Vec<u8> {
+    let whole = list.chunks_exact(24);
+    if !whole.remainder().is_empty() {
+        return list.to_vec();
+    }
+    let mut rows: Vec<Vec<u8>> = whole.map(<[u8]>::to_vec).collect();
+    match slip {
+        Slip::RevokedIgnored => rows.clear(),
+        Slip::RevokedAtOnce => rows.iter_mut().for_each(|row| row[16..].fill(0)),
+        Slip::RevokedLate => rows.iter_mut().for_each(|row| one_later(&mut row[16..])),
+        Slip::RevokedByFirstRow => {
+            let mut ids = HashSet::new();
+            rows.retain(|row| ids.insert(row[..16].to_vec()));
+        }
+        Slip::RevokedMomentReversed => rows.iter_mut().for_each(|row| row[16..].reverse()),
+        _ => {}
+    }
+    rows.concat()
+}
+
+/// Sets a moment a second later.
+fn one_later(moment: &mut [u8]) {
+    let number = u64::from_be_bytes((&*moment).try_into().expect("8 bytes"));
+    moment.copy_from_slice(&number.saturating_add(1).to_be_bytes());
 }
 
 /// Sets the bytes after the last body of a sound image to 0.

@@ -3,7 +3,7 @@ use mathlib.Core.Path.{_≡_, refl, sym, ap, ap₂, _∙_, subst}
 use mathlib.Core.Logic.{_⊎_, inl, inr}
 use mathlib.Core.Bool.{Bool, true, false, not, _&&_, _||_}
 use mathlib.Core.List.{List, _++_}
-use Prim.Native.Nat.{ℕ, _+_, _*_, _%_, _≤_, _<_}
+use Prim.Native.Nat.{ℕ, _%_, _≤_}
 use native.Mathlib.Omega.{arith}
 use lib.ListN.{length, length-append}
 use lib.Dec.{leb}
@@ -11,8 +11,8 @@ use borrow.Author.Tests.{lt-leb}
 use Rattle.octets.specs.Bytes.{part, same}
 use Rattle.octets.specs.Number.{numberAt}
 use Rattle.descriptor_spec.specs.Model.{Descriptor}
-use Rattle.revocation_spec.specs.Revocation.{isRevoked, revocationSize, revocationsOf}
-use Rattle.revocation_spec.proofs.Promises.{bytes-exactly, row-more, later-revoked}
+use Rattle.revocation_spec.specs.Revocation.{isRevoked, revocationsOf}
+use Rattle.revocation_spec.proofs.Promises.{revoked-exactly, row-more, later-revoked}
 use Rattle.steps.specs.Order.{orElse, inOrder}
 use Rattle.steps.specs.Laws.{passesBy}
 use Rattle.steps.proofs.Laws.{not-by}
@@ -22,7 +22,6 @@ use Rattle.image_spec.specs.declared.ImageCheck.the-variants.{Sound, Unsound}
 use Rattle.image_spec.specs.Edition1.{checkOf}
 use Rattle.request_spec.specs.declared.Decision.{Decision}
 use Rattle.request_spec.specs.declared.Decision.the-variants as answers
-use Rattle.request_spec.specs.declared.DecisionNumbers.{DecisionNumbers}
 use Rattle.request_spec.specs.declared.Matched.{Matched}
 use Rattle.request_spec.specs.declared.Matched.the-variants.{IsAt, Nothing}
 use Rattle.request_spec.specs.Request.{Request, wellFormed, revokedNow}
@@ -52,7 +51,7 @@ module _ (s : List ℕ) (q : Request) (d : Descriptor) (u : Under s (q .id) (hel
   revoked-answered : formed q ≡ true → revokedNow q ≡ true → numbersOf (decisionOf s q) ≡ refusal 8
   revoked-answered w l = answered s q d u 8 (λ e. omega arith) (rw (w, l))
 
-  -- and where it is 8 they are
+  -- and where it is 8 the arguments are well formed
   answered-formed : (t : Bool) → formed q ≡ t → numbersOf (decisionOf s q) ≡ refusal 8 → formed q ≡ true
   unfolding inOrder orElse
   answered-formed true w e = w
@@ -61,7 +60,7 @@ module _ (s : List ℕ) (q : Request) (d : Descriptor) (u : Under s (q .id) (hel
       let z : _≡_ {A = ℕ} 8 15 = ap answerOf (sym e ∙ decided-exactly s q (held d) u ∙ other) in
       absurd (omega (arith, z))
 
-  -- and one does
+  -- and a row revokes the id
   answered-revoked : (t : Bool) → revokedNow q ≡ t → numbersOf (decisionOf s q) ≡ refusal 8 → revokedNow q ≡ true
   answered-revoked true l e = l
   answered-revoked false l e = absurd (not-answered s q d u 8 (λ z. omega (arith, z)) (ap (λ (b : Bool). not b && true) l) (ap answerOf e))
@@ -71,9 +70,9 @@ pub revoked-refused : RevokedRefused
 revoked-refused s q d u = (
   λ e. (
     answered-formed s q d u (formed q) refl e,
-    bytes-exactly (q .revoked) (q .id) (q .clock) .0 (answered-revoked s q d u (revokedNow q) refl e),
+    revoked-exactly (revocationsOf (q .revoked)) (q .id) (q .clock) .0 (answered-revoked s q d u (revokedNow q) refl e),
   ),
-  λ p. revoked-answered s q d u (p .0) (bytes-exactly (q .revoked) (q .id) (q .clock) .1 (p .1)),
+  λ p. revoked-answered s q d u (p .0) (revoked-exactly (revocationsOf (q .revoked)) (q .id) (q .clock) .1 (p .1)),
 )
 
 -- ---- a later clock

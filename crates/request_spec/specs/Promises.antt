@@ -3,10 +3,10 @@ use mathlib.Core.Path.{_≡_}
 use mathlib.Core.Logic.{_↔_, _⊎_}
 use mathlib.Core.Bool.{Bool, true, false, not, cond, _&&_, _||_}
 use mathlib.Core.List.{List, [], _∷_, _++_}
-use Prim.Native.Nat.{ℕ, _+_, _*_, _%_, _≤_, _<_, min}
+use Prim.Native.Nat.{ℕ, _+_, _%_, _≤_, _<_, min}
 use lib.ListN.{length, getD}
 use lib.Dec.{leb, ltb, eqb}
-use Rattle.octets.specs.Bytes.{AreBytes, part, same}
+use Rattle.octets.specs.Bytes.{AreBytes, same}
 use Rattle.octets.specs.Number.{numberAt}
 use Rattle.resource_spec.specs.Identifier.{isFay, isTerminal}
 use Rattle.resource_spec.specs.Pattern.{Path, admits}
@@ -15,7 +15,9 @@ use Rattle.entries_spec.specs.Model.{pairCount}
 use Rattle.descriptor_spec.specs.Model.{Grant, Descriptor, encode}
 use Rattle.descriptor_spec.specs.Allowed.{isIn, Allowed}
 use Rattle.descriptor_spec.specs.Modes.{unionOf}
+use Rattle.revocation_spec.specs.declared.Revocation.{Revocation}
 use Rattle.revocation_spec.specs.Revocation.{isRevoked, revocationsOf}
+use Rattle.revocation_spec.specs.Promises.{IsRow}
 use Rattle.steps.specs.declared.Window.{Window}
 use Rattle.steps.specs.Order.{Step, step, inOrder, AllPass, FirstFails}
 use Rattle.image_spec.specs.Image.{Row, rowOf}
@@ -191,14 +193,13 @@ GrantedGives = (s : List ℕ) (q : Request) → AreBytes s → numbersOf (decisi
 
 -- ---- the revocation list: rows of an id and a moment
 
--- a request for a descriptor that is held is answered 8 exactly when its arguments are well formed and there is a row of 24 bytes whose
--- first 16 are the id, and whose last 8 are a moment, big-endian, that is not after now
+-- a request for a descriptor that is held is answered 8 exactly when its arguments are well formed and there is a row in the list that
+-- has the id, and whose moment is not after now
 abbrev pub RevokedRefused : Type 0
 RevokedRefused = (s : List ℕ) (q : Request) (d : Descriptor) → Under s (q .id) (held d)
     → (numbersOf (decisionOf s q) ≡ refusal 8)
     ↔ ((formed q ≡ true)
-    × ((i : ℕ) × (24 * (i + 1) ≤ length (q .revoked)) × (part (q .revoked) (24 * i) 16 ≡ q .id)
-    × (numberAt (q .revoked) (24 * i + 16) 8 ≤ q .clock)))
+    × ((r : Revocation) × IsRow r (revocationsOf (q .revoked)) × (r .id ≡ q .id) × (r .moment ≤ q .clock)))
 
 -- the same request with another revocation list
 abbrev pub withRevoked : Request → List ℕ → Request

@@ -7,7 +7,8 @@ use lib.ListN.{replicate}
 use Rattle.octets.specs.Bytes.{part, same}
 use Rattle.octets.specs.Number.{bigEndian, numberAt}
 use Rattle.revocation_spec.specs.declared.Revocation.{Revocation}
-use Rattle.revocation_spec.specs.Revocation.{revokes, isRevoked, revocationAt, revocationsFrom, revocationsOf, revocationBytes, listBytes}
+use Rattle.revocation_spec.specs.Revocation.{revokes, isRevoked, revocationAt, revocationsFrom, revocationsOf, revocationBytes}
+use Rattle.revocation_spec.specs.Revocation.{listBytes}
 
 -- an id that ends with n
 abbrev idOf : ℕ → List ℕ

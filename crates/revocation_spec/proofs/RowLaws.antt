@@ -1,6 +1,6 @@
 -- Which ids rows revoke (specs/Revocation.antt). Assumes nothing.
-use mathlib.Core.Path.{_≡_, refl, sym, ap, _∙_}
-use mathlib.Core.Logic.{_⊎_, inl, inr}
+use mathlib.Core.Path.{_≡_, refl, ap, _∙_}
+use mathlib.Core.Logic.{inl, inr}
 use mathlib.Core.Bool.{Bool, true, false, _||_, false≢true}
 use mathlib.Core.List.{List, [], _∷_}
 use Prim.Native.Nat.{ℕ, _≤_}
@@ -27,7 +27,16 @@ module _ (id : List ℕ) (clock : ℕ) where
   unfolding revokes
   is-revokes r e l = and-both (same (r .id) id) _ (equal-same (r .id) id e) (le-leb (r .moment) clock l)
 
-  -- where the id is revoked one of the rows revokes it
+  -- where one of the rows has the id and such a moment the id is revoked
+  row-revoked : (rows : List Revocation) (r : Revocation) → IsRow r rows → r .id ≡ id → r .moment ≤ clock → isRevoked rows id clock ≡ true
+  unfolding isRevoked
+  row-revoked [] r i e l = absurd i
+  row-revoked (x ∷ xs) r (inl i) e l =
+      let t : revokes x id clock ≡ true = ap (λ (y : Revocation). revokes y id clock) i ∙ is-revokes r e l in
+      rw t
+  row-revoked (x ∷ xs) r (inr i) e l = rw (row-revoked xs r i e l) (or-true (revokes x id clock))
+
+  -- and where it is revoked one of the rows has both
   revoked-row : (rows : List Revocation) → isRevoked rows id clock ≡ true
       → (r : Revocation) × IsRow r rows × (r .id ≡ id) × (r .moment ≤ clock)
   unfolding isRevoked
@@ -39,15 +48,6 @@ module _ (id : List ℕ) (clock : ℕ) where
           → (r : Revocation) × IsRow r (x ∷ xs) × (r .id ≡ id) × (r .moment ≤ clock)
       go true t e k = let p = revokes-is x t in (x, inl refl, p .0, p .1)
       go false t e k = let p = k e in (p .0, inr (p .1), p .2, p .3)
-
-  -- and where one of the rows does it is revoked
-  row-revoked : (rows : List Revocation) (r : Revocation) → IsRow r rows → r .id ≡ id → r .moment ≤ clock → isRevoked rows id clock ≡ true
-  unfolding isRevoked
-  row-revoked [] r i e l = absurd i
-  row-revoked (x ∷ xs) r (inl i) e l =
-      let t : revokes x id clock ≡ true = ap (λ (y : Revocation). revokes y id clock) i ∙ is-revokes r e l in
-      rw t
-  row-revoked (x ∷ xs) r (inr i) e l = rw (row-revoked xs r i e l) (or-true (revokes x id clock))
 
 -- `RevokedExactly`
 pub revoked-exactly : RevokedExactly

@@ -1,5 +1,4 @@
 -- `revokes_at` meets its contract. Assumes nothing.
-use mathlib.Core.Path.{_≡_, sym, _∙_}
 use borrow.Author.Tests.{not-true, not-false}
 use borrow.Author.Needs.{needs}
 use Rattle.revocation.proofs.RevocationCode.{row-other, row-moment}

@@ -1,2 +1,3 @@
 pub mod Revocation
 pub mod Promises
+pub mod Laws

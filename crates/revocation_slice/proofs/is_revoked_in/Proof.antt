@@ -52,10 +52,11 @@ use denote.Triple.Walked.{says, Stays, stay-none-slice, stay-none, walkOf, goes-
 use denote.Exit.{yes}
 use Rattle.revocation_spec.specs.declared.Revocation.{Revocation}
 use Rattle.revocation_spec.specs.Revocation.{revokes, isRevoked}
+use Rattle.revocation_spec.proofs.Laws.{rows-end}
 use Rattle.revocation_spec.proofs.Revocation as R
 use Rattle.revocation_spec.proofs.Revocation.Laws as R′
 use Rattle.revocation_slice.specs.Code.{rowIn}
-use Rattle.revocation_slice.proofs.RowCode.{left-hit, left-next, left-end}
+use Rattle.revocation_slice.proofs.RowCode.{left-hit, left-next}
 use Rattle.revocation_slice.proofs.row_at as row-at
 use Rattle.revocation_slice.proofs.row_at.Symbol as row-at-symbol
 use Rattle.revocation_slice.proofs.row_at.Symbol.{name as #row-at}
@@ -254,7 +255,7 @@ module _ {M : Type 1} (𝓤 : URA M) (H : Heap 𝓤) (A : Atoms 𝓤) (W : Given
 
   -- where no row is left, `false` is right
   false-right : (x : State) → n ≤ x .0 → false ≡ isRevoked ys (id .now) clock
-  false-right x l = sym (left-end ys (id .now) clock (x .0) l) ∙ x .1 .1
+  false-right x l = sym (rows-end ys (id .now) clock (x .0) l) ∙ x .1 .1
 
   -- a turn: row i is r, and `row_revokes` answered t
   module _ (x : State) (less : x .0 < n) (r : Revocation) (t : Bool) (e : RightRow (x .0) r) (f : RightAnswer r t) where

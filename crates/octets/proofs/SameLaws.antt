@@ -11,6 +11,7 @@ use lib.Seq.{take-length, take-all, getD-drop}
 use borrow.Author.Tests.{eq-eqb, ne-eqb, le-leb, lt-leb}
 use Rattle.octets.specs.Bytes.{part, same, hasAt}
 use Rattle.octets.proofs.BytesLaws.{same-eq, same-refl, T-of}
+use Rattle.octets.proofs.Tests.{and-false}
 
 -- ---- what the test says
 
@@ -39,11 +40,6 @@ not-same x y n = go (same x y) refl
     go false e = refl
 
 -- ---- a loop that compares, the last byte first
-
--- a test that does not hold, as the second of two
-and-false : (t : Bool) → (t && false) ≡ false
-and-false true = refl
-and-false false = refl
 
 -- a test that holds, as the second of two
 and-true : (t : Bool) → (t && true) ≡ t

@@ -10,6 +10,7 @@ use lib.Dec.{leb}
 use borrow.Author.Tests.{lt-leb}
 use Rattle.octets.specs.Bytes.{part, same}
 use Rattle.octets.specs.Number.{numberAt}
+use Rattle.octets.proofs.Tests.{and-false, or-false}
 use Rattle.descriptor_spec.specs.Model.{Descriptor}
 use Rattle.revocation_spec.specs.Revocation.{isRevoked, revocationsOf}
 use Rattle.revocation_spec.proofs.Promises.{revoked-exactly, row-more, later-revoked}
@@ -33,16 +34,6 @@ use Rattle.request_spec.proofs.HeldLaws.{decidedBy, decidedIn, decided-
 use Rattle.request_spec.proofs.UnderLaws.{all-stored}
 use Rattle.request_spec.proofs.NumberLaws.{answerOf, decided-exactly, granted-zero}
 use Rattle.request_spec.proofs.BoundaryLaws.{not-answered, answered}
-
--- ---- tests
-
-and-false : (b : Bool) → (b && false) ≡ false
-and-false true = refl
-and-false false = refl
-
-or-false : (b : Bool) → (b || false) ≡ b
-or-false true = refl
-or-false false = refl
 
 -- ---- step 8
 
@@ -111,6 +102,7 @@ abbrev restOf : Request → Facts → Matched → Decision
 restOf q x m =
     inOrder (descriptorSteps x (q .fay) (q .terminal) (q .clock) m ++ keySteps (q .verdict) (q .window) (q .clock)) (grantedBy q x m)
 
+-- the two are the decision
 decided-behind : (q : Request) (sound there : Bool) (x : Facts) (m : Matched)
     → decidedBy q sound there x m ≡ behind (wellFormed q) sound there (revokedNow q) (restOf q x m)
 unfolding stepsBy laterSteps revocationSteps inOrder
@@ -166,8 +158,8 @@ module _ (q : Request) (l l′ : List ℕ) (w : wellFormed (withRevoked q l′) 
       → SameOrRevoked (decisionOf s (withRevoked q l′)) (decisionOf s (withRevoked q l))
   more-decided t e = of-image SameOrRevoked q l l′
       (λ sound there x m.
-      let b : Decision → Decision = λ r. behind (wellFormed (withRevoked q l)) sound there (revokedNow (withRevoked q l) || t) r in
-      let more : decidedBy (withRevoked q l′) sound there x m ≡ b (restOf q x m)
+      let more : decidedBy (withRevoked q l′) sound there x m
+      ≡ behind (wellFormed (withRevoked q l)) sound there (revokedNow (withRevoked q l) || t) (restOf q x m)
       = decided-with q l′ sound there x m ∙ ap₂ (λ (c d : Bool). behind c sound there d (restOf q x m)) w e in
       elim (one-more (wellFormed (withRevoked q l)) sound there (revokedNow (withRevoked q l)) t (restOf q x m)) [
         | inl a ↦ inl (more ∙ a ∙ sym (decided-with q l sound there x m))

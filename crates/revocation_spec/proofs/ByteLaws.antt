@@ -13,7 +13,7 @@ use Rattle.octets.specs.Bytes.{AreBytes, part, same}
 use Rattle.octets.specs.Number.{bigEndian, numberAt}
 use Rattle.octets.proofs.NumberLaws.{length-bigEndian, number-bytes, bytes-number, number-keeps}
 use Rattle.octets.proofs.PartLaws.{part-part}
-use Rattle.octets.proofs.Tests.{or-assoc, or-true}
+use Rattle.octets.proofs.Tests.{or-assoc, or-true, or-false}
 use Rattle.descriptor_spec.specs.Allowed.{idSize}
 use Rattle.revocation_spec.specs.declared.Revocation.{Revocation}
 use Rattle.revocation_spec.specs.Revocation.{revokes, isRevoked, revocationSize, momentWidth, revocationAt, revocationsFrom}
@@ -174,11 +174,7 @@ one-revoked : (row id : List ℕ) (clock : ℕ) → length row ≡ 24
 unfolding isRevoked revokes revocationsOf revocationsFrom revocationAt
 one-revoked row id clock h =
     let one : length row / 24 ≡ 1 = omega arith in
-    ap (λ (n : ℕ). isRevoked (revocationsFrom row 0 n) id clock) one ∙ or-no-more (same (part row 0 16) id && leb (numberAt row 16 8) clock)
-  where
-    or-no-more : (b : Bool) → (b || false) ≡ b
-    or-no-more true = refl
-    or-no-more false = refl
+    ap (λ (n : ℕ). isRevoked (revocationsFrom row 0 n) id clock) one ∙ or-false (same (part row 0 16) id && leb (numberAt row 16 8) clock)
 
 -- the test in the middle of three may stand last
 or-last : (a b c : Bool) → (a || (b || c)) ≡ ((a || c) || b)

@@ -493,6 +493,7 @@ def revocation_lists(r):
     for n in (1, 15, 16, 23, 25, 47, 49):
         r.request(f"list length {n}", revoked=(revocation(0) * 3)[:n])
     r.request("list length 48, two other ids", revoked=other + other)
+    r.request("list length 48, the id three times without a moment, which is two rows", revoked=bytes(range(16)) * 3)
     # before the steps on the period
     r.request("revoked from now on, and expired", now=3000, revoked=revocation(3000))
     r.request("revoked in the future, and expired", now=3000, revoked=revocation(3001))

@@ -27,6 +27,7 @@ isRevoked (r ∷ rs) id clock = revokes r id clock || isRevoked rs id clock
 abbrev pub revocationSize : ℕ
 revocationSize = 24
 
+-- the bytes of the moment
 abbrev pub momentWidth : ℕ
 momentWidth = 8
 

@@ -111,6 +111,7 @@ typedef struct cap_grant {
 typedef struct cap_matching {
     uint64_t answer; /* 0 or 15 */
     uint64_t yes;    /* 1 where the pattern matches the resource id, else 0 */
+    uint64_t names;  /* with yes 1: how many levels were matched by equal names; the terminal id is no level, "*" and "**" count 0. Else 0 */
 } cap_matching;
 
 /* What a lookup answers. */
@@ -123,7 +124,7 @@ typedef struct cap_stored {
 /* What a request answers. */
 typedef struct cap_decision {
     uint64_t answer;      /* 0, or the number of the first step that fails */
-    uint64_t grant;       /* the first grant that serves */
+    uint64_t grant;       /* of the grants that serve the one with most levels matched by equal names, the first of those */
     uint64_t mask;        /* its modes */
     uint64_t session_end; /* seconds: the smaller of not_after and now + session_length */
 } cap_decision;
@@ -145,7 +146,7 @@ cap_descriptor cap_descriptor_read(const uint8_t *bytes, size_t bytes_len);
 /* Reads the grant with the index of a descriptor. */
 cap_grant cap_grant_at(const uint8_t *bytes, size_t bytes_len, uint64_t index);
 
-/* Matches a pattern and a resource id. */
+/* Matches a pattern and a resource id, and counts the levels that were matched by equal names. */
 cap_matching cap_match(const uint8_t *pattern, size_t pattern_len, const uint8_t *resource, size_t resource_len);
 
 /* Makes a new image of no bodies: 0 or 17. */
@@ -158,9 +159,10 @@ cap_stored cap_image_find(const uint8_t *image, size_t image_len, const uint8_t 
 uint64_t cap_submit(uint8_t *image, size_t image_len, const uint8_t *descriptor, size_t descriptor_len, uint64_t now, uint64_t verdict,
                     uint64_t valid_from, uint64_t has_valid_until, uint64_t valid_until);
 
-/* Decides a request for the stored descriptor with the id. `revoked` is the revocation list: rows of 24 bytes in any order, each a descriptor id (16), then the
- * moment from which on it is revoked, in seconds, big-endian (8). An id may recur. A length that is no multiple of 24 is answered 15; a list without rows is
- * passed as any empty slice, as CAP_EMPTY. */
+/* Decides a request for the stored descriptor with the id. A grant serves where it has the mode, a pattern that matches the resource id and no constraint pair;
+ * of those that serve the decision has the one with most `names` (cap_matching), the first of them on a tie. `revoked` is the revocation list: rows of 24 bytes
+ * in any order, each a descriptor id (16), then the moment from which on it is revoked, in seconds, big-endian (8). An id may recur. A length that is no multiple
+ * of 24 is answered 15; a list without rows is passed as any empty slice, as CAP_EMPTY. */
 cap_decision cap_request(const uint8_t *image, size_t image_len, const uint8_t *id, size_t id_len, const uint8_t *fay, size_t fay_len,
                          const uint8_t *terminal, size_t terminal_len, const uint8_t *resource, size_t resource_len, uint64_t mode, uint64_t now,
                          uint64_t session_length, const uint8_t *revoked, size_t revoked_len, uint64_t verdict, uint64_t valid_from,

@@ -305,19 +305,40 @@ static void descriptors(void) {
     descriptor("valid for over 90 days", b.at, b.len, (cap_descriptor){.answer = 2});
 }
 
-static void matched(const char *pattern, const char *resource, uint64_t answer, uint64_t yes) {
+static void matched(const char *pattern, const char *resource, cap_matching expected) {
     what = pattern;
     cap_matching m = cap_match((const uint8_t *)pattern, strlen(pattern), (const uint8_t *)resource, strlen(resource));
-    SAME(m, answer, answer);
-    SAME(m, yes, yes);
+    SAME(m, answer, expected.answer);
+    SAME(m, yes, expected.yes);
+    SAME(m, names, expected.names);
+}
+
+/* The terminal id, so many levels "n", and the end. */
+static const char *long_text(char *out, size_t levels, const char *end) {
+    strcpy(out, T);
+    while (levels-- > 0) {
+        strcat(out, "/n");
+    }
+    return strcat(out, end);
 }
 
 static void matchings(void) {
-    matched(T "/d/*", T "/d/a", 0, 1);
-    matched(T "/d/*", T "/d/a/b", 0, 0);
-    matched(T "/d/**", T "/d/a/b", 0, 1);
-    matched(T "/cam*", T "/camera", 15, 0);
-    matched(T "/d", "", 15, 0);
+    char pattern[300], path[300];
+    matched(T "/d/*", T "/d/a", (cap_matching){.answer = 0, .yes = 1, .names = 1});
+    matched(T "/d/*", T "/d/a/b", (cap_matching){.answer = 0});
+    matched(T "/d/**", T "/d/a/b", (cap_matching){.answer = 0, .yes = 1, .names = 1});
+    matched(T "/d/a/b", T "/d/a/b", (cap_matching){.answer = 0, .yes = 1, .names = 3});
+    matched(T "/*/a/*/b/**", T "/d/a/b/b/a/b", (cap_matching){.answer = 0, .yes = 1, .names = 2});
+    matched(T "/*", T "/d", (cap_matching){.answer = 0, .yes = 1, .names = 0});
+    matched(T "/**", T "/d/a/b", (cap_matching){.answer = 0, .yes = 1, .names = 0});
+    matched(T "/d/a/b", T "/d/a/c", (cap_matching){.answer = 0});
+    matched(T "/d/a", OTHER_T "/d/a", (cap_matching){.answer = 0});
+    matched(long_text(pattern, 100, ""), long_text(path, 100, ""), (cap_matching){.answer = 0, .yes = 1, .names = 100});
+    matched(long_text(pattern, 98, "/*/n"), path, (cap_matching){.answer = 0, .yes = 1, .names = 99});
+    matched(long_text(pattern, 99, "/m"), path, (cap_matching){.answer = 0});
+    matched(T "/cam*", T "/camera", (cap_matching){.answer = 15});
+    matched(T "/d/a/*", T "/d/a/*", (cap_matching){.answer = 15});
+    matched(T "/d", "", (cap_matching){.answer = 15});
 }
 
 /* The descriptor that is stored: read on the door, write and execute on what is below a. */
@@ -445,6 +466,54 @@ static void requests(void) {
     decided(image, 8 + 31, &q);
 }
 
+/* Grants of which several serve: a broad one, two that name two levels, and between them one that names three and has a constraint pair. */
+static const grant broad_first[4] = {{"0123", T "/**", 0}, {"01", T "/lab/*/on", 0}, {"012", T "/lab/door/on", 1}, {"02", T "/lab/door/*", 0}};
+
+/* A request that is granted, and the grant that it must name. */
+typedef struct named {
+    const char *name;
+    uint8_t id;
+    const char *resource;
+    uint64_t mode, grant, mask;
+} named;
+
+static void check_named(const uint8_t *image, size_t n, const named *q) {
+    asked a = {q->name, q->id, FAY, T, q->resource, q->mode, 2500, 0, 0, 0, 0, 0, {.answer = 0, .grant = q->grant, .mask = q->mask, .session_end = 2577}};
+    decided(image, n, &a);
+}
+
+/* Of the grants that serve the one with most levels matched by equal names is named, and the first of those. */
+static void named_grants(void) {
+    static uint8_t image[4096];
+    static bytes b;
+    fields f = stored;
+    memcpy(f.grants, broad_first, sizeof f.grants);
+    f.id = 5;
+    make(&b, &f);
+    cap_image_new(image, sizeof image);
+    submitted("stored, the broad grant first", image, sizeof image, &b, 2500, 0, 0, 0, 0, 0);
+    f.grants[0] = broad_first[3];
+    f.grants[2].constraints = 0;
+    f.grants[3] = broad_first[0];
+    f.id = 6;
+    make(&b, &f);
+    submitted("stored, the broad grant last, no constraint", image, sizeof image, &b, 2500, 0, 0, 0, 0, 0);
+    const named all[] = {
+        {"two names twice, the first; the one with three has a constraint", 5, T "/lab/door/on", 0, 1, 3},
+        {"two names, the others lack the mode", 5, T "/lab/door/on", 2, 3, 5},
+        {"no name, the others lack the mode", 5, T "/lab/door/on", 3, 0, 15},
+        {"no name, the others don't match", 5, T "/lab/door", 0, 0, 15},
+        {"two names, in the last place", 5, T "/lab/door/off", 0, 3, 5},
+        {"three names", 6, T "/lab/door/on", 0, 2, 7},
+        {"two names before no name", 6, T "/lab/door/off", 2, 0, 5},
+        {"two names, the one with three doesn't match", 6, T "/lab/window/on", 1, 1, 3},
+        {"no name, in the last place", 6, T "/lab/door/on", 3, 3, 15},
+    };
+    for (size_t i = 0; i < sizeof all / sizeof all[0]; i++) {
+        check_named(image, sizeof image, &all[i]);
+    }
+}
+
 static void narrowed(const char *name, const bytes *parent, const bytes *child, cap_narrowing expected) {
     what = name;
     cap_narrowing n = cap_narrow(parent->at, parent->len, child->at, child->len);
@@ -484,6 +553,7 @@ int main(void) {
     matchings();
     images();
     requests();
+    named_grants();
     narrowings();
     printf("calls: %u values of the header's calls compared, %u differ\n", compared, different);
     return different != 0;

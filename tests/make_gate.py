@@ -5,8 +5,8 @@ and request below, which are written from documents 01 and 02 and know nothing o
 """
 import re
 
-from make_descriptors import FAY, encode, grant, payload, read
-from make_matching import T, U, UUID, is_resource, matches
+from make_descriptors import FAY, MODES, encode, grant, payload, read
+from make_matching import T, U, UUID, equal_names, is_resource, matches
 from records import FIND, LEND, NEW, REQUEST, SUBMIT, answered, summed
 
 DAY = 86400
@@ -115,6 +115,19 @@ def is_revoked(rows, ident, now):
     return any(rows[at : at + 16] == ident and number(rows, at + 16, 8) <= now for at in range(0, len(rows), 24))
 
 
+def serving(f, q):
+    """The grants with the mode, a matching pattern and no constraint pair: how many levels each matches by equal names, its place, its mask."""
+    for i, g in enumerate(f["grants"]):
+        pattern = g["pattern"][2].decode()
+        if g["mask"] >> q["mode"] & 1 and matches(pattern, q["resource"]) and g["constraints"][1] == 0:
+            yield equal_names(pattern, q["resource"]), i, g["mask"]
+
+
+def most_exact(grants):
+    """The grant with most equal names, the earliest on a tie."""
+    return min(grants, key=lambda g: (-g[0], g[1]))
+
+
 def request(s, q):
     if (
         q["verdict"] > 2
@@ -143,16 +156,15 @@ def request(s, q):
         return answered(11)
     if body[f["terminal"] : f["terminal"] + 45].decode() != q["terminal"]:
         return answered(12)
-    for i, g in enumerate(f["grants"]):
-        if g["mask"] >> q["mode"] & 1 and matches(g["pattern"][2].decode(), q["resource"]) and g["constraints"][1] == 0:
-            break
-    else:
+    grants = list(serving(f, q))
+    if not grants:
         return answered(13)
     if q["verdict"] == 2 or not key_open(q["now"], q["valid"]):
         return answered(14)
     if q["verdict"] == 1:
         return answered(4)
-    return answered(0, grant=i, mask=g["mask"], session_end=min(f["not_after"], q["now"] + q["session"]))
+    _, place, mask = most_exact(grants)
+    return answered(0, grant=place, mask=mask, session_end=min(f["not_after"], q["now"] + q["session"]))
 
 
 # ---- records
@@ -501,9 +513,95 @@ def revocation_lists(r):
     r.request("revoked in the future, and not yet valid", now=1999, revoked=revocation(2000))
 
 
+# masks that differ and have read, so that the mask shows which grant is named
+READING = [["read"], ["read", "write"], ["read", "execute"], ["read", "configure"], ["read", "write", "execute"], MODES]
+
+
+def reading(*patterns):
+    """Grants to read by these levels, each with a mask of its own."""
+    return [grant(READING[i], T + levels) for i, levels in enumerate(patterns)]
+
+
+def serving_grants():
+    """A name, grants, and what differs from a request to read T/a/b/c."""
+    yield "one grant", reading("/a/**"), {}
+    # broad and exact, in each order
+    yield "exact under broad, broad first", reading("/**", "/a/b/c"), {}
+    yield "exact under broad, broad last", reading("/a/b/c", "/**"), {}
+    yield "each more exact than the one before", reading("/**", "/a/**", "/a/b/**", "/a/b/c"), {}
+    yield "each less exact than the one before", reading("/a/b/c", "/a/b/**", "/a/**", "/**"), {}
+    yield "the most exact in the middle", reading("/a/**", "/a/b/c", "/*/b/c"), {}
+    yield "one name, one name, two names", reading("/*/*/c", "/a/**", "/a/*/c"), {}
+    yield "the exact one is for another path", reading("/a/**", "/a/b/d"), {}
+    yield "the exact one is for a longer path", reading("/a/**", "/a/b/c/d"), {}
+    yield "the exact one is for a shorter path", reading("/a/**", "/a/b"), {}
+    # ties
+    yield "tie of three names", reading("/**", "/a/b/c", "/a/b/c", "/a/b/c"), {}
+    yield "tie of two names, after one name", reading("/a/**", "/a/*/c", "/a/b/*", "/*/b/c"), {}
+    yield "tie of one name, after none", reading("/*/*/*", "/*/*/c", "/a/*/*", "/*/b/*"), {}
+    yield "tie of one name, ** first", reading("/a/**", "/a/*/*", "/*/b/*"), {}
+    yield "tie of one name, ** last", reading("/*/*/c", "/a/**"), {}
+    # "*" and "**" count 0
+    yield "tie of no name, ** first", reading("/**", "/*/*/*", "/*/**"), {}
+    yield "tie of no name, * first", reading("/*/*/*", "/*/**", "/**"), {}
+    yield "three * before one name and **", reading("/*/*/*", "/a/**"), {}
+    yield "one name and two * before two names and **", reading("/a/*/*", "/a/b/**"), {}
+    yield "** for names that stand before it", reading("/*/a/*", "/a/**"), dict(resource=T + "/a/a/a")
+
+
+def passed_over():
+    """The same, where a more exact grant does not serve."""
+    broad, exact = T + "/a/**", T + "/a/b/c"
+    constrained = grant(READING[1], exact, constraints={"k": "v"})
+    yield "the more exact one has another mode", [grant(["read"], broad), grant(["write"], exact)], {}
+    yield "the other mode is asked for", [grant(["read"], broad), grant(["write"], exact)], dict(mode=1)
+    yield "the more exact one has every other mode, and is first", [grant(MODES[1:], exact), grant(["read"], broad)], {}
+    yield "the more exact one has a constraint pair", [*reading("/a/**"), constrained], {}
+    yield "the more exact one has a constraint pair, and is first", [constrained, *reading("/a/**")], {}
+    yield "the more exact one has constraints without a pair", [*reading("/a/**"), grant(READING[2], exact, constraints={})], {}
+    yield "the two most exact of three do not serve", [grant(MODES[1:], exact), constrained, *reading("/a/b/*")], {}
+    yield "the most exact one alone, with a constraint pair", [constrained], {}
+    yield "the most exact one is named, and the signature is bad", reading("/**", "/a/b/c"), dict(verdict=1)
+
+
+def many_names():
+    """The same, with paths of 100 and 105 names."""
+    asked = dict(resource=T + "/n" * 100)
+    yield "100 names, after 99 and **", reading("/n" * 99 + "/**", "/n" * 100), asked
+    yield "99 names and *, after 98 and **", reading("/n" * 98 + "/**", "/n" * 99 + "/*", "/n" * 98 + "/*/*"), asked
+    yield "tie of 99 names", reading("/**", "/*" + "/n" * 99, "/n" * 99 + "/*", "/n" * 99 + "/**"), asked
+    yield "105 names, after 100 * and 5 names", reading("/*" * 100 + "/n" * 5, "/n" * 105), dict(resource=T + "/n" * 105)
+
+
+def most_exact_grants(r):
+    """Requests that several grants serve: the one with most levels matched by equal names is named, the first of those."""
+    r.lend("40,000 bytes", 40000)
+    r.new("new image")
+    for i, (name, grants, more) in enumerate([*serving_grants(), *passed_over(), *many_names()]):
+        r.submit(name + ", stored", made(i, grants=grants))
+        r.request(name, **{"id": ident(i), "resource": T + "/a/b/c", **more})
+    # of 8 levels each is a name or "*", in every way: the number's bits say which
+    every = [grant(READING[i % 6], T + "".join("/n" if i >> bit & 1 else "/*" for bit in range(8))) for i in range(256)]
+    r.lend("65,536 bytes", 65536)
+    r.new("new image")
+    for i, order, grants in ((1, "forwards", every), (2, "backwards", every[::-1])):
+        r.submit(f"256 grants {order}, stored", made(i, grants=grants))
+        r.request(f"256 grants {order}, 8 names", id=ident(i), resource=T + "/n" * 8)
+        r.request(f"256 grants {order}, 7 names", id=ident(i), resource=T + "/n" * 7 + "/m")
+        r.request(f"256 grants {order}, a name", id=ident(i), resource=T + "/m" * 3 + "/n" + "/m" * 4)
+        r.request(f"256 grants {order}, no name", id=ident(i), resource=T + "/m" * 8)
+        r.request(f"256 grants {order}, tie of 7 names", id=ident(i), resource=T + "/n" * 8, mode=1)
+
+
 def gate(v):
     r = Run(v)
-    groups = (("Images", images), ("Submissions", submissions), ("Requests", requests), ("Revocation lists", revocation_lists))
+    groups = (
+        ("Images", images),
+        ("Submissions", submissions),
+        ("Requests", requests),
+        ("Revocation lists", revocation_lists),
+        ("Most exact grants", most_exact_grants),
+    )
     for heading, calls in groups:
         v.heading("## " + heading)
         calls(r)

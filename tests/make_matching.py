@@ -1,7 +1,7 @@
 """Matching among the stored vectors.
 
-The expected output is from the regular expressions and the comparison below, which are written from document 01 and know nothing of the
-Rattle code.
+The expected output is from the regular expressions and the comparison below, which are written from documents 01 and 02 and know nothing of
+the Rattle code.
 """
 import random
 import re
@@ -17,7 +17,7 @@ PATTERN = re.compile(rf"terminal:{UUID}(/({NAME}|\*))*/({NAME}|\*|\*\*)\Z")
 RESOURCE = re.compile(rf"terminal:{UUID}(/{NAME})+\Z")
 
 
-# ---- ordinary matching, by document 01
+# ---- ordinary matching, by documents 01 and 02
 
 
 def is_pattern(s):
@@ -42,10 +42,19 @@ def matches(pattern, resource):
     return takes(pattern.split("/"), resource.split("/"))
 
 
+def equal_names(pattern, resource):
+    """How many levels below the terminal id are matched by equal names, of a pattern that matches."""
+    pairs = zip(pattern.split("/")[1:], resource.split("/")[1:])
+    return sum(level == name for level, name in pairs)
+
+
 def match(pattern, resource):
     if not is_pattern(pattern) or not is_resource(resource):
-        return ": 15, yes 0"
-    return f": 0, yes {int(matches(pattern.decode(), resource.decode()))}"
+        return ": 15, yes 0, names 0"
+    pattern, resource = pattern.decode(), resource.decode()
+    if not matches(pattern, resource):
+        return ": 0, yes 0, names 0"
+    return f": 0, yes 1, names {equal_names(pattern, resource)}"
 
 
 # ---- the cases
@@ -106,6 +115,47 @@ def chosen():
         yield f"terminal of a resource, {name}", "/a", terminal + "/a"
 
 
+def counted():
+    """The same, for the levels that are matched by equal names."""
+    yield "one name", "/a", "/a"
+    yield "two names", "/a/b", "/a/b"
+    yield "five names", "/a/b/c/d/e", "/a/b/c/d/e"
+    yield "the same name twice", "/a/a", "/a/a"
+    yield "* counts 0", "/*", "/a"
+    yield "* after a name", "/a/*", "/a/b"
+    yield "* before a name", "/*/b", "/a/b"
+    yield "* between names", "/a/*/c", "/a/b/c"
+    yield "* for a name that stands before it", "/a/*", "/a/a"
+    yield "** counts 0", "/**", "/a"
+    yield "** for three names counts 0", "/**", "/a/b/c"
+    yield "** after a name", "/a/**", "/a/b"
+    yield "** after two names, for two", "/a/b/**", "/a/b/c/d"
+    yield "** for names that stand before it", "/a/**", "/a/a/a"
+    yield "a name, *, a name, **", "/a/*/c/**", "/a/b/c/d/e"
+    yield "the terminal id is no level", "/*/*", "/a/b"
+    yield "a name as long as the terminal id", "/" + "n" * 45, "/" + "n" * 45
+    # a no counts 0, whatever is equal
+    yield "the last name differs", "/a/b/c", "/a/b/d"
+    yield "the first name differs", "/a/b/c", "/d/b/c"
+    yield "equal names, and a name more", "/a/b", "/a/b/c"
+    yield "equal names, and a name less", "/a/b/c", "/a/b"
+    yield "equal names, and none for *", "/a/b/*", "/a/b"
+    yield "equal names, and none for **", "/a/b/**", "/a/b"
+    yield "equal names under another terminal", "/a/b/c", U + "/a/b/c"
+    yield "equal names, and a malformed pattern", "/a/b/c*", "/a/b/c"
+    yield "equal names, and a malformed resource id", "/a/b/**", "/a/b/c/"
+    # as many levels as there can be
+    yield "100 names", "/n" * 100, "/n" * 100
+    yield "105 names", "/n" * 105, "/n" * 105
+    yield "99 names and *", "/n" * 99 + "/*", "/n" * 100
+    yield "* and 99 names", "/*" + "/n" * 99, "/n" * 100
+    yield "* and names by turns, 100 levels", "/*/n" * 50, "/n" * 100
+    yield "50 names and **", "/n" * 50 + "/**", "/n" * 100
+    yield "103 names and **", "/n" * 103 + "/**", "/n" * 105
+    yield "100 names, of which the last differs", "/n" * 99 + "/m", "/n" * 100
+    yield "100 names, and one more", "/n" * 100, "/n" * 101
+
+
 def drawn(count):
     draw = random.Random(7)
     for i in range(count):
@@ -118,7 +168,7 @@ def drawn(count):
 
 
 def matching(v):
-    for heading, rows in (("Chosen", chosen()), ("Drawn", drawn(60))):
+    for heading, rows in (("Chosen", chosen()), ("Equal names", counted()), ("Drawn", drawn(60))):
         v.heading("## " + heading)
         for name, *texts in rows:
             pattern, resource = ((T + t if t[:1] == "/" else t).encode() for t in texts)

@@ -88,6 +88,7 @@ must 0 "stored: descriptor ${id}02" '  key: "staff-2026" of issuer "Lab Office" 
 must 0 "stored: descriptor ${id}03" -- submit image keys.txt expired.cbor $start
 must 0 "stored: descriptor ${id}04" -- submit image keys.txt future.cbor $start
 must 0 "stored: descriptor ${id}09" -- submit image keys.txt guest.cbor $start
+must 0 "stored: descriptor ${id}0f" -- submit image keys.txt technician.cbor $start
 
 heading 'Submissions that are refused, each of which leaves the image as it was'
 cp image image.before
@@ -129,11 +130,26 @@ heading 'Requests that are granted'
 ask 0 "granted: read of \"$device/furnace/temperature\"" '  grant 1' "    pattern: \"$device/furnace/temperature\"" '    modes: read' \
     "  session end: $((start + 2 * hour)) (2026-01-01 02:00:00 UTC)" \
     -- 01 "$student" "$terminal" "$device/furnace/temperature" read $((start + hour))
-ask 0 '  grant 0' "    pattern: \"$device/camera/*\"" -- 01 "$student" "$terminal" "$device/camera/front" read $start
+ask 0 '  grant 0' "    pattern: \"$device/camera/*\"" '    levels matched by equal names: 2' '  grants that serve: 1' \
+    -- 01 "$student" "$terminal" "$device/camera/front" read $start
 ask 0 '  grant 0' '    modes: read, write, configure' \
     -- 02 "$staff" "$terminal" "$device/furnace/zone-2/limit" configure $((start + hour))
 ask 0 "  session end: $((start + 30 * day)) (2026-01-31 00:00:00 UTC)" \
     -- 01 "$student" "$terminal" "$device/camera/front" read $((start + 30 * day - 1))
+
+heading 'Requests that several grants serve: the most exact one is named'
+must 0 '  grant 0' "    pattern: \"$device/**\"" '  grant 3' "    pattern: \"$device/camera/front\"" -- show technician.cbor
+ask 0 '  grant 0' "    pattern: \"$device/**\"" '    levels matched by equal names: 1' '  grants that serve: 1' \
+    -- 0f "$staff" "$terminal" "$device/door/main" read $start
+ask 0 '  grant 3' "    pattern: \"$device/camera/front\"" '    modes: read, execute' '    levels matched by equal names: 3' \
+    '  grants that serve: 2, of which this one has most such levels' \
+    -- 0f "$staff" "$terminal" "$device/camera/front" read $start
+ask 0 '  grant 1' "    pattern: \"$device/furnace/*\"" '    modes: read, write' '    levels matched by equal names: 2' \
+    '  grants that serve: 3, of which 2 have most such levels, this one first' \
+    -- 0f "$staff" "$terminal" "$device/furnace/temperature" read $start
+ask 0 '  grant 2' "    pattern: \"$device/*/temperature\"" '    modes: read, configure' '  grants that serve: 1' \
+    -- 0f "$staff" "$terminal" "$device/furnace/temperature" configure $start
+ask 1 'refused: E_AUTHORIZATION_INSUFFICIENT (13)' -- 0f "$staff" "$terminal" "$device/furnace/temperature" execute $start
 
 heading 'Requests that are refused'
 ask 1 'refused: E_AUTHORIZATION_INSUFFICIENT (13)' '  step: 6, resource and mode match' \

@@ -1,5 +1,7 @@
 //! The decision on a request.
 
+use std::cmp::Reverse;
+
 use crate::answer::{
     AUTHORIZATION_INSUFFICIENT, BAD_IMAGE, DESCRIPTOR_EXPIRED, DESCRIPTOR_NOT_FOUND,
     DESCRIPTOR_NOT_YET_VALID, DESCRIPTOR_REVOKED, DONE, INVALID_SIGNATURE, MALFORMED_ARGUMENTS,
@@ -8,7 +10,7 @@ use crate::answer::{
 use crate::descriptor::{Grant, Reading};
 use crate::image::Image;
 use crate::item::big_endian;
-use crate::resource::{is_fay_id, is_resource_id, is_terminal_id, pattern_matches};
+use crate::resource::{is_fay_id, is_resource_id, is_terminal_id, names_matched};
 use crate::submission::key_is_open;
 
 /// The length of a row of the revocation list.
@@ -49,7 +51,7 @@ pub struct Request<'a> {
 pub struct Decision {
     /// 0, or the number of the first step that fails.
     pub answer: u64,
-    /// The place of the first grant that serves.
+    /// The place of the grant that serves with most levels matched by equal names, the first of those.
     pub grant: u64,
     /// The modes of that grant.
     pub mask: u64,
@@ -73,7 +75,7 @@ fn decide(image: &[u8], with: &Request) -> Result<Decision, u64> {
     let image = Image::of(image).ok_or(BAD_IMAGE)?;
     let held = image.find(with.id).ok_or(DESCRIPTOR_NOT_FOUND)?.reading;
     check_descriptor(&held, with)?;
-    let (place, grant) = serving_grant(&held, with).ok_or(AUTHORIZATION_INSUFFICIENT)?;
+    let (place, grant) = most_exact_grant(&held, with).ok_or(AUTHORIZATION_INSUFFICIENT)?;
     check_key(with)?;
     Ok(Decision {
         answer: DONE,
@@ -119,13 +121,24 @@ fn is_revoked(with: &Request) -> bool {
     })
 }
 
-/// The first grant with the mode, a matching pattern and no constraint pair, and its place.
-fn serving_grant(held: &Reading, with: &Request) -> Option<(usize, Grant)> {
-    held.grants().enumerate().find(|(_, grant)| {
-        grant.mask >> with.mode & 1 == 1
-            && grant.constraint_pairs == 0
-            && pattern_matches(held.pattern(grant), with.resource)
-    })
+/// Of the grants that serve the one with most levels matched by equal names, the first of those, and its place.
+fn most_exact_grant(held: &Reading, with: &Request) -> Option<(usize, Grant)> {
+    let serving = held.grants().enumerate().filter_map(|(place, grant)| {
+        let names = names_served(held, &grant, with)?;
+        Some((names, place, grant))
+    });
+    serving
+        .max_by_key(|&(names, place, _)| (names, Reverse(place)))
+        .map(|(_, place, grant)| (place, grant))
+}
+
+/// How many levels are matched by equal names, if the grant serves: it has the mode, a matching pattern and no constraint pair.
+fn names_served(held: &Reading, grant: &Grant, with: &Request) -> Option<u64> {
+    if grant.mask >> with.mode & 1 == 1 && grant.constraint_pairs == 0 {
+        names_matched(held.pattern(grant), with.resource)
+    } else {
+        None
+    }
 }
 
 /// The steps on the key and the signature.

@@ -18,6 +18,8 @@ pub struct Matching {
     pub answer: u64,
     /// 1 where the pattern matches the resource id, else 0.
     pub yes: u64,
+    /// How many levels were matched by equal names; 0 where the pattern doesn't match.
+    pub names: u64,
 }
 
 /// Matches a pattern and a resource id.
@@ -25,34 +27,41 @@ pub fn matching(pattern: &[u8], resource: &[u8]) -> Matching {
     if !is_pattern(pattern) || !is_resource_id(resource) {
         return Matching {
             answer: MALFORMED_ARGUMENTS,
-            yes: 0,
+            ..Matching::default()
         };
     }
+    let names = names_matched(pattern, resource);
     Matching {
         answer: DONE,
-        yes: u64::from(pattern_matches(pattern, resource)),
+        yes: u64::from(names.is_some()),
+        names: names.unwrap_or(0),
     }
 }
 
-/// Whether a well-formed pattern matches a well-formed resource id.
-pub(crate) fn pattern_matches(pattern: &[u8], resource: &[u8]) -> bool {
+/// How many levels are matched by equal names, if a well-formed pattern matches a well-formed resource id.
+pub(crate) fn names_matched(pattern: &[u8], resource: &[u8]) -> Option<u64> {
     let (terminal, levels) = pattern.split_at(TERMINAL_LENGTH);
     let (other, path) = resource.split_at(TERMINAL_LENGTH);
-    terminal == other && levels_match(&levels[1..], &path[1..])
+    if terminal == other {
+        levels_match(&levels[1..], &path[1..])
+    } else {
+        None
+    }
 }
 
-/// Whether the levels of a pattern match those of a path.
-fn levels_match(pattern: &[u8], path: &[u8]) -> bool {
+/// How many levels are matched by equal names, if the levels of a pattern match those of a path.
+fn levels_match(pattern: &[u8], path: &[u8]) -> Option<u64> {
     let mut names = levels_of(path);
+    let mut equal = 0;
     for level in levels_of(pattern) {
-        match (level, names.next()) {
-            (b"**", Some(_)) => return true,
-            (b"*", Some(_)) => {}
-            (level, Some(name)) if level == name => {}
-            _ => return false,
+        match (level, names.next()?) {
+            (b"**", _) => return Some(equal),
+            (b"*", _) => {}
+            (level, name) if level == name => equal += 1,
+            _ => return None,
         }
     }
-    names.next().is_none()
+    names.next().is_none().then_some(equal)
 }
 
 /// The levels of a text without its terminal id and the slash after it.

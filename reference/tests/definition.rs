@@ -1,20 +1,76 @@
-//! Compares narrowing with its definition: all short paths over a few names, one by one.
+//! Compares matching, requests and narrowing with their definitions: short patterns and paths over a few names, one by one.
 
-use reference::{matching, narrow};
+use std::collections::HashSet;
+
+use reference::{image_new, matching, narrow, request, submit, Decision, Request, Submission};
 
 const T: &str = "terminal:00000000-0000-7000-8000-000000000001";
+const FAY: &str = "fay:01927b34-7e21-7c4d-a89f-1234567890ab";
+const ID: &[u8; 16] = b"0123456789abcdef";
 const MODES: [&str; 4] = ["read", "write", "execute", "configure"];
 /// The names of the patterns, and one that no pattern has.
 const NAMES: [&str; 3] = ["a", "b", "fresh"];
-/// Patterns have at most 3 levels, so that paths of 5 names show all that longer ones do.
+/// Drawn patterns have at most 3 levels, so that paths of 5 names show all that longer ones do.
 const DEEPEST: usize = 5;
 
-/// A pattern and the mask of its modes.
-type Rule = (String, u64);
+/// A grant: its pattern, the mask of its modes, and how many constraint pairs it has, if it has constraints.
+#[derive(Debug)]
+struct Rule {
+    pattern: String,
+    mask: u64,
+    constraints: Option<u8>,
+}
+
+#[test]
+fn names_are_counted_as_defined() {
+    let paths = texts(&NAMES, DEEPEST);
+    let mut matches = [0; 5];
+    let mut others = 0;
+    for pattern in all_patterns() {
+        let matched = expansions(&pattern);
+        for path in &paths {
+            let m = matching(pattern.as_bytes(), path.as_bytes());
+            let (yes, equal) = (matched.contains(path), equal_places(&pattern, path));
+            let expected = if yes { (0, 1, equal) } else { (0, 0, 0) };
+            assert_eq!((m.answer, m.yes, m.names), expected, "{pattern} {path}");
+            if yes {
+                matches[equal as usize] += 1;
+            } else {
+                others += u64::from(equal > 0);
+            }
+        }
+    }
+    assert!(matches.iter().all(|&count| count > 10), "{matches:?}");
+    assert!(others > 1000, "{others} have equal names and don't match");
+}
+
+#[test]
+fn the_most_exact_grant_is_named() {
+    let paths = texts(&NAMES[..2], 3);
+    let mut draw = Draw(2);
+    let mut answers = [0; 3];
+    for _ in 0..3000 {
+        let rules = draw.constrained_rules(16);
+        let path = &paths[draw.below(paths.len() as u64) as usize];
+        let mode = draw.below(4);
+        let served: Vec<_> = rules.iter().map(|r| names_served(r, path, mode)).collect();
+        let named = most_exact(&served);
+        let expected = named.map_or(refused(13), |place| Decision {
+            answer: 0,
+            grant: place as u64,
+            mask: rules[place].mask,
+            session_end: 5,
+        });
+        assert_eq!(decided(&rules, path, mode), expected, "{rules:?} {path}");
+        let first = served.iter().position(Option::is_some);
+        answers[named.map_or(0, |_| 1 + usize::from(named != first))] += 1;
+    }
+    assert!(answers.iter().all(|&count| count > 100), "{answers:?}");
+}
 
 #[test]
 fn narrowing_is_as_defined() {
-    let paths = all_paths();
+    let paths = texts(&NAMES, DEEPEST);
     let mut draw = Draw(1);
     let mut answers = [0; 2];
     for _ in 0..1500 {
@@ -33,19 +89,101 @@ fn narrowing_is_as_defined() {
     assert!(answers.iter().all(|&count| count > 100), "{answers:?}");
 }
 
+/// All patterns of at most 4 levels.
+fn all_patterns() -> impl Iterator<Item = String> {
+    texts(&["a", "b", "*", "**"], 4)
+        .into_iter()
+        .filter(|text| !text.contains("**/"))
+}
+
+/// The paths that a pattern matches: a name stands for itself, "*" for any name, "**" for one or more, here at most as many as a
+/// path has.
+fn expansions(pattern: &str) -> HashSet<String> {
+    let one_or_more = texts(&NAMES, DEEPEST);
+    let mut all = vec![T.to_string()];
+    for level in pattern.split('/').skip(1) {
+        let instead: Vec<String> = match level {
+            "*" => NAMES.map(|name| format!("/{name}")).into(),
+            "**" => one_or_more.iter().map(|t| t[T.len()..].into()).collect(),
+            name => vec![format!("/{name}")],
+        };
+        all = all
+            .iter()
+            .flat_map(|start| instead.iter().map(move |names| format!("{start}{names}")))
+            .collect();
+    }
+    all.into_iter().collect()
+}
+
+/// The number of places below the terminal id at which the pattern's level and the path's are the same text.
+fn equal_places(pattern: &str, path: &str) -> u64 {
+    let levels = pattern.split('/').zip(path.split('/')).skip(1);
+    levels.filter(|(level, name)| level == name).count() as u64
+}
+
+/// How many levels are matched by equal names, if the grant serves.
+fn names_served(rule: &Rule, path: &str, mode: u64) -> Option<u64> {
+    let serves = rule.mask >> mode & 1 == 1
+        && rule.constraints.unwrap_or(0) == 0
+        && admits(&rule.pattern, path);
+    serves.then(|| equal_places(&rule.pattern, path))
+}
+
+/// The place of the grant that serves and is before all others that do: each other one has fewer equal names, or as many and
+/// stands after it.
+fn most_exact(served: &[Option<u64>]) -> Option<usize> {
+    let before = |one: usize, names: u64, other: usize| {
+        served[other].is_none_or(|others| others < names || others == names && one <= other)
+    };
+    (0..served.len()).find(|&one| {
+        served[one].is_some_and(|names| (0..served.len()).all(|other| before(one, names, other)))
+    })
+}
+
+/// The decision on a request for a descriptor with the rules as its grants.
+fn decided(rules: &[Rule], path: &str, mode: u64) -> Decision {
+    let body = encode(rules);
+    let mut image = vec![0; 8 + 32 + body.len()];
+    let with = Submission {
+        now: 2,
+        ..Submission::default()
+    };
+    assert_eq!(image_new(&mut image), 0);
+    assert_eq!(submit(&mut image, &body, &with), 0);
+    let asked = Request {
+        id: ID,
+        fay: FAY.as_bytes(),
+        terminal: T.as_bytes(),
+        resource: path.as_bytes(),
+        mode,
+        now: 2,
+        session_length: 100,
+        ..Request::default()
+    };
+    request(&image, &asked)
+}
+
+/// A refusal.
+fn refused(answer: u64) -> Decision {
+    Decision {
+        answer,
+        ..Decision::default()
+    }
+}
+
 /// The first grant, its lowest mode and the fewest names, found by trying all paths.
 fn escape(parent: &[Rule], child: &[Rule], paths: &[String]) -> Option<(u64, u64, u64)> {
-    for (place, (pattern, mask)) in child.iter().enumerate() {
-        for mode in (0..4).filter(|mode| mask >> mode & 1 == 1) {
+    for (place, rule) in child.iter().enumerate() {
+        for mode in (0..4).filter(|mode| rule.mask >> mode & 1 == 1) {
             let covered = |path: &&String| {
                 parent
                     .iter()
-                    .any(|(pattern, mask)| mask >> mode & 1 == 1 && admits(pattern, path))
+                    .any(|over| over.mask >> mode & 1 == 1 && admits(&over.pattern, path))
             };
             let fewest = paths
                 .iter()
-                .filter(|path| admits(pattern, path) && !covered(path))
-                .map(|path| names_taken(pattern, path))
+                .filter(|path| admits(&rule.pattern, path) && !covered(path))
+                .map(|path| names_taken(&rule.pattern, path))
                 .min();
             if let Some(fewest) = fewest {
                 return Some((place as u64, mode, fewest));
@@ -68,18 +206,20 @@ fn names_taken(pattern: &str, path: &str) -> u64 {
     }
 }
 
-/// All paths of at most so many names.
-fn all_paths() -> Vec<String> {
-    let mut paths = vec![T.to_string()];
+/// All texts of the terminal id and at most so many of the levels.
+fn texts(levels: &[&str], most: usize) -> Vec<String> {
+    let mut all = vec![T.to_string()];
     let mut start = 0;
-    for _ in 0..DEEPEST {
-        let end = paths.len();
+    for _ in 0..most {
+        let end = all.len();
         for i in start..end {
-            paths.extend(NAMES.map(|name| format!("{}/{name}", paths[i])));
+            for level in levels {
+                all.push(format!("{}/{level}", all[i]));
+            }
         }
         start = end;
     }
-    paths.split_off(1)
+    all.split_off(1)
 }
 
 /// A small generator of numbers, the same in each run.
@@ -98,6 +238,15 @@ impl Draw {
         (0..=self.below(most)).map(|_| self.rule()).collect()
     }
 
+    /// Rules of which some have constraints, with a pair or without.
+    fn constrained_rules(&mut self, most: u64) -> Vec<Rule> {
+        let mut rules = self.rules(most);
+        for rule in &mut rules {
+            rule.constraints = [None, None, Some(0), Some(1)][self.below(4) as usize];
+        }
+        rules
+    }
+
     fn rule(&mut self) -> Rule {
         let mut pattern = T.to_string();
         let levels = 1 + self.below(3);
@@ -107,35 +256,51 @@ impl Draw {
             pattern += "/";
             pattern += if deep { "**" } else { name };
         }
-        (pattern, 1 + self.below(15))
+        Rule {
+            pattern,
+            mask: 1 + self.below(15),
+            constraints: None,
+        }
     }
 }
 
-/// The bytes of a descriptor with the rules as its grants.
+/// The bytes of a descriptor with the rules as its grants, valid from 2 to 5.
 fn encode(rules: &[Rule]) -> Vec<u8> {
     let mut out = b"\xa3\x67payload\xa8\x66grants".to_vec();
     out.push(0x80 + rules.len() as u8);
-    for (pattern, mask) in rules {
-        let modes: Vec<&str> = (0..4)
-            .filter(|mode| mask >> mode & 1 == 1)
-            .map(|mode| MODES[mode])
-            .collect();
-        out.extend(b"\xa2\x65modes");
-        out.push(0x80 + modes.len() as u8);
-        for mode in modes {
-            text(&mut out, mode);
-        }
-        text(&mut out, "resource_pattern");
-        text(&mut out, pattern);
+    for rule in rules {
+        grant(&mut out, rule);
     }
     out.extend(
         b"\x69issued_at\x01\x69issuer_id\x61i\x69not_after\x05\x6anot_before\x02\x6bterminal_id",
     );
     text(&mut out, T);
-    out.extend(b"\x6ddescriptor_id\x500123456789abcdef\x6esubject_fay_id");
-    text(&mut out, "fay:01927b34-7e21-7c4d-a89f-1234567890ab");
+    out.extend(b"\x6ddescriptor_id\x50");
+    out.extend(ID);
+    text(&mut out, "subject_fay_id");
+    text(&mut out, FAY);
     out.extend(b"\x67version\x01\x69signature\xa3\x66key_id\x61k\x69algorithm\x71ecdsa-p256-sha256\x6fsignature_value\x41s");
     out
+}
+
+fn grant(out: &mut Vec<u8>, rule: &Rule) {
+    let modes: Vec<&str> = (0..4)
+        .filter(|mode| rule.mask >> mode & 1 == 1)
+        .map(|mode| MODES[mode])
+        .collect();
+    out.push(0xa2 + u8::from(rule.constraints.is_some()));
+    text(out, "modes");
+    out.push(0x80 + modes.len() as u8);
+    for mode in modes {
+        text(out, mode);
+    }
+    if let Some(pairs) = rule.constraints {
+        text(out, "constraints");
+        out.push(0xa0 + pairs);
+        (0..pairs).for_each(|_| out.extend(b"\x61k\x61v"));
+    }
+    text(out, "resource_pattern");
+    text(out, &rule.pattern);
 }
 
 fn text(out: &mut Vec<u8>, text: &str) {

@@ -141,7 +141,7 @@ fn grant(bytes: &[u8], index: u64) -> String {
 
 fn matched(pattern: &[u8], resource: &[u8]) -> String {
     let m = matching(pattern, resource);
-    format!(": {}, yes {}", m.answer, m.yes)
+    format!(": {}, yes {}, names {}", m.answer, m.yes, m.names)
 }
 
 fn narrowed(parent: &[u8], child: &[u8]) -> String {

@@ -27,6 +27,7 @@ fn main() {
     for (rows, revoked) in [(1, 0), (64, 0), (1, 1000)] {
         request(rows, revoked);
     }
+    requests_of_256();
     matching();
     for grants in [1, 16, 256] {
         let bytes = rooms(grants).bytes();
@@ -69,10 +70,30 @@ fn reading(grants: usize) {
 /// A request for the last of so many rows, with a revocation list of so many other ids.
 fn request(rows: u64, revoked: u64) {
     let models: Vec<Model> = (0..rows).map(|number| rooms(1).numbered(number)).collect();
-    let held = image(&models.iter().map(Row::of).collect::<Vec<_>>());
-    let resource = format!("{TERMINAL}/lab/room-000/camera/front");
     let others = (rows..rows + revoked).map(|number| revocation(&rooms(1).numbered(number).id, 0));
     let list = others.collect::<Vec<_>>().concat();
+    let case = format!("request, rows {rows}, revoked {revoked}");
+    race_requests(&case, &models, "lab/room-000/camera/front", &list);
+}
+
+/// Requests for a row of 256 grants: where the first alone serves, where the last alone does, and where all do, the most exact
+/// first and the most exact last.
+fn requests_of_256() {
+    let ask = |case: &str, model, levels: &str| race_requests(case, &[model], levels, &[]);
+    let path = |room: &str| format!("lab/room-{room}/camera/front");
+    ask("request, 256, the first serves", rooms(256), &path("000"));
+    ask("request, 256, the last serves", rooms(256), &path("255"));
+    let serving = |n| format!("{}{}", start(n), levels("n", 14));
+    let (falling, rising) = ((0..256).map(serving), (0..256).rev().map(serving));
+    let names = levels("n", 22);
+    ask("request, 256 serve, exact first", readers(falling), &names);
+    ask("request, 256 serve, exact last", readers(rising), &names);
+}
+
+/// A request for the last of the descriptors, which are the rows of an image.
+fn race_requests(case: &str, models: &[Model], levels: &str, revoked: &[u8]) {
+    let held = image(&models.iter().map(Row::of).collect::<Vec<_>>());
+    let resource = format!("{TERMINAL}/{levels}");
     let asked = Request {
         id: &models[models.len() - 1].id,
         fay: FAY.as_bytes(),
@@ -80,11 +101,11 @@ fn request(rows: u64, revoked: u64) {
         resource: resource.as_bytes(),
         now: 2500,
         session_length: 100,
-        revoked: &list,
+        revoked,
         ..Request::default()
     };
     race_and_print(
-        &format!("request, rows {rows}, revoked {revoked}"),
+        case,
         || {
             let (a, image) = (black_box(&asked), black_box(&held));
             cap::numbers::request(

@@ -111,10 +111,10 @@ pub fn grants(bytes: &[u8]) -> Grants<'_> {
     Grants { bytes, next: 0 }
 }
 
-/// Says whether a pattern matches a resource id.
-pub fn matching(pattern: &[u8], resource: &[u8]) -> Result<bool, Answer> {
+/// Says how many levels were matched by equal names, or none where the pattern doesn't match the resource id.
+pub fn matching(pattern: &[u8], resource: &[u8]) -> Result<Option<u64>, Answer> {
     let matching = numbers::matching(pattern, resource);
-    done(matching.answer).map(|()| matching.yes == 1)
+    done(matching.answer).map(|()| (matching.yes == 1).then_some(matching.names))
 }
 
 /// Makes a new image of no bodies.
@@ -141,7 +141,8 @@ pub fn submit(image: &mut [u8], descriptor: &[u8], now: u64, key: &Key) -> Resul
     ))
 }
 
-/// Decides a request for the stored descriptor with the id.
+/// Decides a request for the stored descriptor with the id. Of the grants that serve the decision has the one with most levels
+/// matched by equal names, the first of those.
 pub fn request(image: &[u8], with: &Request) -> Result<numbers::Decision, Answer> {
     let decision = numbers::request(
         image,

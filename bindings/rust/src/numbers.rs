@@ -101,6 +101,8 @@ pub struct Matching {
     pub answer: u64,
     /// 1 where the pattern matches the resource id, else 0.
     pub yes: u64,
+    /// With `yes` 1: how many levels were matched by equal names; the terminal id is no level, "*" and "**" count 0. Else 0.
+    pub names: u64,
 }
 
 /// What looking for a body answers.
@@ -121,7 +123,7 @@ pub struct Stored {
 pub struct Decision {
     /// 0, or the number of the first step that fails.
     pub answer: u64,
-    /// The place of the first grant that serves.
+    /// The place of the grant that serves with most levels matched by equal names, the first of those.
     pub grant: u64,
     /// The modes of that grant.
     pub mask: u64,
@@ -213,7 +215,7 @@ pub fn grant_at(bytes: &[u8], index: u64) -> Grant {
     unsafe { cap_grant_at(bytes.as_ptr(), bytes.len(), index) }
 }
 
-/// Matches a pattern and a resource id.
+/// Matches a pattern and a resource id, and counts the levels that were matched by equal names.
 pub fn matching(pattern: &[u8], resource: &[u8]) -> Matching {
     // SAFETY: as said at the top.
     unsafe {
@@ -264,9 +266,10 @@ pub fn submit(
     }
 }
 
-/// Decides a request for the stored descriptor with the id. `revoked` is the revocation list: rows of 24 bytes in any order,
-/// each a descriptor id (16), then the moment from which on it is revoked, in seconds, big-endian (8). An id may recur. A
-/// length that is no multiple of 24 is answered 15.
+/// Decides a request for the stored descriptor with the id. A grant serves where it has the mode, a pattern that matches the
+/// resource id and no constraint pair; of those that serve the decision has the one with most `names` ([`Matching`]), the first
+/// of them on a tie. `revoked` is the revocation list: rows of 24 bytes in any order, each a descriptor id (16), then the moment
+/// from which on it is revoked, in seconds, big-endian (8). An id may recur. A length that is no multiple of 24 is answered 15.
 #[allow(clippy::too_many_arguments)]
 pub fn request(
     image: &[u8],

@@ -12,10 +12,13 @@ mod encoder;
 mod gate;
 #[path = "support/random.rs"]
 mod random;
+#[path = "support/slips.rs"]
+mod slips;
 
 use compare::Compare;
-use gate::{Library, Ordinary, Slip, Wrong, SLIPS};
+use gate::{Library, Ordinary};
 use random::Random;
+use slips::{Slip, Wrong, SLIPS};
 
 /// The cases of a subject.
 type Cases = fn(&mut Compare, &mut Random, usize);
@@ -31,7 +34,7 @@ fn setting(name: &str, usual: u64) -> u64 {
 }
 
 /// Runs a subject over the library and the ordinary implementation, and asks that the answers were given that must occur.
-fn agree(subject: &str, cases: Cases, call: &'static str, answers: &[u64]) {
+fn agree(subject: &str, cases: Cases, call: &'static str, answers: &[u64]) -> Compare<'static> {
     let (seed, rounds) = (setting("CAP_SEED", 1), setting("CAP_ROUNDS", 2000));
     println!("{subject}: CAP_SEED={seed} CAP_ROUNDS={rounds}");
     let mut compare = Compare::new(&Library, &Ordinary);
@@ -44,6 +47,7 @@ fn agree(subject: &str, cases: Cases, call: &'static str, answers: &[u64]) {
             "{call} never answered {answer}"
         );
     }
+    compare
 }
 
 #[test]
@@ -63,7 +67,8 @@ fn descriptors() {
 
 #[test]
 fn paths() {
-    agree("paths", cases::paths::run, "matching", &[0, 15]);
+    let compare = agree("paths", cases::paths::run, "matching", &[0, 15]);
+    assert_eq!(*compare.names(), (0..=105).collect());
 }
 
 #[test]
@@ -84,6 +89,11 @@ fn requests() {
 }
 
 #[test]
+fn named_grants() {
+    agree("named grants", cases::named::run, "request", &[0, 13]);
+}
+
+#[test]
 fn narrowing() {
     agree(
         "narrowing",
@@ -98,13 +108,16 @@ fn cases_for(slip: Slip) -> Cases {
     match slip {
         Slip::EmptyStringAtZero | Slip::LongerHeadRead => cases::items::run,
         Slip::PeriodOneShort | Slip::LastGrantRepeated => cases::descriptors::run,
-        Slip::MatchingByPrefix => cases::paths::run,
+        Slip::MatchingByPrefix | Slip::StarCounted | Slip::DeepCounted => cases::paths::run,
+        Slip::TerminalCounted | Slip::NamesOfNo => cases::paths::run,
         Slip::NewImageCleared | Slip::EditionNotRead => cases::images::run,
         Slip::DuplicateAccepted | Slip::TailCleared | Slip::AheadWraps => cases::submissions::run,
         Slip::KeyNeverEnds | Slip::SessionNotCut | Slip::SessionWraps => cases::requests::run,
         Slip::RevokedIgnored | Slip::RevokedAtOnce | Slip::RevokedLate => cases::requests::run,
         Slip::RevokedByFirstRow | Slip::RevokedMomentReversed => cases::requests::run,
         Slip::ExpiryLate => cases::requests::run,
+        Slip::FirstNamed | Slip::LastOfTieNamed | Slip::StarPreferred => cases::named::run,
+        Slip::OtherModeNamed | Slip::ConstrainedNamed | Slip::MaskOfFirst => cases::named::run,
         Slip::HighestMode | Slip::LevelsAlwaysOne => cases::narrowing::run,
     }
 }

@@ -5,13 +5,28 @@
 mod encoder;
 
 use cap::{numbers, Answer, Key, Mode, Refusal, Request, Revocation, Verdict};
-use encoder::{grant, Model, FAY, MODES, TERMINAL};
+use encoder::{grant, image, Model, Row, FAY, MODES, TERMINAL};
 
 const GOOD: Key = Key {
     verdict: Verdict::Good,
     valid_from: 0,
     valid_until: None,
 };
+
+/// A request to read at 2,500.
+fn asked<'a>(id: &'a [u8; 16], resource: &'a str) -> Request<'a> {
+    Request {
+        id,
+        fay: FAY.as_bytes(),
+        terminal: TERMINAL.as_bytes(),
+        resource: resource.as_bytes(),
+        mode: Mode::Read,
+        now: 2500,
+        session_length: 1000,
+        revoked: &[],
+        key: GOOD,
+    }
+}
 
 #[test]
 fn answers_have_the_numbers_of_the_table() {
@@ -75,14 +90,16 @@ fn grants_are_walked_and_end() {
 }
 
 #[test]
-fn matching_answers_yes_no_or_malformed() {
-    let under = |levels: &str| format!("{TERMINAL}/{levels}").into_bytes();
-    assert_eq!(cap::matching(&under("d/*"), &under("d/a")), Ok(true));
-    assert_eq!(cap::matching(&under("d/*"), &under("d/a/b")), Ok(false));
-    assert_eq!(
-        cap::matching(&under("d*"), &under("d")),
-        Err(Answer::MalformedArguments)
-    );
+fn matching_answers_names_no_or_malformed() {
+    let matched = |pattern: &str, path: &str| {
+        let under = |levels: &str| format!("{TERMINAL}/{levels}").into_bytes();
+        cap::matching(&under(pattern), &under(path))
+    };
+    assert_eq!(matched("d/*", "d/a"), Ok(Some(1)));
+    assert_eq!(matched("d/a", "d/a"), Ok(Some(2)));
+    assert_eq!(matched("**", "d/a"), Ok(Some(0)));
+    assert_eq!(matched("d/*", "d/a/b"), Ok(None));
+    assert_eq!(matched("d*", "d"), Err(Answer::MalformedArguments));
     assert_eq!(cap::matching(&[], &[]), Err(Answer::MalformedArguments));
 }
 
@@ -123,17 +140,7 @@ fn a_body_is_stored_found_and_asked_for() {
     assert_eq!(cap::submit(&mut image, &body, 2000, &GOOD), Ok(()));
     assert_eq!(cap::image_find(&image, &id), Ok(&body[..]));
     let resource = format!("{TERMINAL}/a/b");
-    let asked = Request {
-        id: &id,
-        fay: FAY.as_bytes(),
-        terminal: TERMINAL.as_bytes(),
-        resource: resource.as_bytes(),
-        mode: Mode::Read,
-        now: 2500,
-        session_length: 1000,
-        revoked: &[],
-        key: GOOD,
-    };
+    let asked = asked(&id, &resource);
     let granted = numbers::Decision {
         answer: 0,
         grant: 0,
@@ -171,6 +178,27 @@ fn a_body_is_stored_found_and_asked_for() {
         ..asked
     };
     assert_eq!(cap::request(&image, &forged), Err(Answer::InvalidSignature));
+}
+
+#[test]
+fn the_most_exact_grant_is_named() {
+    let model = Model::with(vec![
+        grant(&["read"], "**"),
+        grant(&["read", "write"], "a/*"),
+        grant(&["write"], "a/b"),
+    ]);
+    let id = model.id.clone().try_into().expect("16 bytes");
+    let (image, resource) = (image(&[Row::of(&model)]), format!("{TERMINAL}/a/b"));
+    let named = |mode| {
+        let with = Request {
+            mode,
+            ..asked(&id, &resource)
+        };
+        cap::request(&image, &with).map(|decision| (decision.grant, decision.mask))
+    };
+    assert_eq!(named(Mode::Read), Ok((1, 3)));
+    assert_eq!(named(Mode::Write), Ok((2, 2)));
+    assert_eq!(named(Mode::Execute), Err(Answer::AuthorizationInsufficient));
 }
 
 #[test]

@@ -184,9 +184,21 @@ pub(crate) fn of_matching(answer: Matching) -> MatchingNumbers
     ensures { λ r. ⌜ r ≡ texts.numbersOf answer ⌝ }
 {
     match answer {
-        Matching::Yes => MatchingNumbers { answer: 0, yes: 1 },
-        Matching::No => MatchingNumbers { answer: 0, yes: 0 },
-        Matching::Malformed => MatchingNumbers { answer: 15, yes: 0 },
+        Matching::Yes { names } => MatchingNumbers {
+            answer: 0,
+            yes: 1,
+            names,
+        },
+        Matching::No => MatchingNumbers {
+            answer: 0,
+            yes: 0,
+            names: 0,
+        },
+        Matching::Malformed => MatchingNumbers {
+            answer: 15,
+            yes: 0,
+            names: 0,
+        },
     }
 }
 

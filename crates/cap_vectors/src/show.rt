@@ -118,7 +118,7 @@ pub(crate) fn grant(index: u64, g: GrantNumbers) {
 }
 
 pub(crate) fn matching(m: MatchingNumbers) {
-    line(b": #, yes #", &[m.answer, m.yes]);
+    line(b": #, yes #, names #", &[m.answer, m.yes, m.names]);
 }
 
 pub(crate) fn narrowing(n: NarrowingNumbers) {

@@ -13,7 +13,7 @@ fn parted(line: &[u8], n: usize) -> Verdict
         return Verdict::IsBad;
     }
     match resource::match_texts(&line[..n], &line[n + 1..]) {
-        Matching::Yes => Verdict::IsYes,
+        Matching::Yes { names: _ } => Verdict::IsYes,
         Matching::No => Verdict::IsNo,
         Matching::Malformed => Verdict::IsBad,
     }

@@ -15,9 +15,9 @@ use Rattle.resource_spec.specs.declared.Matching.the-variants.{Yes, No, Malform
 use Rattle.resource_spec.specs.Characters.{codes}
 use Rattle.resource_spec.specs.Identifier.{fits}
 use Rattle.octets.specs.Scan.{bytesBefore}
-use Rattle.resource_spec.specs.Pattern.{Path, pathText, Pattern, patternText, admits}
+use Rattle.resource_spec.specs.Pattern.{Path, pathText, Pattern, patternText, admits, namesMatched}
 use Rattle.resource_spec.specs.Pattern.{spelled}
-use Rattle.resource_spec.specs.Text.{isPattern, isResource, patternOk, resourceOk, numbersOf, matching}
+use Rattle.resource_spec.specs.Text.{isPattern, isResource, patternOk, resourceOk, numbersOf, yesWith, matching}
 use Rattle.octets.proofs.Tests.{by-cond, and-left, and-right, no-flag}
 use Rattle.octets.proofs.ScanLaws.{before-all}
 use Rattle.resource_spec.proofs.Laws.{pattern-spaceless}
@@ -46,16 +46,16 @@ parts-at (b ∷ bs) h = go (eqb b 32) refl (parts-at bs)
 -- ---- what matching answers, from its numbers
 
 -- the numbers for yes and no are those of yes and no alone
-cond-matching : (m : Matching) (b : Bool) → numbersOf m ≡ record { answer = 0; yes = cond b 1 0 } → m ≡ cond b Yes No
-cond-matching Yes true e = refl
-cond-matching Yes false e = absurd (omega (arith, ap (λ n. n .yes) e))
-cond-matching No true e = absurd (omega (arith, ap (λ n. n .yes) e))
-cond-matching No false e = refl
-cond-matching Malformed b e = absurd (omega (arith, ap (λ n. n .answer) e))
+cond-matching : (m : Matching) (b : Bool) (n : ℕ) → numbersOf m ≡ record { answer = 0; yes = cond b 1 0; names = n } → m ≡ yesWith b n
+cond-matching (Yes k) true n e = ap Yes (ap (λ x. x .names) e)
+cond-matching (Yes k) false n e = absurd (omega (arith, ap (λ x. x .yes) e))
+cond-matching No true n e = absurd (omega (arith, ap (λ x. x .yes) e))
+cond-matching No false n e = refl
+cond-matching Malformed b n e = absurd (omega (arith, ap (λ x. x .answer) e))
 
 -- 15 is the number of malformed texts alone
-bad-matching : (m : Matching) → numbersOf m ≡ record { answer = 15; yes = 0 } → m ≡ Malformed
-bad-matching Yes e = absurd (omega (arith, ap (λ n. n .answer) e))
+bad-matching : (m : Matching) → numbersOf m ≡ record { answer = 15; yes = 0; names = 0 } → m ≡ Malformed
+bad-matching (Yes k) e = absurd (omega (arith, ap (λ n. n .answer) e))
 bad-matching No e = absurd (omega (arith, ap (λ n. n .answer) e))
 bad-matching Malformed e = refl
 
@@ -81,13 +81,13 @@ asks-verdict line p x a =
     let fits : leb (length (l ++ (32 ∷ r))) 600 ≡ true =
     le-leb (length (l ++ (32 ∷ r))) 600 (omega (arith, size, a .pattern-fits, a .path-fits)) in
     let some : leb (length (l ++ (32 ∷ r))) (length l) ≡ false = lt-leb (length (l ++ (32 ∷ r))) (length l) (omega (arith, size)) in
-    let m : matching l r ≡ cond (admits p x) Yes No =
-    cond-matching (matching l r) (admits p x) (matching-exact p x (a .pattern) (a .path) (a .pattern-fits) (a .path-fits)) in
-    rw (a .spelled, fits, n, some, take-at l (32 ∷ r) (length l) refl, after-space l r, m) (go (admits p x))
+    let m : matching l r ≡ yesWith (admits p x) (namesMatched p x) =
+    cond-matching (matching l r) (admits p x) (namesMatched p x) (matching-exact p x (a .pattern) (a .path) (a .pattern-fits) (a .path-fits)) in
+    rw (a .spelled, fits, n, some, take-at l (32 ∷ r) (length l) refl, after-space l r, m) (go (admits p x) (namesMatched p x))
   where
-    go : (b : Bool) → verdictOf (cond b Yes No) ≡ verdictFor b
-    go true = refl
-    go false = refl
+    go : (b : Bool) (n : ℕ) → verdictOf (yesWith b n) ≡ verdictFor b
+    go true n = refl
+    go false n = refl
 
 -- a text that may enter as a pattern is one, of 256 bytes at most
 pattern-ok : (s : List ℕ) → patternOk s ≡ true → (length s ≤ 256) × (isPattern s ≡ true)

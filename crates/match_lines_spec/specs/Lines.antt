@@ -25,7 +25,7 @@ verdictLine IsBad = 98 ∷ 97 ∷ 100 ∷ 10 ∷ []
 
 -- bad is also for what matching answers with 15
 abbrev pub verdictOf : Matching → Verdict
-verdictOf Yes = IsYes
+verdictOf (Yes names) = IsYes
 verdictOf No = IsNo
 verdictOf Malformed = IsBad
 

@@ -135,8 +135,8 @@ pub record Goes (q p : List ℕ) (i j : ℕ) : Type 0 where
 -- what is told of two texts that are not "**" by the step of their first levels
 abbrev pub Stepped : List ℕ → List ℕ → LevelStep → Type 0
 Stepped q p Differ = textRange q p ≡ range 0 0
-Stepped q p Finish = textRange q p ≡ range 0 1
-Stepped q p (Next i j) = Goes q p i j
+Stepped q p (Finish names) = textRange q p ≡ range 0 1
+Stepped q p (Next i j names) = Goes q p i j
 
 -- two texts that are not "**", by their first levels
 first-cover : (q p : List ℕ) (ls ks : List (List ℕ)) (t : Bool) → Firsts q p ls ks t → isDeep q ≡ false → isDeep p ≡ false
@@ -161,8 +161,8 @@ other-cover true (l ∷ ls) (k ∷ ks) e = no-flag (sym e)
 cover-says : (q p : List ℕ) (x : LevelStep) → FirstLevels q p x → isDeep q ≡ false → isDeep p ≡ false → Stepped q p x
 unfolding levelsOf textRange
 cover-says q p Differ f d c = first-cover q p (f .0) (f .1) (f .2) (f .3) d c ∙ other-cover (f .2) (f .0) (f .1) (f .4)
-cover-says q p Finish f d c = first-cover q p [] [] true f d c
-cover-says q p (Next i j) f d c =
+cover-says q p (Finish names) f d c = first-cover q p [] [] true (f .0) d c
+cover-says q p (Next i j names) f d c =
     record {
       in-q = f .0;
       in-p = f .1;

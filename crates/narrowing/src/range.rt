@@ -57,8 +57,12 @@ pub(crate) fn cover(q: &[u8], p: &[u8]) -> Range
         }
         match resource::step_levels(rest_q, rest_p) {
             LevelStep::Differ => return Range { lo: 0, hi: 0 },
-            LevelStep::Finish => return Range { lo: 0, hi: 1 },
-            LevelStep::Next { p: i, r: j } => {
+            LevelStep::Finish { names: _ } => return Range { lo: 0, hi: 1 },
+            LevelStep::Next {
+                p: i,
+                r: j,
+                names: _,
+            } => {
                 rest_q = &rest_q[i + 1..];
                 rest_p = &rest_p[j + 1..];
             }

@@ -2,7 +2,7 @@
 use mathlib.Core.Path.{_≡_, refl, sym, ap, _∙_}
 use mathlib.Core.Bool.{Bool, true, false, not}
 use mathlib.Core.List.{List, [], _∷_, _++_}
-use Prim.Native.Nat.{ℕ, suc, _+_, _≤_, _<_}
+use Prim.Native.Nat.{ℕ, zero, suc, _+_, _≤_, _<_}
 use native.Mathlib.Numerals.{add-one}
 use native.Mathlib.Omega.{arith}
 use lib.ListN.{length, getD, drop, drop-of-length-le}
@@ -83,6 +83,19 @@ pub without-append : (b : ℕ) (l r : List ℕ) → without b l ≡ true → wit
 without-append b [] r e f = f
 without-append b (x ∷ xs) r e f =
     without-more b x (xs ++ r) (ap not (without-first b x xs e)) (without-append b xs r (without-rest b x xs e) f)
+
+-- the beginning of a text without b
+pub without-front : (b : ℕ) (l r : List ℕ) → without b (l ++ r) ≡ true → without b l ≡ true
+unfolding without
+without-front b [] r e = refl
+without-front b (x ∷ xs) r e =
+    without-more b x xs (ap not (without-first b x (xs ++ r) e)) (without-front b xs r (without-rest b x (xs ++ r) e))
+
+-- what is left of it
+pub without-drop : (b n : ℕ) (s : List ℕ) → without b s ≡ true → without b (drop n s) ≡ true
+without-drop b zero s e = e
+without-drop b (suc n) [] e = e
+without-drop b (suc n) (x ∷ xs) e = without-drop b n xs (without-rest b x xs e)
 
 -- a text without b, then b: all of the text stands before it
 pub before-all : (b : ℕ) (l r : List ℕ) → without b l ≡ true → bytesBefore b (l ++ (b ∷ r)) ≡ length l

@@ -26,7 +26,7 @@ use Rattle.request.specs.declared.decide.Applicability.the-variants.{App
 use Rattle.request_spec.specs.declared.Matched.{Matched}
 use Rattle.request_spec.specs.declared.Matched.the-variants.{IsAt, Nothing}
 use Rattle.request_spec.specs.Request.{Request, wellFormed, revokedNow}
-use Rattle.request_spec.specs.Decision.{revocationSteps, descriptorSteps, keySteps, laterSteps, stepsBy, grantedBy, factsOf, firstFrom}
+use Rattle.request_spec.specs.Decision.{revocationSteps, descriptorSteps, keySteps, laterSteps, stepsBy, grantedBy, factsOf, pickFrom}
 use Rattle.request_spec.specs.Decision.{matchedOn, decidedOn, factsIn, matchedIn, stepsOf, decisionOf, numbersOf}
 use Rattle.request.specs.Code.{appliesWith, applicabilityOf, signedBy}
 
@@ -34,7 +34,7 @@ use Rattle.request.specs.Code.{appliesWith, applicabilityOf, signedBy}
 pub lent-same : (s t : List ℕ) (at n : ℕ) {b : Bool} → b ≡ same (take (at + n - at) (drop at s)) t → same (part s at n) t ≡ b
 lent-same s t at n e = ap (λ (x : List ℕ). same x t) (sym (lent-part s at n)) ∙ sym e
 
--- ---- the first grant that serves
+-- ---- the grant that is picked
 
 module _ (b : List ℕ) (f : Fields) (resource : List ℕ) (mode : ℕ) {t : Bool}
     (e : t ≡ same (take (f .terminal + terminalSize - f .terminal) (drop (f .terminal) b)) (take terminalSize resource)) where
@@ -44,14 +44,14 @@ module _ (b : List ℕ) (f : Fields) (resource : List ℕ) (mode : ℕ) {t : Boo
   matched-other g = sym (rw (lent-same b (take terminalSize resource) (f .terminal) terminalSize e ∙ g))
 
   -- else the search tells
-  pub matched-first : t ≡ true → {m : Matched} → m
-      ≡ firstFrom b (take (length resource - levelsPlace) (drop levelsPlace resource)) mode (f .grants)
-      (f .first) 0
+  pub matched-picked : t ≡ true → {m : Matched} → m
+      ≡ pickFrom b (take (length resource - levelsPlace) (drop levelsPlace resource)) mode (f .grants)
+      (f .first) 0 Nothing
       → m ≡ matchedOn b f resource mode
   unfolding matchedOn
-  matched-first g h =
+  matched-picked g h =
       h
-      ∙ ap (λ (r : List ℕ). firstFrom b r mode (f .grants) (f .first) 0) (part-to-end resource levelsPlace)
+      ∙ ap (λ (r : List ℕ). pickFrom b r mode (f .grants) (f .first) 0 Nothing) (part-to-end resource levelsPlace)
       ∙ sym (rw (lent-same b (take terminalSize resource) (f .terminal) terminalSize e ∙ g))
 
 -- ---- the stages
@@ -60,7 +60,7 @@ module _ (b : List ℕ) (f : Fields) (resource : List ℕ) (mode : ℕ) {t : Boo
 abbrev answerOf : Decision → ℕ
 answerOf x = numbersOf x .answer
 
--- what the steps of a stage come to, of a body of which f was read: the first grant that serves is m
+-- what the steps of a stage come to, of a body of which f was read: the grant that is picked is m
 pub on-descriptor : (b : List ℕ) (f : Fields) (fay terminal resource : List ℕ) (mode clock : ℕ) (m : Matched) {x : Applicability}
     → m ≡ matchedOn b f resource mode
     → Decides (mapped Refused (descriptorSteps (factsOf b f) fay terminal clock m)) (appliesWith m) x
@@ -81,15 +81,15 @@ module _ (q : Request) (b : List ℕ) (f : Fields) where
   signedWith grant mask =
       inOrder (keySteps (q .verdict) (q .window) (q .clock)) (answers.Granted grant mask (min (f .«not_after») (q .clock + q .session)))
 
-  -- the steps 9 to 13 and what follows them, by the first grant that serves
-  descriptor-steps : (m : Matched) (k : ℕ → ℕ → Decision) (r : Decision) → ((grant mask : ℕ) → m ≡ IsAt grant mask → r ≡ k grant mask)
+  -- the steps 9 to 13 and what follows them, by the grant that is picked
+  descriptor-steps : (m : Matched) (k : ℕ → ℕ → Decision) (r : Decision) → ((grant mask names : ℕ) → m ≡ IsAt grant mask names → r ≡ k grant mask)
       → afterStage k (inOrder (mapped Refused (descriptorSteps (factsOf b f) (q .fay) (q .terminal) (q .clock) m)) (appliesWith m))
       ≡ inOrder (descriptorSteps (factsOf b f) (q .fay) (q .terminal) (q .clock) m) r
   unfolding descriptorSteps
-  descriptor-steps (IsAt grant mask) k r h =
-      order-staged Refused (afterStage k) (λ x. refl) (descriptorSteps (factsOf b f) (q .fay) (q .terminal) (q .clock) (IsAt grant mask))
+  descriptor-steps (IsAt grant mask names) k r h =
+      order-staged Refused (afterStage k) (λ x. refl) (descriptorSteps (factsOf b f) (q .fay) (q .terminal) (q .clock) (IsAt grant mask names))
       (Applies grant mask)
-      ∙ ap (inOrder (descriptorSteps (factsOf b f) (q .fay) (q .terminal) (q .clock) (IsAt grant mask))) (sym (h grant mask refl))
+      ∙ ap (inOrder (descriptorSteps (factsOf b f) (q .fay) (q .terminal) (q .clock) (IsAt grant mask names))) (sym (h grant mask names refl))
   descriptor-steps Nothing k r h =
       order-staged Refused (afterStage k) (λ x. refl) (descriptorSteps (factsOf b f) (q .fay) (q .terminal) (q .clock) Nothing)
       (Refused answers.Insufficient)
@@ -104,7 +104,7 @@ module _ (q : Request) (b : List ℕ) (f : Fields) where
       let m = matchedOn b f (q .resource) (q .mode) in
       let ks = keySteps (q .verdict) (q .window) (q .clock) in
       descriptor-steps m signedWith (inOrder ks (grantedBy q (factsOf b f) m))
-      (λ grant mask i. ap (λ (n : Matched). inOrder ks (grantedBy q (factsOf b f) n)) i)
+      (λ grant mask names i. ap (λ (n : Matched). inOrder ks (grantedBy q (factsOf b f) n)) i)
       ∙ sym (rw e (order-append (descriptorSteps (factsOf b f) (q .fay) (q .terminal) (q .clock) m) ks (grantedBy q (factsOf b f) m)))
 
   module _ (e : revokedNow q ≡ false) where

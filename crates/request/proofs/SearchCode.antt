@@ -1,6 +1,6 @@
--- Laws of the search for the first grant that serves (specs/Decision.antt of `request_spec`), in the code's own form. Assumes nothing.
-use mathlib.Core.Path.{_≡_, refl, sym, ap, ap₂, _∙_, subst}
-use mathlib.Core.Bool.{Bool, true, false, _&&_, and-false, and-true, and-assoc}
+-- Laws of the search for the grant that is picked (specs/Decision.antt of `request_spec`), in the code's own form. Assumes nothing.
+use mathlib.Core.Path.{_≡_, refl, sym, ap, ap₂, _∙_}
+use mathlib.Core.Bool.{Bool, true, false, cond, _&&_, and-false, and-true, and-assoc}
 use mathlib.Core.List.{List}
 use Prim.Native.Nat.{ℕ, suc, _+_, _-_, _/_, _%_, _^_, _≤_, _<_}
 use native.Mathlib.Omega.{arith}
@@ -10,18 +10,13 @@ use borrow.Author.Tests.{eq-eqb, ne-eqb}
 use Rattle.resource_spec.specs.Identifier.{levelsPlace}
 use Rattle.octets.specs.Bytes.{part}
 use Rattle.exact.specs.Reads.{got, refused}
-use Rattle.resource.specs.declared.LevelStep.{LevelStep}
-use Rattle.resource.specs.declared.LevelStep.the-variants.{Differ}
-use Rattle.resource_spec.specs.Level.{isDeep}
-use Rattle.resource.specs.Code.{stepOf}
-use Rattle.resource_spec.specs.Text.{levelsMatch}
-use Rattle.resource.specs.Laws.{Stepped}
-use Rattle.resource.proofs.Laws.{step-decides}
+use Rattle.resource_spec.specs.Text.{levelsMatch, levelsNamed}
 use Rattle.descriptor_spec.specs.Reader.{hasMode, GrantSeen, grantAt}
 use Rattle.octets.proofs.PartLaws.{lent-later}
+use Rattle.request_spec.specs.declared.Matched.{Matched}
 use Rattle.request_spec.specs.declared.Matched.the-variants.{IsAt, Nothing}
-use Rattle.request_spec.specs.Decision.{serves, orNext, firstFrom}
-use Rattle.request.specs.Code.{eligible}
+use Rattle.request_spec.specs.Decision.{serves, namesOf, pickedWith, pickFrom}
+use Rattle.request.specs.Code.{eligible, pickedOf}
 
 -- ---- the mode and the constraint pairs
 
@@ -49,55 +44,80 @@ serves-both s r mode g b t e m =
     ∙ ap₂ (λ (x y : Bool). x && y) (sym e)
     (ap (λ (p : List ℕ). levelsMatch p r) (sym (lent-later s (g .pattern .start) (g .pattern .len) levelsPlace)) ∙ m)
 
--- ---- the levels of a grant, one after the other
+-- how many levels it matches by equal names, as the code lends them
+lent-names : (s r : List ℕ) (g : GrantSeen)
+    → namesOf s r g
+    ≡ levelsNamed (take ((g .pattern .start + g .pattern .len) - (g .pattern .start + levelsPlace)) (drop (g .pattern .start + levelsPlace) s))
+    r
+unfolding namesOf
+lent-names s r g = ap (λ (p : List ℕ). levelsNamed p r) (sym (lent-later s (g .pattern .start) (g .pattern .len) levelsPlace))
 
--- where the first levels differ, the levels do not match
-pub differ-says : (p q : List ℕ) {x : LevelStep} → isDeep p ≡ false → x ≡ stepOf p q → x ≡ Differ → levelsMatch p q ≡ false
-differ-says p q d e f = subst (Stepped p q) (sym e ∙ f) (step-decides p q d)
+-- ---- the levels of a grant
+
+-- the grant i with its mask, where its levels p match those of r
+abbrev pub foundOf : List ℕ → List ℕ → ℕ → ℕ → Matched
+foundOf p r i mask = cond (levelsMatch p r) (IsAt i mask (levelsNamed p r)) Nothing
+
+-- levels that do not match
+pub found-none : (p r : List ℕ) (i mask : ℕ) → levelsMatch p r ≡ false → Nothing ≡ foundOf p r i mask
+found-none p r i mask e = sym (rw e)
+
+-- levels that match, by so many names
+pub found-one : (p r : List ℕ) (i mask n : ℕ) → levelsMatch p r ≡ true → levelsNamed p r ≡ n → IsAt i mask n ≡ foundOf p r i mask
+found-one p r i mask n e f = sym (rw (e, f))
+
+-- the names of the levels left are counted beside those before
+pub next-counts : (k n a b : ℕ) → a ≡ n + b → k + a ≡ (k + n) + b
+next-counts k n a b e = omega (arith, e)
+
+-- what is picked after it
+found-picked : (best : Matched) (i mask names : ℕ) (t : Bool)
+    → pickedWith t best i mask names ≡ pickedOf best (cond t (IsAt i mask names) Nothing)
+found-picked best i mask names true = refl
+found-picked best i mask names false = refl
 
 -- ---- the search
 
 -- before the first grant all are left
-pub first-begin : (s r : List ℕ) (mode count at : ℕ) → firstFrom s r mode count at 0 ≡ firstFrom s r mode (count - 0) at 0
-first-begin s r mode count at = let k : count ≡ count - 0 = omega arith in ap (λ (n : ℕ). firstFrom s r mode n at 0) k
+pub pick-begin : (s r : List ℕ) (mode count at : ℕ) → pickFrom s r mode count at 0 Nothing ≡ pickFrom s r mode (count - 0) at 0 Nothing
+pick-begin s r mode count at = let k : count ≡ count - 0 = omega arith in ap (λ (n : ℕ). pickFrom s r mode n at 0 Nothing) k
 
-module _ (s r : List ℕ) (mode count at i : ℕ) where
-  -- where none is left, none serves
-  pub first-done : count ≤ i → firstFrom s r mode (count - i) at i ≡ Nothing
-  unfolding firstFrom
-  first-done h = let k : count - i ≡ 0 = omega arith in ap (λ (n : ℕ). firstFrom s r mode n at i) k
+module _ (s r : List ℕ) (mode count at i : ℕ) (best : Matched) where
+  -- where none is left, what was picked before stays
+  pub pick-done : count ≤ i → pickFrom s r mode (count - i) at i best ≡ best
+  unfolding pickFrom
+  pick-done h = let k : count - i ≡ 0 = omega arith in ap (λ (n : ℕ). pickFrom s r mode n at i best) k
 
   -- where one is left, it is read
-  one-left : i < count → firstFrom s r mode (count - i) at i ≡ firstFrom s r mode (suc (count - (i + 1))) at i
-  one-left h = let k : count - i ≡ suc (count - (i + 1)) = omega arith in ap (λ (n : ℕ). firstFrom s r mode n at i) k
+  one-left : i < count → pickFrom s r mode (count - i) at i best ≡ pickFrom s r mode (suc (count - (i + 1))) at i best
+  one-left h = let k : count - i ≡ suc (count - (i + 1)) = omega arith in ap (λ (n : ℕ). pickFrom s r mode n at i best) k
 
-  -- where it does not read, none serves
-  pub first-stop : i < count → refused ≡ grantAt s at → firstFrom s r mode (count - i) at i ≡ Nothing
-  unfolding firstFrom
-  first-stop h e = one-left h ∙ rw (← e, firstFrom)
+  -- where it does not read, what was picked before stays
+  pub pick-stop : i < count → refused ≡ grantAt s at → pickFrom s r mode (count - i) at i best ≡ best
+  unfolding pickFrom
+  pick-stop h e = one-left h ∙ rw (← e, pickFrom)
 
   module _ {g : GrantSeen} {next : ℕ} (h : i < count) (e : got g next ≡ grantAt s at) where
-    -- it is requestOf whether the grant that was read serves
-    first-read : (t : Bool) → serves s r mode g ≡ t → firstFrom s r mode (count - i) at i
-        ≡ orNext t i (g .mask) (firstFrom s r mode (count - (i + 1)) next (i + 1))
-    unfolding firstFrom
-    first-read t f = one-left h ∙ rw (← e, f, firstFrom)
+    -- it is asked whether the grant that was read serves, and how many levels it matches by equal names
+    pick-read : (t : Bool) → serves s r mode g ≡ t → pickFrom s r mode (count - i) at i best
+        ≡ pickFrom s r mode (count - (i + 1)) next (i + 1) (pickedWith t best i (g .mask) (namesOf s r g))
+    unfolding pickFrom
+    pick-read t f = one-left h ∙ rw (← e, f, pickFrom)
 
     module _ {b : Bool} (f : b ≡ eligible (g .mask) (g .pairs) mode) where
-      -- a grant that is not eligible leaves the ones after it
-      pub first-not : b ≡ false → firstFrom s r mode (count - i) at i ≡ firstFrom s r mode (count - (i + 1)) next (i + 1)
-      first-not k = first-read false (serves-both s r mode g b _ f refl ∙ rw k)
+      -- a grant that is not eligible leaves what was picked before
+      pub pick-not : b ≡ false → pickFrom s r mode (count - i) at i best ≡ pickFrom s r mode (count - (i + 1)) next (i + 1) best
+      pick-not k = pick-read false (serves-both s r mode g b _ f refl ∙ rw k)
 
-      -- so does one of which the levels do not match
-      pub first-miss : b ≡ true
-          → levelsMatch (take ((g .pattern .start + g .pattern .len) - (g .pattern .start + levelsPlace))
-          (drop (g .pattern .start + levelsPlace) s)) r ≡ false
-          → firstFrom s r mode (count - i) at i ≡ firstFrom s r mode (count - (i + 1)) next (i + 1)
-      first-miss k m = first-read false (serves-both s r mode g b false f m ∙ rw k)
-
-      -- one that is eligible and of which the levels match is the answer
-      pub first-hit : b ≡ true
-          → levelsMatch (take ((g .pattern .start + g .pattern .len) - (g .pattern .start + levelsPlace))
-          (drop (g .pattern .start + levelsPlace) s)) r ≡ true
-          → firstFrom s r mode (count - i) at i ≡ IsAt i (g .mask)
-      first-hit k m = first-read true (serves-both s r mode g b true f m ∙ rw k)
+      -- of one that is, its levels tell
+      pub pick-found : b ≡ true → {found picked : Matched}
+          → found
+          ≡ foundOf (take ((g .pattern .start + g .pattern .len) - (g .pattern .start + levelsPlace)) (drop (g .pattern .start + levelsPlace) s)) r i (g .mask)
+          → picked ≡ pickedOf best found
+          → pickFrom s r mode (count - i) at i best ≡ pickFrom s r mode (count - (i + 1)) next (i + 1) picked
+      pick-found k {found} {picked} m n =
+          let p : List ℕ = take ((g .pattern .start + g .pattern .len) - (g .pattern .start + levelsPlace)) (drop (g .pattern .start + levelsPlace) s) in
+          pick-read (levelsMatch p r) (serves-both s r mode g b (levelsMatch p r) f refl ∙ rw k)
+          ∙ ap (pickFrom s r mode (count - (i + 1)) next (i + 1))
+          (ap (pickedWith (levelsMatch p r) best i (g .mask)) (lent-names s r g)
+          ∙ found-picked best i (g .mask) (levelsNamed p r) (levelsMatch p r) ∙ sym (n ∙ ap (pickedOf best) m))

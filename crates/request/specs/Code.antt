@@ -16,7 +16,7 @@ use Rattle.request.specs.declared.decide.Applicability.{Applicability}
 use Rattle.request.specs.declared.decide.Applicability.the-variants.{Applies, Refused}
 use Rattle.request_spec.specs.declared.Matched.{Matched}
 use Rattle.request_spec.specs.declared.Matched.the-variants.{IsAt, Nothing}
-use Rattle.request_spec.specs.Decision.{descriptorSteps, keySteps, factsOf, matchedOn}
+use Rattle.request_spec.specs.Decision.{moreExact, descriptorSteps, keySteps, factsOf, matchedOn}
 
 -- the identifiers that the steps look at lie in the body
 pub record BodyFits (b : List ℕ) (f : Fields) : Type 0 where
@@ -27,11 +27,16 @@ pub record BodyFits (b : List ℕ) (f : Fields) : Type 0 where
 unfoldable pub eligible : ℕ → ℕ → ℕ → Bool
 eligible mask pairs mode = hasMode mask mode && eqb pairs 0
 
+-- what is picked of the grant that was picked before and one that is found after it
+abbrev pub pickedOf : Matched → Matched → Matched
+pickedOf best (IsAt i mask names) = moreExact best i mask names
+pickedOf best Nothing = best
+
 -- ---- the stages of the steps on a body
 
--- what the steps 9 to 13 answer where they pass: the first grant that serves
+-- what the steps 9 to 13 answer where they pass: the grant that is picked
 abbrev pub appliesWith : Matched → Applicability
-appliesWith (IsAt grant mask) = Applies grant mask
+appliesWith (IsAt grant mask names) = Applies grant mask
 appliesWith Nothing = Refused answers.Insufficient
 
 -- the steps 9 to 13 on a body of which f was read

@@ -21,7 +21,7 @@ ghost use Rattle.request_spec.specs.Request.{requestOf, wellFormed};
 ghost use Rattle.request_spec.specs.Decision.{matchedOn, decidedOn};
 ghost use Rattle.request.specs.Code.{BodyFits, applicabilityOf, signedBy};
 
-// What the steps 9 to 13 answer: the grant that serves, with its mask, or the refusal of the first step that fails.
+// What the steps 9 to 13 answer: the grant that is picked, with its mask, or the refusal of the first step that fails.
 pub(crate) enum Applicability {
     Applies { grant: u64, mask: u64 },
     Refused(Decision),
@@ -75,7 +75,7 @@ fn session_end(not_after: u64, clock: u64, session: u64) -> u64
     not_after
 }
 
-// The first grant of the body that serves; none where the resource is another terminal's.
+// The grant of the body that is picked; none where the resource is another terminal's.
 fn match_grant(body: &[u8], fields: Fields, resource: &[u8], mode: u64) -> Matched
     requires { ⌜ (resourceOk (now resource) ≡ true) × (mode ≤ highestMode) × (fields .terminal + terminalSize ≤ length (now body)) ⌝ }
     ensures { λ r. ⌜ r ≡ matchedOn (now (body .entry)) fields (now (resource .entry)) mode ⌝ }
@@ -84,7 +84,7 @@ fn match_grant(body: &[u8], fields: Fields, resource: &[u8], mode: u64) -> Match
     if !same_bytes(&body[t..t + TERMINAL_SIZE], &resource[..TERMINAL_SIZE]) {
         return Matched::Nothing;
     }
-    crate::search::first_grant(
+    crate::search::pick_grant(
         body,
         fields.first,
         fields.grants,
@@ -122,7 +122,11 @@ fn check_descriptor(
         return Applicability::Refused(Decision::TerminalMismatch);
     }
     match match_grant(body, fields, resource, mode) {
-        Matched::IsAt { grant, mask } => Applicability::Applies { grant, mask },
+        Matched::IsAt {
+            grant,
+            mask,
+            names: _,
+        } => Applicability::Applies { grant, mask },
         Matched::Nothing => Applicability::Refused(Decision::Insufficient),
     }
 }

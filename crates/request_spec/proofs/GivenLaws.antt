@@ -11,14 +11,15 @@ use Rattle.steps.specs.Order.{AllPass}
 use Rattle.steps.proofs.Laws.{passed-end, passed-by}
 use Rattle.request_spec.specs.declared.DecisionNumbers.{DecisionNumbers}
 use Rattle.request_spec.specs.Request.{Request}
-use Rattle.request_spec.specs.Promises.{Stored, badImage, notHeld, held, Under, stepsFor, grantedFor, FirstServes, GrantedGives}
-use Rattle.request_spec.proofs.ServingLaws.{first-serves}
+use Rattle.request_spec.specs.Promises.{Stored, badImage, notHeld, held, Under, stepsFor, grantedFor, Picked, GrantedGives}
+use Rattle.request_spec.proofs.ServingLaws.{picked}
 use Rattle.request_spec.proofs.NumberLaws.{answerOf, decided-exactly, granted-exactly}
 use Rattle.request_spec.proofs.UnderLaws.{all-stored}
 
 -- what the numbers n grant to q, on a descriptor that is held
 abbrev Given : List ℕ → Request → DecisionNumbers → Type 0
-Given s q n = (d : Descriptor) × Under s (q .id) (held d) × ((g : Grant) × FirstServes q d (n .grant) g × (n .mask ≡ unionOf (g ∷ [])))
+Given s q n = (d : Descriptor) × Under s (q .id) (held d)
+    × ((g : Grant) × Picked (d .payload .grants) (q .mode) (pathOf (q .resource)) (n .grant) g × (n .mask ≡ unionOf (g ∷ [])))
     × (n .«session_end» ≡ min (d .payload .notAfter) (q .clock + q .session))
 
 -- where every step passes, what follows them is given
@@ -26,9 +27,8 @@ given : (s : List ℕ) (q : Request) (x : Stored) → Under s (q .id) x → AllP
 given s q badImage u a = absurd (false≢true (passed-by answerOf 16 (stepsFor q badImage) a))
 given s q notHeld u a = absurd (false≢true (passed-by answerOf 7 (stepsFor q notHeld) a))
 given s q (held d) u a =
-    let w = first-serves (d .payload .grants) (q .mode) (pathOf (q .resource))
-    (and-left _ true (passed-by answerOf 13 (stepsFor q (held d)) a)) in
-    (d, u, (w .grant, record { place = w .place; there = w .there; serves = w .serves; first = w .first }, w .mine), refl)
+    let some = and-left _ true (passed-by answerOf 13 (stepsFor q (held d)) a) in
+    (d, u, picked (d .payload .grants) (q .mode) (pathOf (q .resource)) some, refl)
 
 -- `GrantedGives`
 pub granted-gives : GrantedGives

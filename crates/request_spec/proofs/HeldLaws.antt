@@ -28,7 +28,7 @@ use Rattle.request_spec.specs.Decision.{Facts, stepsBy, grantedBy, facts
 
 -- ---- what is decided on a check
 
--- the decision by the steps: whether the image is sound and holds the id, the facts of the descriptor, and the first grant that serves
+-- the decision by the steps: whether the image is sound and holds the id, the facts of the descriptor, and the grant that is picked
 abbrev pub decidedBy : Request → Bool → Bool → Facts → Matched → Decision
 decidedBy q sound held x m = inOrder (stepsBy q sound held x m) (grantedBy q x m)
 

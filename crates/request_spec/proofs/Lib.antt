@@ -3,11 +3,13 @@ pub mod HeldLaws
 pub mod GrantLaws
 pub mod MeaningLaws
 pub mod ServingLaws
+pub mod PickLaws
 pub mod UnderLaws
 pub mod NumberLaws
 pub mod BoundaryLaws
 pub mod RevocationLaws
 pub mod GivenLaws
+pub mod BeforeLaws
 pub mod StoredLaws
 pub mod Promises
 pub mod Laws

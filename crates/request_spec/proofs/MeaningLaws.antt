@@ -17,9 +17,10 @@ use Rattle.descriptor_spec.proofs.Laws.{reads-exactly, seen-handed}
 use Rattle.image_spec.specs.Image.{Row, reading, bodyWith}
 use Rattle.image_spec.specs.Edition1.{Holds}
 use Rattle.request_spec.specs.declared.Matched.{Matched}
+use Rattle.request_spec.specs.declared.Matched.the-variants.{Nothing}
 use Rattle.request_spec.specs.Request.{Request, wellFormed}
 use Rattle.request_spec.specs.Decision.{Facts, factsOf, matchedOn, decisionOf}
-use Rattle.request_spec.specs.Meaning.{firstServing, factsOfDescriptor, decidedFor}
+use Rattle.request_spec.specs.Meaning.{pickServing, factsOfDescriptor, decidedFor}
 use Rattle.request_spec.proofs.HeldLaws.{decidedBy, malformed-first, decided-on-body}
 use Rattle.request_spec.proofs.ArgumentLaws.{formed-mode, formed-resource}
 use Rattle.request_spec.proofs.GrantLaws.{matched-agree}
@@ -57,7 +58,7 @@ decided-on-descriptor s q bs d h b o e =
     facts = factsOfDescriptor d
 
     mine : Matched
-    mine = firstServing (d .payload .grants) (q .mode) (pathOf (q .resource)) 0
+    mine = pickServing (d .payload .grants) (q .mode) (pathOf (q .resource)) 0 Nothing
 
     go : (t : Bool) → wellFormed q ≡ t → decidedBy q true true facts found ≡ decidedBy q true true facts mine
     go true w = let k = well-formed q w in ap (decidedBy q true true facts)

@@ -27,14 +27,15 @@ use Rattle.request_spec.specs.Request.{Request, wellFormed}
 use Rattle.request_spec.specs.Decision.{Facts, revocationSteps, descriptorSteps, keySteps, laterSteps, stepsBy, grantedBy, factsIn}
 use Rattle.request_spec.specs.Decision.{decisionOf}
 use Rattle.request_spec.specs.Decision.{numbersOf}
-use Rattle.request_spec.specs.Meaning.{firstServing, factsOfDescriptor, decidedFor}
-use Rattle.request_spec.specs.Promises.{Stored, badImage, notHeld, held, Among, refusal, someServes, firstPlace, firstMask, stepsFor}
+use Rattle.request_spec.specs.Meaning.{pickServing, factsOfDescriptor, decidedFor}
+use Rattle.request_spec.specs.Promises.{Stored, badImage, notHeld, held, Among, refusal, someServes, stepsOn, stepsFor}
+use Rattle.request_spec.specs.Promises.{mostNames, firstPlace, firstMask, isPicked}
 use Rattle.request_spec.specs.Promises.{grantedFor, answerFor, DecidedExactly, GrantedExactly, RefusedExactly, RefusalsZero}
 use Rattle.request_spec.specs.Promises.{EditionsRefused}
 use Rattle.request_spec.proofs.HeldLaws.{decidedBy, decided-in, missingBy, decided-on-none}
 use Rattle.request_spec.proofs.MeaningLaws.{decided-on-descriptor}
 use Rattle.request_spec.proofs.UnderLaws.{held-found, none-found, unsound}
-use Rattle.request_spec.proofs.ServingLaws.{some-found, found-first}
+use Rattle.request_spec.proofs.PickLaws.{best-picked, some-picked}
 
 -- the answer's number
 abbrev pub answerOf : DecisionNumbers → ℕ
@@ -57,32 +58,34 @@ missing-numbers : (q : Request) → numbersOf (missingBy q) ≡ answerFor q notH
 unfolding inOrder orElse stepsBy laterSteps wellFormed isVerdict resourceOk
 missing-numbers q = by-numbers q true false (record { notBefore = 0; notAfter = 0; fay = []; terminal = [] }) Nothing
 
+-- the grant of a descriptor that is picked for a request
+abbrev pickedFor : Request → Descriptor → Matched
+pickedFor q d = pickServing (d .payload .grants) (q .mode) (pathOf (q .resource)) 0 Nothing
+
 -- what is granted on a descriptor, where some grant of it serves
 granted-numbers : (q : Request) (d : Descriptor) → Allowed d → someServes (d .payload .grants) (q .mode) (pathOf (q .resource)) ≡ true
-    → numbersOf (grantedBy q (factsOfDescriptor d) (firstServing (d .payload .grants) (q .mode) (pathOf (q .resource)) 0))
-    ≡ grantedFor q (held d)
+    → numbersOf (grantedBy q (factsOfDescriptor d) (pickedFor q d)) ≡ grantedFor q (held d)
 unfolding grantedBy
 granted-numbers q d a e =
     let gs : List Grant = d .payload .grants in
     let x : Path = pathOf (q .resource) in
-    let z : 0 + firstPlace gs (q .mode) x ≡ firstPlace gs (q .mode) x = omega arith in
-    ap (λ (m : Matched). numbersOf (grantedBy q (factsOfDescriptor d) m)) (found-first gs (q .mode) x 0 (a .formed .payload .grants) e)
-    ∙ ap (λ (i : ℕ). numbersOf (grantedBy q (factsOfDescriptor d) (IsAt i (firstMask gs (q .mode) x)))) z
+    let picked : Grant → Bool = isPicked gs (q .mode) x in
+    let z : 0 + firstPlace picked gs ≡ firstPlace picked gs = omega arith in
+    ap (λ (m : Matched). numbersOf (grantedBy q (factsOfDescriptor d) m)) (best-picked gs (q .mode) x 0 (a .formed .payload .grants) e)
+    ∙ ap (λ (i : ℕ). numbersOf (grantedBy q (factsOfDescriptor d) (IsAt i (firstMask picked gs) (mostNames gs (q .mode) x)))) z
 
 -- the steps on a descriptor that is held, with their numbers
 held-steps : (q : Request) (d : Descriptor)
-    → mapped numbersOf (stepsBy q true true (factsOfDescriptor d) (firstServing (d .payload .grants) (q .mode) (pathOf (q .resource)) 0))
-    ≡ stepsFor q (held d)
+    → mapped numbersOf (stepsBy q true true (factsOfDescriptor d) (pickedFor q d)) ≡ stepsFor q (held d)
 unfolding stepsBy laterSteps revocationSteps descriptorSteps keySteps wellFormed isVerdict isThat keyOpen resourceOk
-held-steps q d = rw (some-found (d .payload .grants) (q .mode) (pathOf (q .resource)) 0)
+held-steps q d = ap (stepsOn q d) (some-picked (d .payload .grants) (q .mode) (pathOf (q .resource)) 0 Nothing)
 
 -- a descriptor that is held
 held-numbers : (q : Request) (d : Descriptor) → Allowed d → numbersOf (decidedFor q d) ≡ answerFor q (held d)
 unfolding decidedFor
 held-numbers q d a =
-    let m : Matched = firstServing (d .payload .grants) (q .mode) (pathOf (q .resource)) 0 in
-    let r : DecisionNumbers = numbersOf (grantedBy q (factsOfDescriptor d) m) in
-    by-numbers q true true (factsOfDescriptor d) m
+    let r : DecisionNumbers = numbersOf (grantedBy q (factsOfDescriptor d) (pickedFor q d)) in
+    by-numbers q true true (factsOfDescriptor d) (pickedFor q d)
     ∙ ap (λ (steps : List (Step DecisionNumbers)). inOrder steps r) (held-steps q d)
     ∙ same-end (stepsFor q (held d)) r (grantedFor q (held d))
     (λ p. granted-numbers q d a (and-left _ true (passed-by answerOf 13 (stepsFor q (held d)) p)))

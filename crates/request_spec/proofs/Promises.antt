@@ -2,10 +2,11 @@
 use mathlib.Core.Path.{refl}
 use Rattle.request_spec.specs.Promises.{ArgumentsInOrder, AllStored, DecidedExactly, GrantedExactly, RefusedExactly}
 use Rattle.request_spec.specs.Promises.{RefusalsZero, EditionsRefused, GrantedGives, BeginBoundary, EndBoundary, StoredDecided}
-use Rattle.request_spec.specs.Promises.{OthersDecided, RevokedRefused, RowMoreRefuses, EarlyRowWaits, StaysRevoked}
+use Rattle.request_spec.specs.Promises.{OthersDecided, RevokedRefused, RowMoreRefuses, EarlyRowWaits, StaysRevoked, AnsweredAsBefore}
 use Rattle.request_spec.proofs.UnderLaws as under
 use Rattle.request_spec.proofs.NumberLaws as numbers
 use Rattle.request_spec.proofs.GivenLaws as given
+use Rattle.request_spec.proofs.BeforeLaws as before
 use Rattle.request_spec.proofs.RevocationLaws as revocation
 use Rattle.request_spec.proofs.BoundaryLaws as boundary
 use Rattle.request_spec.proofs.StoredLaws as stored
@@ -41,6 +42,11 @@ editions-refused = numbers.editions-refused
 
 pub granted-gives : GrantedGives
 granted-gives = given.granted-gives
+
+-- ---- document 01's rule, which document 02 amends
+
+pub answered-as-before : AnsweredAsBefore
+answered-as-before = before.answered-as-before
 
 -- ---- the revocation list
 

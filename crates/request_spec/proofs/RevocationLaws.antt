@@ -122,7 +122,7 @@ one-more true true true false false r = inl refl
 -- the steps after it do not look at the list
 rest-alike : (q : Request) (l : List ℕ) (x : Facts) (m : Matched) → restOf (withRevoked q l) x m ≡ restOf q x m
 unfolding grantedBy
-rest-alike q l x (IsAt grant mask) = refl
+rest-alike q l x (IsAt grant mask names) = refl
 rest-alike q l x Nothing = refl
 
 -- the decision on a request with the list l

@@ -8,7 +8,7 @@ use lib.Dec.{leb, ltb, eqb}
 use Rattle.resource_spec.specs.Identifier.{faySize, levelsPlace, terminalSize}
 use Rattle.octets.specs.Bytes.{part, same}
 use Rattle.exact.specs.Reads.{got, refused}
-use Rattle.resource_spec.specs.Text.{levelsMatch}
+use Rattle.resource_spec.specs.Text.{levelsMatch, levelsNamed}
 use Rattle.descriptor_spec.specs.declared.Fields.{Fields}
 use Rattle.descriptor_spec.specs.Reader.{hasMode, GrantSeen, grantAt}
 use Rattle.steps.specs.declared.Window.{Window}
@@ -37,7 +37,7 @@ pub record Facts : Type 0 where
 
 -- a grant serves the request
 abbrev pub isMatched : Matched → Bool
-isMatched (IsAt grant mask) = true
+isMatched (IsAt grant mask names) = true
 isMatched Nothing = false
 
 -- 8: the id is revoked now
@@ -61,7 +61,7 @@ keySteps verdict window clock =
     ∷ step (not (isThat verdict bad)) answers.BadSignature
     ∷ []
 
--- the steps on a descriptor that was found, by its facts and the first grant that serves
+-- the steps on a descriptor that was found, by its facts and the grant that is picked
 unfoldable pub laterSteps : Request → Facts → Matched → List (Step Decision)
 laterSteps q x m =
     revocationSteps q ++ (descriptorSteps x (q .fay) (q .terminal) (q .clock) m ++ keySteps (q .verdict) (q .window) (q .clock))
@@ -76,7 +76,7 @@ stepsBy q sound held x m =
 
 -- granted: the grant's place, its mask, and the session's end, the smaller of not_after and the clock and the session length together
 unfoldable pub grantedBy : Request → Facts → Matched → Decision
-grantedBy q x (IsAt grant mask) = answers.Granted grant mask (min (x .notAfter) (q .clock + q .session))
+grantedBy q x (IsAt grant mask names) = answers.Granted grant mask (min (x .notAfter) (q .clock + q .session))
 grantedBy q x Nothing = answers.Insufficient
 
 -- ---- from the bytes of an image
@@ -96,22 +96,33 @@ unfoldable pub serves : List ℕ → List ℕ → ℕ → GrantSeen → Bool
 serves b r mode g = hasMode (g .mask) mode &&
     (eqb (g .pairs) 0 && levelsMatch (part b (g .pattern .start + levelsPlace) (g .pattern .len - levelsPlace)) r)
 
--- a grant with its place and mask, or what the next ones have
-abbrev pub orNext : Bool → ℕ → ℕ → Matched → Matched
-orNext true i mask rest = IsAt i mask
-orNext false i mask rest = rest
+-- how many levels of the resource it matches by equal names
+unfoldable pub namesOf : List ℕ → List ℕ → GrantSeen → ℕ
+namesOf b r g = levelsNamed (part b (g .pattern .start + levelsPlace) (g .pattern .len - levelsPlace)) r
 
--- the first of the n grants from a place of b on that serves, of which i came before
-unfoldable pub firstFrom : List ℕ → List ℕ → ℕ → ℕ → ℕ → ℕ → Matched
-firstFrom b r mode zero at i = Nothing
-firstFrom b r mode (suc n) at i =
-    elim (grantAt b at) [ got g next ↦ orNext (serves b r mode g) i (g .mask) (firstFrom b r mode n next (i + 1)) | refused ↦ Nothing ]
+-- of the grant that was picked before and one after it that serves: the one that matches more levels by equal names, the earlier on a tie
+abbrev pub moreExact : Matched → ℕ → ℕ → ℕ → Matched
+moreExact Nothing i mask names = IsAt i mask names
+moreExact (IsAt grant m most) i mask names = cond (ltb most names) (IsAt i mask names) (IsAt grant m most)
 
--- the first grant of a body that serves; none where the resource is another terminal's
+-- what is picked after a grant, by whether it serves
+abbrev pub pickedWith : Bool → Matched → ℕ → ℕ → ℕ → Matched
+pickedWith true best i mask names = moreExact best i mask names
+pickedWith false best i mask names = best
+
+-- what is picked of the n grants from a place of b on, of which i came before and of those best was picked
+unfoldable pub pickFrom : List ℕ → List ℕ → ℕ → ℕ → ℕ → ℕ → Matched → Matched
+pickFrom b r mode zero at i best = best
+pickFrom b r mode (suc n) at i best = elim (grantAt b at) [
+  | got g next ↦ pickFrom b r mode n next (i + 1) (pickedWith (serves b r mode g) best i (g .mask) (namesOf b r g))
+  | refused ↦ best
+]
+
+-- the grant of a body that is picked; none where the resource is another terminal's
 unfoldable pub matchedOn : List ℕ → Fields → List ℕ → ℕ → Matched
 matchedOn b f resource mode =
     cond (same (part b (f .terminal) terminalSize) (take terminalSize resource))
-    (firstFrom b (drop levelsPlace resource) mode (f .grants) (f .first) 0) Nothing
+    (pickFrom b (drop levelsPlace resource) mode (f .grants) (f .first) 0 Nothing) Nothing
 
 -- the decision on a body of which f was read
 unfoldable pub decidedOn : Request → List ℕ → Fields → Decision
@@ -126,7 +137,7 @@ factsIn s (Sound n end (Body at len f)) = factsOf (part s at len) f
 factsIn s (Sound n end Missing) = record { notBefore = 0; notAfter = 0; fay = []; terminal = [] }
 factsIn s Unsound = record { notBefore = 0; notAfter = 0; fay = []; terminal = [] }
 
--- its first grant that serves
+-- its grant that is picked
 abbrev pub matchedIn : List ℕ → Request → ImageCheck → Matched
 matchedIn s q (Sound n end (Body at len f)) = matchedOn (part s at len) f (q .resource) (q .mode)
 matchedIn s q (Sound n end Missing) = Nothing

@@ -11,13 +11,14 @@ use Rattle.request_spec.specs.declared.Decision.{Decision}
 use Rattle.request_spec.specs.declared.Matched.{Matched}
 use Rattle.request_spec.specs.declared.Matched.the-variants.{Nothing}
 use Rattle.request_spec.specs.Request.{Request}
-use Rattle.request_spec.specs.Decision.{Facts, orNext, stepsBy, grantedBy}
-use Rattle.request_spec.specs.Promises.{grantServes}
+use Rattle.request_spec.specs.Decision.{Facts, pickedWith, stepsBy, grantedBy}
+use Rattle.request_spec.specs.Promises.{grantServes, grantNames}
 
--- the first grant that serves, with its place, counted from i, and the mask of its modes
-abbrev pub firstServing : List Grant → ℕ → Path → ℕ → Matched
-firstServing [] m x i = Nothing
-firstServing (g ∷ gs) m x i = orNext (grantServes g m x) i (maskOf (g .modes)) (firstServing gs m x (i + 1))
+-- what is picked of the grants, of which i came before and of those best was picked
+abbrev pub pickServing : List Grant → ℕ → Path → ℕ → Matched → Matched
+pickServing [] m x i best = best
+pickServing (g ∷ gs) m x i best =
+    pickServing gs m x (i + 1) (pickedWith (grantServes g m x) best i (maskOf (g .modes)) (grantNames g x))
 
 -- what the steps look at
 abbrev pub factsOfDescriptor : Descriptor → Facts
@@ -32,5 +33,5 @@ factsOfDescriptor d = record {
 unfoldable pub decidedFor : Request → Descriptor → Decision
 decidedFor q d =
     let x = factsOfDescriptor d in
-    let m = firstServing (d .payload .grants) (q .mode) (pathOf (q .resource)) 0 in
+    let m = pickServing (d .payload .grants) (q .mode) (pathOf (q .resource)) 0 Nothing in
     inOrder (stepsBy q true true x m) (grantedBy q x m)

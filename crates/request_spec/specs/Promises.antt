@@ -3,13 +3,14 @@ use mathlib.Core.Path.{_≡_}
 use mathlib.Core.Logic.{_↔_, _⊎_}
 use mathlib.Core.Bool.{Bool, true, false, not, cond, _&&_, _||_}
 use mathlib.Core.List.{List, [], _∷_, _++_}
-use Prim.Native.Nat.{ℕ, _+_, _%_, _≤_, _<_, min}
+use mathlib.Core.Option.{Option, none, some}
+use Prim.Native.Nat.{ℕ, _+_, _%_, _≤_, _<_, min, max}
 use lib.ListN.{length, getD}
 use lib.Dec.{leb, ltb, eqb}
 use Rattle.octets.specs.Bytes.{AreBytes, same}
 use Rattle.octets.specs.Number.{numberAt}
 use Rattle.resource_spec.specs.Identifier.{isFay, isTerminal}
-use Rattle.resource_spec.specs.Pattern.{Path, admits}
+use Rattle.resource_spec.specs.Pattern.{Path, admits, namesMatched}
 use Rattle.resource_spec.specs.Text.{isResource, pathOf, patternOf}
 use Rattle.entries_spec.specs.Model.{pairCount}
 use Rattle.descriptor_spec.specs.Model.{Grant, Descriptor, encode}
@@ -103,11 +104,9 @@ someServes (g ∷ gs) m x = grantServes g m x || someServes gs m x
 abbrev pub keyValid : Window → ℕ → Bool
 keyValid window clock = leb (window .from) clock && (not (window .bounded) || leb clock (window .until))
 
--- the steps, by what the image holds under the id
-abbrev pub stepsFor : Request → Stored → List (Step DecisionNumbers)
-stepsFor q badImage = step (formed q) (refusal 15) ∷ step false (refusal 16) ∷ []
-stepsFor q notHeld = step (formed q) (refusal 15) ∷ step true (refusal 16) ∷ step false (refusal 7) ∷ []
-stepsFor q (held d) =
+-- the steps where the descriptor d is held under the id, by whether a grant is found in step 13
+abbrev pub stepsOn : Request → Descriptor → Bool → List (Step DecisionNumbers)
+stepsOn q d found =
     step (formed q) (refusal 15)
     ∷ step true (refusal 16)
     ∷ step true (refusal 7)
@@ -116,20 +115,43 @@ stepsFor q (held d) =
     ∷ step (ltb (q .clock) (d .payload .notAfter)) (refusal 10)
     ∷ step (same (d .payload .fay) (q .fay)) (refusal 11)
     ∷ step (same (d .payload .terminal) (q .terminal)) (refusal 12)
-    ∷ step (someServes (d .payload .grants) (q .mode) (pathOf (q .resource))) (refusal 13)
+    ∷ step found (refusal 13)
     ∷ step (not (eqb (q .verdict) 2) && keyValid (q .window) (q .clock)) (refusal 14)
     ∷ step (not (eqb (q .verdict) 1)) (refusal 4)
     ∷ []
 
--- the place of the first grant that serves, counted from 0
-abbrev pub firstPlace : List Grant → ℕ → Path → ℕ
-firstPlace [] m x = 0
-firstPlace (g ∷ gs) m x = cond (grantServes g m x) 0 (firstPlace gs m x + 1)
+-- the steps, by what the image holds under the id
+abbrev pub stepsFor : Request → Stored → List (Step DecisionNumbers)
+stepsFor q badImage = step (formed q) (refusal 15) ∷ step false (refusal 16) ∷ []
+stepsFor q notHeld = step (formed q) (refusal 15) ∷ step true (refusal 16) ∷ step false (refusal 7) ∷ []
+stepsFor q (held d) = stepsOn q d (someServes (d .payload .grants) (q .mode) (pathOf (q .resource)))
+
+-- how many levels of a path a grant matches by equal names
+abbrev pub grantNames : Grant → Path → ℕ
+grantNames g x = namesMatched (patternOf (g .pattern)) x
+
+-- the most such levels that one of the grants has which serve
+abbrev pub mostNames : List Grant → ℕ → Path → ℕ
+mostNames [] m x = 0
+mostNames (g ∷ gs) m x = max (cond (grantServes g m x) (grantNames g x) 0) (mostNames gs m x)
+
+-- a grant serves, and has n such levels
+abbrev pub servesWith : ℕ → ℕ → Path → Grant → Bool
+servesWith n m x g = grantServes g m x && eqb (grantNames g x) n
+
+-- the place of the first grant that passes a test, counted from 0
+abbrev pub firstPlace : (Grant → Bool) → List Grant → ℕ
+firstPlace test [] = 0
+firstPlace test (g ∷ gs) = cond (test g) 0 (firstPlace test gs + 1)
 
 -- its mask
-abbrev pub firstMask : List Grant → ℕ → Path → ℕ
-firstMask [] m x = 0
-firstMask (g ∷ gs) m x = cond (grantServes g m x) (unionOf (g ∷ [])) (firstMask gs m x)
+abbrev pub firstMask : (Grant → Bool) → List Grant → ℕ
+firstMask test [] = 0
+firstMask test (g ∷ gs) = cond (test g) (unionOf (g ∷ [])) (firstMask test gs)
+
+-- the grant that is picked is the first that serves and has the most
+abbrev pub isPicked : List Grant → ℕ → Path → Grant → Bool
+isPicked gs m x = servesWith (mostNames gs m x) m x
 
 -- granted: that grant's place, its mask, and the session's end, the smaller of not_after and now + the host's session length; where the
 -- id is not held a step fails, and nothing is granted
@@ -139,8 +161,8 @@ grantedFor q notHeld = refusal 0
 grantedFor q (held d) =
     record {
       answer = 0;
-      grant = firstPlace (d .payload .grants) (q .mode) (pathOf (q .resource));
-      mask = firstMask (d .payload .grants) (q .mode) (pathOf (q .resource));
+      grant = firstPlace (isPicked (d .payload .grants) (q .mode) (pathOf (q .resource))) (d .payload .grants);
+      mask = firstMask (isPicked (d .payload .grants) (q .mode) (pathOf (q .resource))) (d .payload .grants);
       «session_end» = min (d .payload .notAfter) (q .clock + q .session);
     }
 
@@ -176,20 +198,50 @@ EditionsRefused = (s : List ℕ) (q : Request) → (numberAt s 0 2 ≡ 1 → ⊥
 
 -- ---- what is granted
 
--- the grant g of d at the place i serves the request, and none before it does
-pub record FirstServes (q : Request) (d : Descriptor) (i : ℕ) (g : Grant) : Type 0 where
-  pub place : i < length (d .payload .grants)
-  pub there : getD (d .payload .grants) i g ≡ g
-  pub serves : grantServes g (q .mode) (pathOf (q .resource)) ≡ true
-  pub first : (j : ℕ) (h : Grant) → j < i → getD (d .payload .grants) j h ≡ h → grantServes h (q .mode) (pathOf (q .resource)) ≡ false
+-- the grant h of gs at the place j serves
+pub record ServesAt (gs : List Grant) (m : ℕ) (x : Path) (j : ℕ) (h : Grant) : Type 0 where
+  pub place : j < length gs
+  pub there : getD gs j h ≡ h
+  pub serves : grantServes h m x ≡ true
 
--- where the answer is 0 a descriptor is held under the id, and the numbers are the place of its first grant that serves, that grant's
+-- the grant g of gs at the place i is picked: it serves; none that serves matches more levels by equal names; none before it that serves
+-- matches as many
+pub record Picked (gs : List Grant) (m : ℕ) (x : Path) (i : ℕ) (g : Grant) : Type 0 where
+  pub serves : ServesAt gs m x i g
+  pub most : (j : ℕ) (h : Grant) → ServesAt gs m x j h → grantNames h x ≤ grantNames g x
+  pub first : (j : ℕ) (h : Grant) → ServesAt gs m x j h → j < i → grantNames h x < grantNames g x
+
+-- where the answer is 0 a descriptor is held under the id, and the numbers are the place of its grant that is picked, that grant's
 -- mask, and the smaller of not_after and now + the host's session length
 abbrev pub GrantedGives : Type 0
 GrantedGives = (s : List ℕ) (q : Request) → AreBytes s → numbersOf (decisionOf s q) .answer ≡ 0
     → (d : Descriptor) × Under s (q .id) (held d)
-    × ((g : Grant) × FirstServes q d (numbersOf (decisionOf s q) .grant) g × (numbersOf (decisionOf s q) .mask ≡ unionOf (g ∷ [])))
+    × ((g : Grant) × Picked (d .payload .grants) (q .mode) (pathOf (q .resource)) (numbersOf (decisionOf s q) .grant) g
+    × (numbersOf (decisionOf s q) .mask ≡ unionOf (g ∷ [])))
     × (numbersOf (decisionOf s q) .«session_end» ≡ min (d .payload .notAfter) (q .clock + q .session))
+
+-- ---- document 01's rule, which document 02 amends: the first grant that serves
+
+-- its place, counted from i, or none
+abbrev pub firstServing : List Grant → ℕ → Path → ℕ → Option ℕ
+firstServing [] m x i = none
+firstServing (g ∷ gs) m x i = cond (grantServes g m x) (some i) (firstServing gs m x (i + 1))
+
+-- there is one
+abbrev pub isThere : Option ℕ → Bool
+isThere none = false
+isThere (some i) = true
+
+-- the answer under that rule
+abbrev pub answerBefore : Request → Stored → ℕ
+answerBefore q badImage = answerFor q badImage .answer
+answerBefore q notHeld = answerFor q notHeld .answer
+answerBefore q (held d) =
+    inOrder (stepsOn q d (isThere (firstServing (d .payload .grants) (q .mode) (pathOf (q .resource)) 0))) (refusal 0) .answer
+
+-- a request is answered the number that it was answered under that rule; so it is granted exactly when it was
+abbrev pub AnsweredAsBefore : Type 0
+AnsweredAsBefore = (s : List ℕ) (q : Request) (x : Stored) → Under s (q .id) x → numbersOf (decisionOf s q) .answer ≡ answerBefore q x
 
 -- ---- the revocation list: rows of an id and a moment
 

@@ -1,20 +1,24 @@
 -- Laws of the levels between two places of a text, as `levels_at` hands them on, and of a text copied to the beginning of an array.
 -- Assumes nothing.
-use mathlib.Core.Path.{_≡_, sym, ap, _∙_}
-use mathlib.Core.Bool.{Bool}
+use mathlib.Core.Path.{_≡_, sym, ap, ap₂, _∙_}
+use mathlib.Core.Bool.{Bool, true, false}
 use mathlib.Core.List.{List}
 use Prim.Native.Nat.{ℕ, _+_, _-_, _≤_, _<_}
 use native.Mathlib.Omega.{arith}
 use lib.ListN.{length, take, drop, length-drop}
 use lib.Seq.{drop-drop, length-take-le}
 use Rattle.octets.specs.Bytes.{part, Has}
+use Rattle.octets.specs.Scan.{without}
 use Rattle.octets.specs.Write.{putAt}
 use Rattle.octets.proofs.PartLaws.{drop-take}
+use Rattle.octets.proofs.ScanLaws.{without-drop}
 use Rattle.octets.proofs.OverLaws.{put-fits, over-has}
 use Rattle.resource_spec.specs.Level.{levels}
-use Rattle.resource_spec.specs.Text.{levelsMatch}
-use Rattle.resource.specs.Code.{upTo}
-use Rattle.resource.specs.Laws.{Goes}
+use Rattle.resource_spec.specs.declared.Matching.{Matching}
+use Rattle.resource_spec.specs.declared.Matching.the-variants.{Yes, No}
+use Rattle.resource_spec.specs.Text.{levelsMatch, levelsNamed, yesWith}
+use Rattle.resource.specs.Code.{upTo, answerFrom}
+use Rattle.resource.specs.Laws.{Goes, MatchesWith}
 
 -- ---- between two places
 
@@ -29,7 +33,7 @@ drop-later s i n a =
 length-up-to : (s : List ℕ) (i n : ℕ) → n ≤ length s → length (upTo s i n) ≡ n - i
 length-up-to s i n h = length-take-le (n - i) (drop i s) (omega (arith, length-drop i s))
 
-module _ (p r : List ℕ) (i n j m a b : ℕ) (h : n ≤ length p) (k : m ≤ length r) (g : Goes (upTo p i n) (upTo r j m) a b) where
+module _ (p r : List ℕ) (i n j m a b : ℕ) (h : n ≤ length p) (k : m ≤ length r) (c : ℕ) (g : Goes (upTo p i n) (upTo r j m) a b c) where
   -- the "/" of p stands before its end
   pub before-p : i + a < n
   before-p = omega (arith, g .in-p, length-up-to p i n h)
@@ -38,9 +42,18 @@ module _ (p r : List ℕ) (i n j m a b : ℕ) (h : n ≤ length p) (k : m ≤ le
   pub before-r : j + b < m
   before-r = omega (arith, g .in-r, length-up-to r j m k)
 
-  -- the remaining levels decide
-  pub later-decides : levelsMatch (upTo p (i + a + 1) n) (upTo r (j + b + 1) m) ≡ levelsMatch (upTo p i n) (upTo r j m)
-  later-decides = sym (g .decides ∙ rw (drop-later p i n a, drop-later r j m b))
+  -- the remaining levels are answered as all are, where the first is counted
+  pub later-answers : (k : ℕ) → answerFrom (k + c) (upTo p (i + a + 1) n) (upTo r (j + b + 1) m) ≡ answerFrom k (upTo p i n) (upTo r j m)
+  later-answers k =
+      let p' : List ℕ = upTo p (i + a + 1) n in
+      let r' : List ℕ = upTo r (j + b + 1) m in
+      let sum : (k + c) + levelsNamed p' r' ≡ k + (c + levelsNamed p' r') = omega arith in
+      sym (ap₂ (λ (t : Bool) (x : ℕ). yesWith t (k + x)) (g .decides) (g .counts)
+      ∙ rw (drop-later p i n a, drop-later r j m b) (ap (yesWith (levelsMatch p' r')) (sym sum)))
+
+  -- they have no "*"
+  pub later-starless : without 42 (upTo r j m) ≡ true → without 42 (upTo r (j + b + 1) m) ≡ true
+  later-starless h = rw (← drop-later r j m b) (without-drop 42 (b + 1) (upTo r j m) h)
 
   -- and there are fewer of them
   pub later-fewer : length (levels (upTo p (i + a + 1) n)) < length (levels (upTo p i n))
@@ -56,8 +69,23 @@ copy-stands d s h e =
     let fits : 0 + length s ≤ length d = omega arith in
     rw (e, none) (ap (λ (x : List ℕ). take (length s) x) (put-fits d 0 s fits) ∙ over-has d 0 s fits)
 
--- the levels of two copies match where those of the texts do
-pub copies-match : (d c p r : List ℕ) {a b : List ℕ} {o : Bool} → length p ≤ length d → length r ≤ length c → a ≡ putAt d 0 p
-    → b ≡ putAt c 0 r → o ≡ levelsMatch (upTo a 0 (length p)) (upTo b 0 (length r)) → o ≡ levelsMatch p r
+-- a copy has no "*" where the text has none
+pub copy-starless : (d s : List ℕ) {a : List ℕ} → length s ≤ length d → a ≡ putAt d 0 s → without 42 s ≡ true
+    → without 42 (upTo a 0 (length s)) ≡ true
+copy-starless d s h e f = ap (without 42) (copy-stands d s h e) ∙ f
+
+-- the levels of two copies are answered as those of the texts
+pub copies-match : (d c p r : List ℕ) {a b : List ℕ} {o : Matching} → length p ≤ length d → length r ≤ length c → a ≡ putAt d 0 p
+    → b ≡ putAt c 0 r → o ≡ answerFrom 0 (upTo a 0 (length p)) (upTo b 0 (length r)) → o ≡ answerFrom 0 p r
 copies-match d c p r {a} {b} h k e f g =
-    g ∙ ap (λ (s : List ℕ). levelsMatch s (upTo b 0 (length r))) (copy-stands d p h e) ∙ ap (levelsMatch p) (copy-stands c r k f)
+    g ∙ ap (λ (s : List ℕ). answerFrom 0 s (upTo b 0 (length r))) (copy-stands d p h e) ∙ ap (answerFrom 0 p) (copy-stands c r k f)
+
+-- ---- what is answered of the levels
+
+-- levels that do not match
+pub answer-no : (k : ℕ) (p r : List ℕ) → levelsMatch p r ≡ false → answerFrom k p r ≡ No
+answer-no k p r e = rw e
+
+-- levels that match, by so many names
+pub answer-yes : (k n : ℕ) (p r : List ℕ) → MatchesWith p r n → answerFrom k p r ≡ Yes (k + n)
+answer-yes k n p r m = rw (m .match, m .named)

@@ -9,14 +9,14 @@ ghost use mathlib.Core.Path.{_≡_};
 ghost use Rattle.resource_spec.specs.Identifier.{isFay, isTerminal};
 ghost use Rattle.resource_spec.specs.Level.{isDeep};
 ghost use Rattle.resource_spec.specs.Text.{resourceOk, patternOk, matching};
-ghost use Rattle.resource.specs.Code.{patternUnder, stepOf};
+ghost use Rattle.resource.specs.Code.{patternUnder, stepOf, matchStep};
 
 // The first levels of a pattern and of a path: they do not match; they match and are the last; or they match, and "/" follows the
-// p bytes of the one and the r bytes of the other.
+// p bytes of the one and the r bytes of the other. `names` is 1 where they are equal, and 0 where "*" matched.
 pub enum LevelStep {
     Differ,
-    Finish,
-    Next { p: usize, r: usize },
+    Finish { names: u64 },
+    Next { p: usize, r: usize, names: u64 },
 }
 
 // Whether s is a fay id.
@@ -70,7 +70,15 @@ pub fn step_levels(p: &[u8], r: &[u8]) -> LevelStep
     matcher::first_step(p, r)
 }
 
-// Whether the pattern matches the resource id.
+// The first level of a pattern's levels p against the first level of a path's levels r; a "**" that is all that p has left matches all that
+// r has left.
+pub fn match_step(p: &[u8], r: &[u8]) -> LevelStep
+    ensures { λ o. ⌜ o ≡ matchStep (now (p .entry)) (now (r .entry)) ⌝ }
+{
+    matcher::step_or_deep(p, r)
+}
+
+// Whether the pattern matches the resource id, and how many levels are matched by equal names.
 pub fn match_texts(pattern: &[u8], resource: &[u8]) -> Matching
     ensures { λ r. ⌜ r ≡ matching (now (pattern .entry)) (now (resource .entry)) ⌝ }
 {

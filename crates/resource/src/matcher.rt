@@ -8,14 +8,15 @@ use crate::levels::resource;
 use resource_spec::sizes::LEVELS_PLACE;
 use resource_spec::sizes::TERMINAL_SIZE;
 ghost use mathlib.Core.Path.{_≡_};
-ghost use mathlib.Core.Bool.{cond};
+ghost use mathlib.Core.Bool.{true, cond};
 ghost use Prim.Native.Nat.{_≤_};
 ghost use lib.ListN.{length};
+ghost use Rattle.octets.specs.Scan.{without};
 ghost use Rattle.resource_spec.specs.declared.Matching.the-variants.{No, Malformed};
 ghost use Rattle.resource_spec.specs.Level.{isDeep};
-ghost use Rattle.resource_spec.specs.Text.{longestText, resourceOk, levelsMatch, matching};
+ghost use Rattle.resource_spec.specs.Text.{longestText, resourceOk, matching};
 ghost use Rattle.resource.specs.declared.LevelStep.the-variants.{Differ, Finish};
-ghost use Rattle.resource.specs.Code.{levelLength, nameStep, starFirst, starStep, stepOf, upTo};
+ghost use Rattle.resource.specs.Code.{levelLength, nameStep, starFirst, starStep, stepOf, matchStep, upTo, answerFrom};
 ghost use Rattle.resource.specs.Laws.{Stepped};
 
 // A name of p against a name of r.
@@ -31,14 +32,18 @@ fn name_step(p: &[u8], r: &[u8]) -> LevelStep
             return LevelStep::Differ;
         }
         if p[i] == b'/' {
-            return LevelStep::Next { p: i, r: i };
+            return LevelStep::Next {
+                p: i,
+                r: i,
+                names: 1,
+            };
         }
         i += 1;
     }
     if i < r.len() {
         return LevelStep::Differ;
     }
-    LevelStep::Finish
+    LevelStep::Finish { names: 1 }
 }
 
 // Whether the first level of p is "*".
@@ -61,14 +66,18 @@ fn star_step(p: &[u8], r: &[u8]) -> LevelStep
     let n = octets::until(r, 0, b'/');
     if p.len() == 1 {
         if n == r.len() {
-            return LevelStep::Finish;
+            return LevelStep::Finish { names: 0 };
         }
         return LevelStep::Differ;
     }
     if n == r.len() {
         return LevelStep::Differ;
     }
-    LevelStep::Next { p: 1, r: n }
+    LevelStep::Next {
+        p: 1,
+        r: n,
+        names: 0,
+    }
 }
 
 // The first level of p, which is not that of r, against the first level of r.
@@ -89,8 +98,8 @@ pub(crate) fn first_step(p: &[u8], r: &[u8]) -> LevelStep
 {
     match name_step(p, r) {
         LevelStep::Differ => star_or_differ(p, r),
-        LevelStep::Finish => LevelStep::Finish,
-        LevelStep::Next { p: i, r: j } => LevelStep::Next { p: i, r: j },
+        LevelStep::Finish { names } => LevelStep::Finish { names },
+        LevelStep::Next { p: i, r: j, names } => LevelStep::Next { p: i, r: j, names },
     }
 }
 
@@ -106,51 +115,74 @@ pub(crate) fn is_deep(p: &[u8]) -> bool
 
 // The levels p of a pattern, of which the first does not match.
 fn deep_or_differ(p: &[u8]) -> LevelStep
-    ensures { λ o. ⌜ o ≡ cond (isDeep (now (p .entry))) Finish Differ ⌝ }
+    ensures { λ o. ⌜ o ≡ cond (isDeep (now (p .entry))) (Finish 0) Differ ⌝ }
 {
     if is_deep(p) {
-        return LevelStep::Finish;
+        return LevelStep::Finish { names: 0 };
     }
     LevelStep::Differ
 }
 
-// The first level of p from i on against the first level of r from j on; n and m are where p and r end. A "**" that is all that p has left
-// matches what r has left.
+// The first level of p against the first level of r; a "**" that is all that p has left matches all that r has left.
+pub(crate) fn step_or_deep(p: &[u8], r: &[u8]) -> LevelStep
+    ensures { λ o. ⌜ o ≡ matchStep (now (p .entry)) (now (r .entry)) ⌝ }
+{
+    match first_step(p, r) {
+        LevelStep::Differ => deep_or_differ(p),
+        LevelStep::Finish { names } => LevelStep::Finish { names },
+        LevelStep::Next { p: a, r: b, names } => LevelStep::Next { p: a, r: b, names },
+    }
+}
+
+// The first level of p from i on against the first level of r from j on; n and m are where p and r end.
 fn step_at(p: &[u8], i: usize, n: usize, r: &[u8], j: usize, m: usize) -> LevelStep
-    requires { ⌜ (i ≤ n) × (n ≤ length (now p)) × (j ≤ m) × (m ≤ length (now r)) ⌝ }
+    requires { ⌜ (i ≤ n) × (n ≤ length (now p)) × (j ≤ m) × (m ≤ length (now r)) × (without 42 (upTo (now r) j m) ≡ true) ⌝ }
     ensures { λ o. ⌜ Stepped (upTo (now (p .entry)) i n) (upTo (now (r .entry)) j m) o ⌝ }
 {
-    match first_step(&p[i..n], &r[j..m]) {
-        LevelStep::Differ => deep_or_differ(&p[i..n]),
-        LevelStep::Finish => LevelStep::Finish,
-        LevelStep::Next { p: a, r: b } => LevelStep::Next { p: a, r: b },
-    }
+    step_or_deep(&p[i..n], &r[j..m])
 }
 
-// Whether the levels of p from i on match the levels of r from j on: the first of each, and then the remaining ones. All that the call
-// hands on are two addresses and four numbers, so that the compiler makes a loop of it.
-fn levels_at(p: &[u8; LONGEST], i: usize, n: usize, r: &[u8; LONGEST], j: usize, m: usize) -> bool
-    requires { ⌜ (i ≤ n) × (n ≤ longestText) × (j ≤ m) × (m ≤ longestText) ⌝ }
-    ensures { λ o. ⌜ o ≡ levelsMatch (upTo (now (p .entry)) i n) (upTo (now (r .entry)) j m) ⌝ }
+// Whether the levels of p from i on match the levels of r from j on: the first of each, and then the remaining ones; and how many levels
+// are matched by equal names, where k were before. All that the call hands on are two addresses and five numbers, so that the compiler
+// makes a loop of it.
+fn levels_at(
+    p: &[u8; LONGEST],
+    i: usize,
+    n: usize,
+    r: &[u8; LONGEST],
+    j: usize,
+    m: usize,
+    k: u64,
+) -> Matching
+    requires { ⌜ (i ≤ n) × (n ≤ longestText) × (j ≤ m) × (m ≤ longestText) × (without 42 (upTo (now r) j m) ≡ true) × (k ≤ i) ⌝ }
+    ensures { λ o. ⌜ o ≡ answerFrom k (upTo (now (p .entry)) i n) (upTo (now (r .entry)) j m) ⌝ }
 {
     match step_at(p, i, n, r, j, m) {
-        LevelStep::Differ => false,
-        LevelStep::Finish => true,
-        LevelStep::Next { p: a, r: b } => levels_at(p, i + a + 1, n, r, j + b + 1, m),
+        LevelStep::Differ => Matching::No,
+        LevelStep::Finish { names } => Matching::Yes { names: k + names },
+        LevelStep::Next { p: a, r: b, names } => levels_at(
+            p,
+            i + a + 1,
+            n,
+            r,
+            j + b + 1,
+            m,
+            k + names,
+        ),
     }
 }
 
-// Whether the levels p of a pattern match the levels r of a path. Both are copied, since a slice is handed on by the address of its
-// pointer and length, and no call that hands one on becomes a loop.
-fn levels(p: &[u8], r: &[u8]) -> bool
-    requires { ⌜ (length (now p) ≤ longestText) × (length (now r) ≤ longestText) ⌝ }
-    ensures { λ o. ⌜ o ≡ levelsMatch (now (p .entry)) (now (r .entry)) ⌝ }
+// Whether the levels p of a pattern match the levels r of a path, and how many are matched by equal names. Both are copied, since a slice is
+// handed on by the address of its pointer and length, and no call that hands one on becomes a loop.
+fn levels(p: &[u8], r: &[u8]) -> Matching
+    requires { ⌜ (length (now p) ≤ longestText) × (length (now r) ≤ longestText) × (without 42 (now r) ≡ true) ⌝ }
+    ensures { λ o. ⌜ o ≡ answerFrom 0 (now (p .entry)) (now (r .entry)) ⌝ }
 {
     let mut a = [0u8; LONGEST];
     let mut b = [0u8; LONGEST];
     octets::put(&mut a, 0, p);
     octets::put(&mut b, 0, r);
-    levels_at(&a, 0, p.len(), &b, 0, r.len())
+    levels_at(&a, 0, p.len(), &b, 0, r.len(), 0)
 }
 
 // What matching a pattern with a text of another terminal id answers.
@@ -163,7 +195,7 @@ fn other_terminal(r: &[u8]) -> Matching
     Matching::Malformed
 }
 
-// Whether the pattern p matches the resource id r. Where r begins with the terminal id of p, that id is not looked at a second time.
+// Whether the pattern p matches the resource id r, and how many levels are matched by equal names. Where r begins with the terminal id of p, that id is not looked at a second time.
 pub(crate) fn texts(p: &[u8], r: &[u8]) -> Matching
     ensures { λ o. ⌜ o ≡ matching (now (p .entry)) (now (r .entry)) ⌝ }
 {
@@ -176,8 +208,5 @@ pub(crate) fn texts(p: &[u8], r: &[u8]) -> Matching
     if !below(r, false) {
         return Matching::Malformed;
     }
-    if levels(&p[LEVELS_PLACE..], &r[LEVELS_PLACE..]) {
-        return Matching::Yes;
-    }
-    Matching::No
+    levels(&p[LEVELS_PLACE..], &r[LEVELS_PLACE..])
 }

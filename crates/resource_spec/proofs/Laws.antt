@@ -1,14 +1,16 @@
 -- The statements of specs/Laws.antt, each from its law. Assumes nothing.
-use Rattle.resource_spec.specs.Laws.{EachParted, LevelsOne, LevelsMore, LevelsSome, SpelledFirst}
+use Rattle.resource_spec.specs.Laws.{EachParted, LevelsOne, LevelsMore, LevelsSome, FirstWithout, SpelledFirst}
 use Rattle.resource_spec.specs.Laws.{TerminalLength, FayLength, PatternShort, ResourceShort, PatternTerminal, PatternLevels}
-use Rattle.resource_spec.specs.Laws.{AdmitsText, WellBegins, BeginsWell, PatternSpaceless, CoversExact, TakenCan}
+use Rattle.resource_spec.specs.Laws.{AdmitsText, NamesText, ResourceStarless, WellBegins, BeginsWell, PatternSpaceless}
+use Rattle.resource_spec.specs.Laws.{CoversExact, TakenCan}
 use Rattle.resource_spec.specs.Laws.{CoversStay, WitnessMatched, WitnessDecides, WitnessNames, ZsFresh}
 use Rattle.resource_spec.proofs.LevelLaws as level
 use Rattle.resource_spec.proofs.TextLaws as texts
 use Rattle.resource_spec.proofs.TextLaws.{terminal-long, fay-long, pattern-sized, resource-sized, pattern-id, pattern-parts}
-use Rattle.resource_spec.proofs.TextLaws.{admits-parts}
+use Rattle.resource_spec.proofs.TextLaws.{admits-parts, names-parts}
 use Rattle.resource_spec.proofs.WithoutLaws.{pattern-without}
 use Rattle.resource_spec.proofs.SpellLaws.{first-spelled}
+use Rattle.resource_spec.proofs.NameLaws.{resource-without}
 use Rattle.resource_spec.proofs.CoverLaws.{covers-exactly, taken-can-be, covers-stays, witness-is-matched, witness-covers}
 use Rattle.resource_spec.proofs.CoverLaws.{witness-has-names, zs-are-fresh}
 
@@ -25,6 +27,9 @@ levels-more = level.levels-more
 
 pub levels-some : LevelsSome
 levels-some = level.levels-some
+
+pub first-without : FirstWithout
+first-without = level.first-without
 
 pub spelled-first : SpelledFirst
 spelled-first = first-spelled
@@ -51,6 +56,12 @@ pattern-levels = pattern-parts
 
 pub admits-text : AdmitsText
 admits-text = admits-parts
+
+pub names-text : NamesText
+names-text = names-parts
+
+pub resource-starless : ResourceStarless
+resource-starless = resource-without
 
 pub pattern-spaceless : PatternSpaceless
 pattern-spaceless = pattern-without

@@ -4,6 +4,7 @@ pub mod WithoutLaws
 pub mod TextLaws
 pub mod SpellLaws
 pub mod MatchLaws
+pub mod NameLaws
 pub mod CoverLaws
 pub mod Promises
 pub mod Laws

@@ -12,10 +12,10 @@ use Rattle.resource_spec.specs.Identifier.{Slot, fits, hasForm, isFay, i
 use Rattle.resource_spec.specs.Identifier.{terminalSize}
 use Rattle.resource_spec.specs.Level.{levels, levelsOk}
 use Rattle.resource_spec.specs.Text.{wellFormed, isResource, isPattern, longestText, resourceOk, patternOk, pathOf, patternOf}
-use Rattle.resource_spec.specs.Text.{levelsMatch}
+use Rattle.resource_spec.specs.Text.{levelsMatch, levelsNamed}
 use Rattle.resource_spec.specs.Laws.{Parted, last, more, Begins, WellBegins, BeginsWell}
 use Rattle.resource_spec.specs.Laws.{TerminalLength, FayLength, PatternShort, ResourceShort, PatternTerminal, PatternLevels}
-use Rattle.resource_spec.specs.Laws.{AdmitsText}
+use Rattle.resource_spec.specs.Laws.{AdmitsText, NamesText}
 use Rattle.octets.proofs.Tests.{and-left, and-right, no-flag}
 use Rattle.resource_spec.proofs.WithoutLaws.{terminal-slashless}
 use Rattle.resource_spec.proofs.LevelLaws.{levels-one, levels-more, parted}
@@ -108,3 +108,8 @@ pattern-parts p e = begins-levels p (pattern-begins p e)
 pub admits-parts : AdmitsText
 unfolding patternOf pathOf levelsMatch
 admits-parts p r e f = rw (begins-levels p (pattern-begins p e), begins-levels r (resource-begins r f))
+
+-- how many levels are matched by equal names is told by the texts below
+pub names-parts : NamesText
+unfolding patternOf pathOf levelsNamed
+names-parts p r e f = rw (begins-levels p (pattern-begins p e), begins-levels r (resource-begins r f))

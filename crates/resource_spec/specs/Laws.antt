@@ -10,9 +10,10 @@ use Rattle.octets.specs.Bytes.{same}
 use Rattle.octets.specs.Scan.{without}
 use Rattle.resource_spec.specs.Identifier.{isFay, isTerminal, faySize, levelsPlace, terminalSize}
 use Rattle.resource_spec.specs.Level.{isName, isStar, isDeep, levels, levelsOk}
-use Rattle.resource_spec.specs.Pattern.{Levels, Pattern, matches, admits, levelsBefore, taken, AllNames, Some, NamesIn, spelled}
-use Rattle.resource_spec.specs.Pattern.{IsPattern, patternText}
+use Rattle.resource_spec.specs.Pattern.{Levels, Pattern, matches, admits, equalNames, levelsBefore, taken, AllNames, Some, NamesIn}
+use Rattle.resource_spec.specs.Pattern.{spelled, IsPattern, patternText}
 use Rattle.resource_spec.specs.Text.{wellFormed, resourceOk, patternOk, pathOf, patternOf, withLevel, levelsOf, levelsMatch}
+use Rattle.resource_spec.specs.Text.{levelsNamed}
 use Rattle.resource_spec.specs.Cover.{covers, witness, CanTake, Fresh, longestName, zs}
 
 -- ---- levels
@@ -37,6 +38,10 @@ LevelsMore = (l t : List ℕ) → without 47 l ≡ true → levels (l ++ (47 ∷
 -- there is one level at least
 abbrev pub LevelsSome : Type 0
 LevelsSome = (s : List ℕ) → (l : List ℕ) × (ls : List (List ℕ)) × (levels s ≡ l ∷ ls)
+
+-- a byte that a text has not is not in its first level
+abbrev pub FirstWithout : Type 0
+FirstWithout = (c : ℕ) (s l : List ℕ) (ls : List (List ℕ)) → levels s ≡ l ∷ ls → without c s ≡ true → without c l ≡ true
 
 -- the first level of a text that is not "**" spells "*" or a name, before what the others spell
 abbrev pub SpelledFirst : Type 0
@@ -74,6 +79,15 @@ abbrev pub AdmitsText : Type 0
 AdmitsText = (p r : List ℕ) → patternOk p ≡ true → resourceOk r ≡ true
     → admits (patternOf p) (pathOf r)
     ≡ (same (take terminalSize p) (take terminalSize r) && levelsMatch (drop levelsPlace p) (drop levelsPlace r))
+
+-- how many levels are matched by equal names is told by the texts below
+abbrev pub NamesText : Type 0
+NamesText = (p r : List ℕ) → patternOk p ≡ true → resourceOk r ≡ true
+    → equalNames (patternOf p .below) (pathOf r .names) ≡ levelsNamed (drop levelsPlace p) (drop levelsPlace r)
+
+-- no "*" stands in a resource id below the terminal id
+abbrev pub ResourceStarless : Type 0
+ResourceStarless = (r : List ℕ) → resourceOk r ≡ true → without 42 (drop levelsPlace r) ≡ true
 
 -- a text begins with a terminal id and "/"
 pub record Begins (s : List ℕ) : Type 0 where

@@ -2,16 +2,18 @@
 // specs/Promises.antt. No function: here are the sizes, and the types of what matching answers; `resource` has the functions.
 pub mod sizes;
 
-// What matching two texts answers; Malformed is document 01's 15.
+// What matching two texts answers: yes, with the number of levels that were matched by equal names; no; Malformed is document 01's 15.
 pub enum Matching {
-    Yes,
+    Yes { names: u64 },
     No,
     Malformed,
 }
 
-// A matching in document 01's numbers, as include/cap.h has them: the answer, 0 or 15; and 1 for yes.
+// A matching in document 01's numbers, as include/cap.h has them: the answer, 0 or 15; 1 for yes; and the number of levels that
+// were matched by equal names.
 #[repr(C)]
 pub struct MatchingNumbers {
     pub answer: u64,
     pub yes: u64,
+    pub names: u64,
 }

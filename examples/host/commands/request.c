@@ -10,6 +10,7 @@
 #include "judgement.h"
 #include "keys.h"
 #include "revocations.h"
+#include "serving.h"
 #include "show.h"
 #include "words.h"
 
@@ -43,12 +44,13 @@ static cap_decision ask_gate(const request *r, const judgement *judged) {
                        r->revoked.bytes, r->revoked.len, judged->verdict, judged->valid_from, judged->has_valid_until, judged->valid_until);
 }
 
-/* Prints a granted request: the grant that serves, its pattern and modes, and the session's end. */
+/* Prints a granted request: the grant that the gate names, its pattern and modes, why it is this one, and the session's end. */
 static void print_granted(const request *r, cap_decision decision) {
     printf("granted: %s of ", mode_name(r->mode));
     print_text((const uint8_t *)r->resource, strlen(r->resource));
     printf("\n  grant %" PRIu64 "\n", decision.grant);
     show_grant(r->body, r->body_len, decision.grant);
+    print_why_named(r->body, r->body_len, r->resource, r->mode, decision.grant);
     print_labelled_moment("session end", decision.session_end);
 }
 

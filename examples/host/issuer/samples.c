@@ -45,6 +45,15 @@ static const grant_fields staff_grants[] = {
     {TERMINAL "/device/camera/**", READ | CONFIGURE, {NULL, NULL}},
 };
 
+/* The technician may read all devices by a broad grant; of the other grants, which name more levels, the last has a constraint. */
+static const grant_fields technician_grants[] = {
+    {TERMINAL "/device/**", READ, {NULL, NULL}},
+    {TERMINAL "/device/furnace/*", READ | WRITE, {NULL, NULL}},
+    {TERMINAL "/device/*/temperature", READ | CONFIGURE, {NULL, NULL}},
+    {TERMINAL "/device/camera/front", READ | EXECUTE, {NULL, NULL}},
+    {TERMINAL "/device/furnace/temperature", READ, {"time_window", "08:00-18:00"}},
+};
+
 /* The parent: its two grants of cameras together admit reading at every level below them. */
 static const grant_fields parent_grants[] = {
     {TERMINAL "/device/camera/*", READ | WRITE, {NULL, NULL}},
@@ -95,6 +104,7 @@ const sample samples[] = {
      LAB_KEY,
      {ID("0e"), LAB, NULL, STUDENT, TERMINAL, START, START, START + 91 * DAY, {NULL, NULL}, student_grants, COUNT(student_grants)},
      NULL},
+    {"technician.cbor", STAFF_KEY, LAB_PAYLOAD("0f", STAFF, START, technician_grants), NULL},
     {"parent.cbor", LAB_KEY, LAB_PAYLOAD("0a", STAFF, START, parent_grants), NULL},
     {"child-inside.cbor", LAB_KEY, LAB_PAYLOAD("0b", STUDENT, START, inside_grants), NULL},
     {"child-escapes.cbor", LAB_KEY, LAB_PAYLOAD("0c", STUDENT, START, escaping_grants), NULL},

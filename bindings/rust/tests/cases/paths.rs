@@ -1,4 +1,4 @@
-//! Paths and patterns: every short text over a few letters, long ones, and malformed ones.
+//! Paths and patterns: every short text over a few letters, every number of equal names, long ones, and malformed ones.
 
 use crate::compare::Compare;
 use crate::encoder::{OTHER_TERMINAL, TERMINAL};
@@ -10,8 +10,10 @@ pub fn run(compare: &mut Compare, random: &mut Random, rounds: usize) {
     name_letters(compare);
     lengths(compare);
     terminals(compare);
+    equal_names(compare);
     for _ in 0..rounds {
         random_pair(compare, random);
+        random_deep_pair(compare, random);
     }
 }
 
@@ -108,6 +110,56 @@ fn terminals(compare: &mut Compare) {
     );
     compare.matching(&upper, &lower);
     compare.matching(&lower, &lower);
+}
+
+/// Paths of each number of names, and patterns that begin with each number of them and go on with "*", "**" or another name.
+fn equal_names(compare: &mut Compare) {
+    for levels in 1..=105 {
+        let path = under(TERMINAL, vec!["n"; levels].join("/").as_bytes());
+        for names in 0..=levels {
+            let start = vec!["n"; names];
+            let stars = [&start[..], &vec!["*"; levels - names]].concat();
+            let deep = [&start[..], &["**"]].concat();
+            let other = [&stars[..levels - 1], &["m"]].concat();
+            for pattern in [stars, deep, other] {
+                compare.matching(&under(TERMINAL, pattern.join("/").as_bytes()), &path);
+            }
+        }
+    }
+}
+
+/// A path of many names, and a pattern that is made of it.
+fn random_deep_pair(compare: &mut Compare, random: &mut Random) {
+    let letters = ["a", "b", "n"];
+    let names: Vec<String> = (0..random.between(1, 104))
+        .map(|_| random.pick(&letters).to_string())
+        .collect();
+    compare.matching(
+        &under(TERMINAL, any_pattern_for(random, &names).as_bytes()),
+        &under(TERMINAL, names.join("/").as_bytes()),
+    );
+}
+
+/// The levels of a pattern that are made of a path: some of its names are "*", and the last ones are perhaps "**"; in some a
+/// level is another, or there is one more.
+pub fn any_pattern_for(random: &mut Random, names: &[String]) -> String {
+    let stars = *random.pick(&[0, 1, 4, 7, 8]);
+    let level = |name: &String| match random.below(8) {
+        n if n < stars => "*".to_string(),
+        _ => name.clone(),
+    };
+    let mut levels: Vec<String> = names.iter().map(level).collect();
+    let at = random.below(levels.len());
+    match random.below(8) {
+        0..3 => {
+            levels.truncate(at);
+            levels.push("**".into());
+        }
+        3 => levels[at] = "z".into(),
+        4 => levels.push("z".into()),
+        _ => {}
+    }
+    levels.join("/")
 }
 
 /// A random pattern, and a path that often matches it or nearly does.

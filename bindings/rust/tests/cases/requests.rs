@@ -44,14 +44,14 @@ pub fn run(compare: &mut Compare, random: &mut Random, rounds: usize) {
 
 /// The arguments of a request.
 #[derive(Clone)]
-struct Asked {
+pub struct Asked {
     image: Vec<u8>,
     id: Vec<u8>,
     fay: Vec<u8>,
     terminal: Vec<u8>,
-    resource: Vec<u8>,
+    pub resource: Vec<u8>,
     revoked: Vec<u8>,
-    mode: u64,
+    pub mode: u64,
     now: u64,
     session_length: u64,
     verdict: u64,
@@ -84,7 +84,7 @@ impl Asked {
     }
 
     /// A request for a descriptor.
-    fn of(model: &Model, image: Vec<u8>) -> Asked {
+    pub fn of(model: &Model, image: Vec<u8>) -> Asked {
         Asked {
             image,
             id: model.id.clone(),
@@ -102,7 +102,7 @@ impl Asked {
         }
     }
 
-    fn run(&self, compare: &mut Compare) {
+    pub fn run(&self, compare: &mut Compare) {
         let Asked {
             mode,
             now,

@@ -1,6 +1,6 @@
 //! Two implementations side by side: the same calls to both, and a note of each difference.
 
-use std::collections::BTreeMap;
+use std::collections::{BTreeMap, BTreeSet};
 use std::fmt::Debug;
 
 use reference::{Request, Submission};
@@ -10,11 +10,12 @@ use super::gate::Gate;
 /// How many differences are noted in full.
 const MOST_NOTES: usize = 3;
 
-/// Two implementations, how often each answer was given, and where they differ.
+/// Two implementations, how often each answer was given, which numbers of equal names, and where they differ.
 pub struct Compare<'a> {
     one: &'a dyn Gate,
     other: &'a dyn Gate,
     counts: BTreeMap<(&'static str, u64), u64>,
+    names: BTreeSet<u64>,
     differences: u64,
     notes: Vec<String>,
 }
@@ -26,6 +27,7 @@ impl<'a> Compare<'a> {
             one,
             other,
             counts: BTreeMap::new(),
+            names: BTreeSet::new(),
             differences: 0,
             notes: Vec::new(),
         }
@@ -55,6 +57,11 @@ impl<'a> Compare<'a> {
     /// How often a call gave an answer.
     pub fn count(&self, call: &'static str, answer: u64) -> u64 {
         self.counts.get(&(call, answer)).copied().unwrap_or(0)
+    }
+
+    /// The numbers of equal names that matching answered.
+    pub fn names(&self) -> &BTreeSet<u64> {
+        &self.names
     }
 
     /// Counts a call and notes a difference.
@@ -126,6 +133,7 @@ impl<'a> Compare<'a> {
             String::from_utf8_lossy(pattern),
             String::from_utf8_lossy(resource),
         );
+        self.names.insert(other[2]);
         self.note("matching", &one, &other, true, &inputs);
     }
 

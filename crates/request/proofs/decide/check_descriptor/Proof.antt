@@ -41,7 +41,7 @@ terminal : (c : tie.Else4) → same (part (at4 c .args .body .now) (at4 c .args 
     ≡ true
 terminal c = lent-same _ _ (at4 c .args .fields .terminal) terminalSize (c .before .same-bytes2 .ensures) ∙ not-false _ (c .if4 .left)
 
--- what the search answered is the first grant that serves
+-- what the search answered is the grant that is picked
 found : (c : tie.After-match-grant) (m : Matched) → c .match-grant .result ≡ m
     → m ≡ matchedOn (at4 (c .before) .args .body .now) (at4 (c .before) .args .fields) (at4 (c .before) .args .resource .now)
     (at4 (c .before) .args .mode)
@@ -82,7 +82,7 @@ returns-5 c =
     let t = k .before in
     let s = t .before .before .before in
     let l = s .before .before .before in
-    let m = IsAt (c .before .grant .given .0 .0) (c .before .grant .given .0 .1 .0) in
+    let m = IsAt (c .before .grant .given .0 .0) (c .before .grant .given .0 .1 .0) (c .before .grant .given .0 .1 .1 .0) in
     on-descriptor _ _ _ _ _ _ _ m (found k m (c .before .grant .given .1))
     (passes (early (l .before .before)) (passes (late l) (passes (subject s) (passes (terminal t) (passes refl ends)))))
 

@@ -9,7 +9,8 @@ use borrow.Fn.PlainCycle.{Measures, is, falls, and}
 use Rattle.resource_spec.specs.Level.{levels as levelsIn}
 use Rattle.resource.specs.Code.{upTo}
 use Rattle.resource.specs.Laws.{Goes, Stepped}
-use Rattle.resource.proofs.UpToCode.{before-p, before-r, later-decides, later-fewer}
+use Rattle.resource.specs.declared.LevelStep.the-variants.{Finish}
+use Rattle.resource.proofs.UpToCode.{before-p, before-r, later-answers, later-starless, later-fewer, answer-no, answer-yes}
 use Rattle.resource.proofs.matcher.levels_at.Reads as levels-at
 use Rattle.resource.proofs.matcher.levels_at.Kinds as levels-at-kinds
 use Rattle.resource.proofs.matcher.+levels_at.Lts-levels_at as levels-at-lts
@@ -44,20 +45,31 @@ long-r t s = omega (arith, s .before .before .pre .1 .3, s .step-at-arg2 .given 
 goes : (t : ℕ) (a : levels-at-lts.After-a (given t) (levels-at-at t) levels-at.Post)
     → let s = a .before .before .before .before .before .args in
     Goes (upTo (s .p .now) (s .i) (s .n)) (upTo (s .r .now) (s .j) (s .m)) (a .a .given .0 .0) (a .a .given .0 .1 .0)
+    (a .a .given .0 .1 .1 .0)
 goes t a = subst (Stepped _ _) (a .a .given .1) (a .before .before .step-at .ensures)
 
 -- the "/" of both stand before their ends
 in-p : (t : ℕ) (a : levels-at-lts.After-a (given t) (levels-at-at t) levels-at.Post)
     → let s = a .before .before .before .before .before .args in s .i + a .a .given .0 .0 < s .n
-in-p t a = before-p _ _ _ _ _ _ _ _ (long-p t (a .before .before .before)) (long-r t (a .before .before .before)) (goes t a)
+in-p t a = before-p _ _ _ _ _ _ _ _ (long-p t (a .before .before .before)) (long-r t (a .before .before .before)) _ (goes t a)
 
 in-r : (t : ℕ) (a : levels-at-lts.After-a (given t) (levels-at-at t) levels-at.Post)
     → let s = a .before .before .before .before .before .args in s .j + a .a .given .0 .1 .0 < s .m
-in-r t a = before-r _ _ _ _ _ _ _ _ (long-p t (a .before .before .before)) (long-r t (a .before .before .before)) (goes t a)
+in-r t a = before-r _ _ _ _ _ _ _ _ (long-p t (a .before .before .before)) (long-r t (a .before .before .before)) _ (goes t a)
+
+-- what it says where they are the last
+finishes : (t : ℕ) (a : levels-at-lts.After-names (given t) (levels-at-at t) levels-at.Post)
+    → let s = a .before .before .before .before .before .args in
+    Stepped (upTo (s .p .now) (s .i) (s .n)) (upTo (s .r .now) (s .j) (s .m)) (Finish (a .names .given .0 .0))
+finishes t a = subst (Stepped _ _) (a .names .given .1) (a .before .before .step-at .ensures)
 
 -- the needs at the measure t
 levels-at-step-at-requires : (t : ℕ) → levels-at-lts.Need-step-at-requires (given t) (levels-at-at t) levels-at.Post
-levels-at-step-at-requires t c κs = let p = c .before .before .pre .1 in (p .0, long-p t c, p .2, long-r t c)
+levels-at-step-at-requires t c κs = let p = c .before .before .pre .1 in (p .0, long-p t c, p .2, long-r t c, p .4)
+
+levels-at-add-names : (t : ℕ) → levels-at-lts.Need-add-t18 (given t) (levels-at-at t) levels-at.Post
+levels-at-add-names t c =
+    let p = c .before .before .before .before .before .before .pre .1 in omega (arith, finishes t (c .before) .1, p .0, p .1, p .5)
 
 levels-at-add-levels-at : (t : ℕ) → levels-at-lts.Need-add-levels-at (given t) (levels-at-at t) levels-at.Post
 levels-at-add-levels-at t c = omega (arith, in-p t (c .before), c .before .before .before .before .before .before .pre .1 .1)
@@ -71,28 +83,38 @@ levels-at-add-levels-at-3 t c = omega (arith, in-r t (c .before), c .before .bef
 levels-at-add-levels-at-4 : (t : ℕ) → levels-at-lts.Need-add-levels-at-4 (given t) (levels-at-at t) levels-at.Post
 levels-at-add-levels-at-4 t c = omega (arith, in-r t (c .before), c .before .before .before .before .before .before .pre .1 .3)
 
+levels-at-add-levels-at-5 : (t : ℕ) → levels-at-lts.Need-add-levels-at-5 (given t) (levels-at-at t) levels-at.Post
+levels-at-add-levels-at-5 t c =
+    let p = c .before .before .before .before .before .before .pre .1 in omega (arith, goes t (c .before) .one, p .0, p .1, p .5)
+
 levels-at-levels-at-requires : (t : ℕ) → levels-at-lts.Need-levels-at-requires (given t) (levels-at-at t) levels-at.Post
 levels-at-levels-at-requires t c κs =
     let a = c .before in
     let s = a .before .before .before .before .before in
+    let p = s .pre .1 in
     let fewer = later-fewer (s .args .p .now) (s .args .r .now) (s .args .i) (s .args .n) (s .args .j) (s .args .m)
-    (a .a .given .0 .0) (a .a .given .0 .1 .0) (long-p t (a .before .before .before)) (long-r t (a .before .before .before)) (goes t a) in
-    (omega (arith, s .pre .0, fewer), (omega (arith, in-p t a), s .pre .1 .1, omega (arith, in-r t a), s .pre .1 .3))
+    (a .a .given .0 .0) (a .a .given .0 .1 .0) (long-p t (a .before .before .before)) (long-r t (a .before .before .before)) _ (goes t a) in
+    let starless = later-starless (s .args .p .now) (s .args .r .now) (s .args .i) (s .args .n) (s .args .j) (s .args .m)
+    (a .a .given .0 .0) (a .a .given .0 .1 .0) (long-p t (a .before .before .before)) (long-r t (a .before .before .before)) _ (goes t a) in (
+      omega (arith, s .pre .0, fewer),
+      (omega (arith, in-p t a), p .1, omega (arith, in-r t a), p .3, starless (p .4), omega (arith, goes t a .one, p .5)),
+    )
 
 levels-at-returns : (t : ℕ) → levels-at-lts.Need-returns (given t) (levels-at-at t) levels-at.Post
-levels-at-returns t c = sym (subst (Stepped _ _) (c .enum-told .given .1) (c .before .before .step-at .ensures))
+levels-at-returns t c = sym (answer-no _ _ _ (subst (Stepped _ _) (c .enum-told .given .1) (c .before .before .step-at .ensures)))
 
 levels-at-returns-2 : (t : ℕ) → levels-at-lts.Need-returns-2 (given t) (levels-at-at t) levels-at.Post
-levels-at-returns-2 t c = sym (subst (Stepped _ _) (c .enum-told2 .given .1) (c .before .before .step-at .ensures))
+levels-at-returns-2 t c = sym (answer-yes _ _ _ _ (finishes t (c .before) .0))
 
 levels-at-returns-3 : (t : ℕ) → levels-at-lts.Need-returns-3 (given t) (levels-at-at t) levels-at.Post
 levels-at-returns-3 t c =
     let a = c .before .before in
     let s = a .before .before .before in
-    c .levels-at .ensures ∙ later-decides _ _ _ _ _ _ _ _ (long-p t s) (long-r t s) (goes t a)
+    c .levels-at .ensures ∙ later-answers _ _ _ _ _ _ _ _ (long-p t s) (long-r t s) _ (goes t a) _
 
 pub +levels-at-spec : {M : Type 1} → statement M
 +levels-at-spec = close μ-levels-at λ t. levels-at-lts.spec (given t) (levels-at-at t) levels-at.Post
-    (levels-at-step-at-requires t) (λ c. search needs) (λ c. search needs) (λ c. search needs)
+    (levels-at-step-at-requires t) (λ c. search needs) (λ c. search needs) (levels-at-add-names t) (λ c. search needs)
     (levels-at-add-levels-at t) (levels-at-add-levels-at-2 t) (levels-at-add-levels-at-3 t) (levels-at-add-levels-at-4 t)
-    (levels-at-levels-at-requires t) (levels-at-returns t) (levels-at-returns-2 t) (levels-at-returns-3 t)
+    (levels-at-add-levels-at-5 t) (levels-at-levels-at-requires t) (levels-at-returns t) (levels-at-returns-2 t)
+    (levels-at-returns-3 t)

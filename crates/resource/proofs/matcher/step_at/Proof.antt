@@ -1,24 +1,17 @@
 -- `step_at` meets its contract. Assumes nothing.
-use mathlib.Core.Path.{sym, _∙_}
+use mathlib.Core.Path.{sym, subst}
 use borrow.Author.Needs.{needs}
-use Rattle.resource.proofs.NameFirstCode.{step-known, deep-says}
+use Rattle.resource.specs.Laws.{Stepped}
+use Rattle.resource.proofs.NameFirstCode.{match-step-tells}
 use Rattle.resource.proofs.matcher.step_at.Statement.{statement}
 use Rattle.resource.proofs.matcher.step_at.Tie as tie
 
 returns : tie.Need-returns
 returns c =
-    let t = c .before .before in
-    deep-says _ _ (sym (t .enum-told .given .1) ∙ t .before .before .first-step .ensures) (c .deep-or-differ .ensures)
-
-returns-2 : tie.Need-returns-2
-returns-2 c = step-known _ _ (sym (c .enum-told2 .given .1) ∙ c .before .before .first-step .ensures) tt
-
-returns-3 : tie.Need-returns-3
-returns-3 c = let n = c .before in step-known _ _ (sym (n .a .given .1) ∙ n .before .before .first-step .ensures) tt
+    subst (Stepped _ _) (sym (c .step-or-deep .ensures)) (match-step-tells _ _ (c .before .before .before .before .before .pre .4))
 
 pub step-at-spec : {M : Type 1} → statement M
 step-at-spec =
     tie.close
     (tie.spec (λ c. search needs) (λ c. search needs) (λ c. search needs) (λ c. search needs) (λ c. search needs)
-    (λ c. search needs) (λ c κs. search needs) (λ c. search needs) (λ c. search needs) (λ c. search needs) (λ c. search needs)
-    (λ c κs. search needs) (λ c. search needs) (λ c. search needs) returns returns-2 returns-3)
+    (λ c. search needs) (λ c κs. search needs) returns)

@@ -26,7 +26,7 @@ pub(crate) enum Found {
     Nothing,
 }
 
-// ReadAs the `count` grants from `at` on into a table with three numbers a row: where the grant's levels begin, where they end, and the
+// Reads the `count` grants from `at` on into a table with three numbers a row: where the grant's levels begin, where they end, and the
 // mask. Answers the number of rows.
 pub(crate) fn fill(parent: &[u8], at: usize, count: u64, table: &mut [usize]) -> usize
     requires { ⌜ 3 * count ≤ length (now table) ⌝ }

@@ -41,7 +41,7 @@ pub decided-in : (s : List ℕ) (q : Request) (v : ImageCheck) → checkOf s (q 
 unfolding decisionOf stepsOf
 decided-in s q v e = ap (decidedIn s q) e
 
--- where the arguments are not well formed the answer is 15, whatever else is requestOf
+-- where the arguments are not well formed the answer is 15, whatever else is asked
 pub malformed-first : (q : Request) (sound held : Bool) (x : Facts) (m : Matched) (r : Decision) → wellFormed q ≡ false
     → inOrder (stepsBy q sound held x m) r ≡ answers.Malformed
 unfolding stepsBy inOrder orElse

@@ -2,16 +2,18 @@
 use mathlib.Core.Path.{refl}
 use Rattle.request_spec.specs.Promises.{ArgumentsInOrder, AllStored, DecidedExactly, GrantedExactly, RefusedExactly}
 use Rattle.request_spec.specs.Promises.{RefusalsZero, EditionsRefused, GrantedGives, BeginBoundary, EndBoundary, StoredDecided}
-use Rattle.request_spec.specs.Promises.{OthersDecided, RevokedRefused, RowMoreRefuses, EarlyRowWaits, StaysRevoked, AnsweredAsBefore}
+use Rattle.request_spec.specs.Promises.{OthersDecided, RevokedRefused, RowMoreRefuses, EarlyRowWaits, StaysRevoked, PickedOnce}
+use Rattle.request_spec.specs.Promises.{AnsweredAsBefore}
 use Rattle.request_spec.proofs.UnderLaws as under
 use Rattle.request_spec.proofs.NumberLaws as numbers
+use Rattle.request_spec.proofs.ServingLaws as serving
 use Rattle.request_spec.proofs.GivenLaws as given
 use Rattle.request_spec.proofs.BeforeLaws as before
 use Rattle.request_spec.proofs.RevocationLaws as revocation
 use Rattle.request_spec.proofs.BoundaryLaws as boundary
 use Rattle.request_spec.proofs.StoredLaws as stored
 
--- ---- what is requestOf
+-- ---- the arguments
 
 pub arguments-in-order : ArgumentsInOrder
 arguments-in-order id fay terminal resource mode clock session revoked verdict window = refl
@@ -39,6 +41,9 @@ pub editions-refused : EditionsRefused
 editions-refused = numbers.editions-refused
 
 -- ---- what is granted
+
+pub picked-once : PickedOnce
+picked-once = serving.picked-one-place
 
 pub granted-gives : GrantedGives
 granted-gives = given.granted-gives

@@ -14,7 +14,7 @@ use Rattle.resource_spec.specs.Pattern.{Path}
 use Rattle.descriptor_spec.specs.Model.{Grant}
 use Rattle.descriptor_spec.specs.Modes.{unionOf}
 use Rattle.request_spec.specs.Promises.{grantServes, someServes, grantNames, mostNames, servesWith, firstPlace, firstMask, isPicked}
-use Rattle.request_spec.specs.Promises.{ServesAt, Picked}
+use Rattle.request_spec.specs.Promises.{ServesAt, Picked, PickedOnce}
 
 -- ---- the first grant that passes a test
 
@@ -165,3 +165,9 @@ picked gs m x e = (
     fewer j h s l =
         let other = ap (λ (b : Bool). b && eqb (grantNames h x) n) (sym (s .serves)) ∙ w .first j h l (s .there) in
         omega (arith, most-bounds gs m x j h s, its-most, eqb-false (grantNames h x) n other)
+
+-- `PickedOnce`
+pub picked-one-place : PickedOnce
+picked-one-place gs m x i j g h p q =
+    either-way i j (λ l. absurd (omega (arith, q .first i g (p .serves) l, p .most j h (q .serves))))
+    (λ l. either-way j i (λ k. absurd (omega (arith, p .first j h (q .serves) k, q .most i g (p .serves)))) (λ k. omega arith))

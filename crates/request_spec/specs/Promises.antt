@@ -211,6 +211,10 @@ pub record Picked (gs : List Grant) (m : ℕ) (x : Path) (i : ℕ) (g : Grant) :
   pub most : (j : ℕ) (h : Grant) → ServesAt gs m x j h → grantNames h x ≤ grantNames g x
   pub first : (j : ℕ) (h : Grant) → ServesAt gs m x j h → j < i → grantNames h x < grantNames g x
 
+-- at most one place is picked
+abbrev pub PickedOnce : Type 0
+PickedOnce = (gs : List Grant) (m : ℕ) (x : Path) (i j : ℕ) (g h : Grant) → Picked gs m x i g → Picked gs m x j h → i ≡ j
+
 -- where the answer is 0 a descriptor is held under the id, and the numbers are the place of its grant that is picked, that grant's
 -- mask, and the smaller of not_after and now + the host's session length
 abbrev pub GrantedGives : Type 0
@@ -220,9 +224,9 @@ GrantedGives = (s : List ℕ) (q : Request) → AreBytes s → numbersOf (decisi
     × (numbersOf (decisionOf s q) .mask ≡ unionOf (g ∷ [])))
     × (numbersOf (decisionOf s q) .«session_end» ≡ min (d .payload .notAfter) (q .clock + q .session))
 
--- ---- document 01's rule, which document 02 amends: the first grant that serves
+-- ---- document 01's rule, which document 02 amends
 
--- its place, counted from i, or none
+-- the place of the first grant that serves, counted from i, or none
 abbrev pub firstServing : List Grant → ℕ → Path → ℕ → Option ℕ
 firstServing [] m x i = none
 firstServing (g ∷ gs) m x i = cond (grantServes g m x) (some i) (firstServing gs m x (i + 1))

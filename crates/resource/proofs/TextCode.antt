@@ -4,7 +4,6 @@ use mathlib.Core.Path.{_≡_, refl, sym, ap, _∙_}
 use mathlib.Core.Bool.{Bool, true, false, cond, _&&_, and-false, and-true}
 use mathlib.Core.List.{List, [], _∷_, _++_}
 use Prim.Native.Nat.{ℕ, _+_, _-_, _≤_}
-use native.Mathlib.Nat.{zero-add}
 use native.Mathlib.Omega.{arith}
 use lib.ListN.{length, getD, drop, take, length-take, List·getD-append}
 use lib.Seq.{length-take-le, split-at, take-all}
@@ -16,14 +15,14 @@ use Rattle.octets.proofs.PartLaws.{part-to-end}
 use Rattle.octets.proofs.SameLaws.{same-equal, start-answer}
 use Rattle.octets.proofs.Tests.{and-left, and-right}
 use Rattle.resource_spec.specs.Identifier.{Slot, isTerminal, uuidForm, terminalForm, levelsPlace, terminalSize}
-use Rattle.resource_spec.specs.declared.Matching.the-variants.{Yes, No, Malformed}
+use Rattle.resource_spec.specs.declared.Matching.the-variants.{No, Malformed}
 use Rattle.resource_spec.specs.Level.{levels, levelsOk}
 use Rattle.resource_spec.specs.Text.{longestText, wellFormed, isResource, isPattern, resourceOk, patternOk, levelsMatch, levelsNamed}
 use Rattle.resource_spec.specs.Text.{yesWith, matching}
 use Rattle.resource_spec.specs.Laws.{Begins}
 use Rattle.resource_spec.proofs.Laws.{well-begins, begins-well, admits-text, names-text, pattern-terminal, pattern-short, resource-short}
 use Rattle.resource_spec.proofs.Laws.{terminal-length, resource-starless}
-use Rattle.resource.specs.Code.{formAt, belowOk, sameTerminal, patternUnder, answerFrom}
+use Rattle.resource.specs.Code.{formAt, belowOk, sameTerminal, patternUnder, answerOf}
 use Rattle.resource.specs.Laws.{PatternUnder}
 use Rattle.resource.proofs.FormCode.{terminal-form}
 
@@ -145,8 +144,8 @@ under-pattern t s e = go (same (take terminalSize s) t) refl
 -- ---- matching two texts
 
 -- yes with the number of names, where terminal ids and levels match
-counted-below : (t u : Bool) (n : ℕ) → yesWith (t && u) (cond (t && u) n 0) ≡ cond t (yesWith u (0 + n)) No
-counted-below true true n = ap Yes (sym (zero-add n))
+counted-below : (t u : Bool) (n : ℕ) → yesWith (t && u) (cond (t && u) n 0) ≡ cond t (yesWith u n) No
+counted-below true true n = refl
 counted-below true false n = refl
 counted-below false u n = refl
 
@@ -174,7 +173,7 @@ module _ (p r : List ℕ) (e : patternOk p ≡ true) where
 
   -- of two well-formed texts the terminal ids are compared, and then the levels below
   match-well : resourceOk r ≡ true → matching p r
-      ≡ cond (same (take terminalSize p) (take terminalSize r)) (answerFrom 0 (drop levelsPlace p) (drop levelsPlace r)) No
+      ≡ cond (same (take terminalSize p) (take terminalSize r)) (answerOf (drop levelsPlace p) (drop levelsPlace r)) No
   unfolding matching
   match-well f =
       let same-ids : Bool = same (take terminalSize p) (take terminalSize r) in
@@ -194,7 +193,7 @@ module _ (p r : List ℕ) (e : patternOk p ≡ true) where
 
   -- where they are equal the levels below decide, as the code hands them on
   pub match-below : resourceOk r ≡ true → same (take terminalSize p) (take terminalSize r) ≡ true
-      → answerFrom 0 (take (length p - levelsPlace) (drop levelsPlace p)) (take (length r - levelsPlace) (drop levelsPlace r))
+      → answerOf (take (length p - levelsPlace) (drop levelsPlace p)) (take (length r - levelsPlace) (drop levelsPlace r))
       ≡ matching p r
   match-below f d = rw (part-to-end p levelsPlace, part-to-end r levelsPlace) (sym (match-well f ∙ rw d))
 

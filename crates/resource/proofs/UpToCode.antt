@@ -1,7 +1,7 @@
 -- Laws of the levels between two places of a text, as `levels_at` hands them on, and of a text copied to the beginning of an array.
 -- Assumes nothing.
-use mathlib.Core.Path.{_≡_, sym, ap, ap₂, _∙_}
-use mathlib.Core.Bool.{Bool, true, false}
+use mathlib.Core.Path.{_≡_, refl, sym, ap, ap₂, _∙_}
+use mathlib.Core.Bool.{Bool, true, false, cond}
 use mathlib.Core.List.{List}
 use Prim.Native.Nat.{ℕ, _+_, _-_, _≤_, _<_}
 use native.Mathlib.Omega.{arith}
@@ -14,10 +14,9 @@ use Rattle.octets.proofs.PartLaws.{drop-take}
 use Rattle.octets.proofs.ScanLaws.{without-drop}
 use Rattle.octets.proofs.OverLaws.{put-fits, over-has}
 use Rattle.resource_spec.specs.Level.{levels}
-use Rattle.resource_spec.specs.declared.Matching.{Matching}
 use Rattle.resource_spec.specs.declared.Matching.the-variants.{Yes, No}
 use Rattle.resource_spec.specs.Text.{levelsMatch, levelsNamed, yesWith}
-use Rattle.resource.specs.Code.{upTo, answerFrom}
+use Rattle.resource.specs.Code.{upTo, namesFrom, answerOf}
 use Rattle.resource.specs.Laws.{Goes, MatchesWith}
 
 -- ---- between two places
@@ -42,14 +41,14 @@ module _ (p r : List ℕ) (i n j m a b : ℕ) (h : n ≤ length p) (k : m ≤ le
   pub before-r : j + b < m
   before-r = omega (arith, g .in-r, length-up-to r j m k)
 
-  -- the remaining levels are answered as all are, where the first is counted
-  pub later-answers : (k : ℕ) → answerFrom (k + c) (upTo p (i + a + 1) n) (upTo r (j + b + 1) m) ≡ answerFrom k (upTo p i n) (upTo r j m)
-  later-answers k =
+  -- the remaining levels tell as all do, where the first is counted
+  pub later-names : (k : ℕ) → namesFrom (k + c) (upTo p (i + a + 1) n) (upTo r (j + b + 1) m) ≡ namesFrom k (upTo p i n) (upTo r j m)
+  later-names k =
       let p' : List ℕ = upTo p (i + a + 1) n in
       let r' : List ℕ = upTo r (j + b + 1) m in
       let sum : (k + c) + levelsNamed p' r' ≡ k + (c + levelsNamed p' r') = omega arith in
-      sym (ap₂ (λ (t : Bool) (x : ℕ). yesWith t (k + x)) (g .decides) (g .counts)
-      ∙ rw (drop-later p i n a, drop-later r j m b) (ap (yesWith (levelsMatch p' r')) (sym sum)))
+      sym (ap₂ (λ (t : Bool) (x : ℕ). cond t (k + x) 0) (g .decides) (g .counts)
+      ∙ rw (drop-later p i n a, drop-later r j m b) (ap (λ (x : ℕ). cond (levelsMatch p' r') x 0) (sym sum)))
 
   -- they have no "*"
   pub later-starless : without 42 (upTo r j m) ≡ true → without 42 (upTo r (j + b + 1) m) ≡ true
@@ -74,18 +73,35 @@ pub copy-starless : (d s : List ℕ) {a : List ℕ} → length s ≤ length d �
     → without 42 (upTo a 0 (length s)) ≡ true
 copy-starless d s h e f = ap (without 42) (copy-stands d s h e) ∙ f
 
--- the levels of two copies are answered as those of the texts
-pub copies-match : (d c p r : List ℕ) {a b : List ℕ} {o : Matching} → length p ≤ length d → length r ≤ length c → a ≡ putAt d 0 p
-    → b ≡ putAt c 0 r → o ≡ answerFrom 0 (upTo a 0 (length p)) (upTo b 0 (length r)) → o ≡ answerFrom 0 p r
-copies-match d c p r {a} {b} h k e f g =
-    g ∙ ap (λ (s : List ℕ). answerFrom 0 s (upTo b 0 (length r))) (copy-stands d p h e) ∙ ap (answerFrom 0 p) (copy-stands c r k f)
+-- the levels of two copies tell what those of the texts do
+pub copies-names : (k : ℕ) (d c p r : List ℕ) {a b : List ℕ} {o : ℕ} → length p ≤ length d → length r ≤ length c → a ≡ putAt d 0 p
+    → b ≡ putAt c 0 r → o ≡ namesFrom k (upTo a 0 (length p)) (upTo b 0 (length r)) → o ≡ namesFrom k p r
+copies-names k d c p r {a} {b} h l e f g =
+    g ∙ ap (λ (s : List ℕ). namesFrom k s (upTo b 0 (length r))) (copy-stands d p h e) ∙ ap (namesFrom k p) (copy-stands c r l f)
 
--- ---- what is answered of the levels
+-- ---- what is told of the levels
 
 -- levels that do not match
-pub answer-no : (k : ℕ) (p r : List ℕ) → levelsMatch p r ≡ false → answerFrom k p r ≡ No
-answer-no k p r e = rw e
+pub names-none : (k : ℕ) (p r : List ℕ) → levelsMatch p r ≡ false → namesFrom k p r ≡ 0
+names-none k p r e = rw e
 
 -- levels that match, by so many names
-pub answer-yes : (k n : ℕ) (p r : List ℕ) → MatchesWith p r n → answerFrom k p r ≡ Yes (k + n)
-answer-yes k n p r m = rw (m .match, m .named)
+pub names-some : (k n : ℕ) (p r : List ℕ) → MatchesWith p r n → namesFrom k p r ≡ k + n
+names-some k n p r m = rw (m .match, m .named)
+
+module _ (p r : List ℕ) {o : ℕ} (e : o ≡ namesFrom 1 p r) where
+  -- counted from 1, 0 is told where they do not match
+  pub answer-no : o ≡ 0 → No ≡ answerOf p r
+  answer-no z = go (levelsMatch p r) (sym e ∙ z)
+    where
+      go : (t : Bool) → cond t (1 + levelsNamed p r) 0 ≡ 0 → No ≡ yesWith t (levelsNamed p r)
+      go true f = absurd (omega (arith, f))
+      go false f = refl
+
+  -- and one more than the names where they do
+  pub answer-yes : (o ≡ 0 → ⊥) → Yes (o - 1) ≡ answerOf p r
+  answer-yes z = go (levelsMatch p r) e
+    where
+      go : (t : Bool) → o ≡ cond t (1 + levelsNamed p r) 0 → Yes (o - 1) ≡ yesWith t (levelsNamed p r)
+      go true f = let less : o - 1 ≡ levelsNamed p r = omega (arith, f) in ap Yes less
+      go false f = absurd (z f)

@@ -9,14 +9,14 @@ use resource_spec::sizes::LEVELS_PLACE;
 use resource_spec::sizes::TERMINAL_SIZE;
 ghost use mathlib.Core.Path.{_≡_};
 ghost use mathlib.Core.Bool.{true, cond};
-ghost use Prim.Native.Nat.{_≤_};
+ghost use Prim.Native.Nat.{_+_, _≤_};
 ghost use lib.ListN.{length};
 ghost use Rattle.octets.specs.Scan.{without};
 ghost use Rattle.resource_spec.specs.declared.Matching.the-variants.{No, Malformed};
 ghost use Rattle.resource_spec.specs.Level.{isDeep};
 ghost use Rattle.resource_spec.specs.Text.{longestText, resourceOk, matching};
 ghost use Rattle.resource.specs.declared.LevelStep.the-variants.{Differ, Finish};
-ghost use Rattle.resource.specs.Code.{levelLength, nameStep, starFirst, starStep, stepOf, matchStep, upTo, answerFrom};
+ghost use Rattle.resource.specs.Code.{levelLength, nameStep, starFirst, starStep, stepOf, matchStep, upTo, namesFrom, answerOf};
 ghost use Rattle.resource.specs.Laws.{Stepped};
 
 // A name of p against a name of r.
@@ -142,9 +142,9 @@ fn step_at(p: &[u8], i: usize, n: usize, r: &[u8], j: usize, m: usize) -> LevelS
     step_or_deep(&p[i..n], &r[j..m])
 }
 
-// Whether the levels of p from i on match the levels of r from j on: the first of each, and then the remaining ones; and how many levels
-// are matched by equal names, where k were before. All that the call hands on are two addresses and five numbers, so that the compiler
-// makes a loop of it.
+// How many levels are matched by equal names, with the k counted before, where the levels of p from i on match the levels of r from j on:
+// the first of each, and then the remaining ones; 0 where they do not match. All that the call hands on are two addresses and five numbers,
+// and it answers a number, so that the compiler makes a loop of it.
 fn levels_at(
     p: &[u8; LONGEST],
     i: usize,
@@ -153,13 +153,13 @@ fn levels_at(
     j: usize,
     m: usize,
     k: u64,
-) -> Matching
-    requires { ⌜ (i ≤ n) × (n ≤ longestText) × (j ≤ m) × (m ≤ longestText) × (without 42 (upTo (now r) j m) ≡ true) × (k ≤ i) ⌝ }
-    ensures { λ o. ⌜ o ≡ answerFrom k (upTo (now (p .entry)) i n) (upTo (now (r .entry)) j m) ⌝ }
+) -> u64
+    requires { ⌜ (i ≤ n) × (n ≤ longestText) × (j ≤ m) × (m ≤ longestText) × (without 42 (upTo (now r) j m) ≡ true) × (k ≤ i + 1) ⌝ }
+    ensures { λ o. ⌜ o ≡ namesFrom k (upTo (now (p .entry)) i n) (upTo (now (r .entry)) j m) ⌝ }
 {
     match step_at(p, i, n, r, j, m) {
-        LevelStep::Differ => Matching::No,
-        LevelStep::Finish { names } => Matching::Yes { names: k + names },
+        LevelStep::Differ => 0,
+        LevelStep::Finish { names } => k + names,
         LevelStep::Next { p: a, r: b, names } => levels_at(
             p,
             i + a + 1,
@@ -173,16 +173,21 @@ fn levels_at(
 }
 
 // Whether the levels p of a pattern match the levels r of a path, and how many are matched by equal names. Both are copied, since a slice is
-// handed on by the address of its pointer and length, and no call that hands one on becomes a loop.
+// handed on by the address of its pointer and length, and no call that hands one on becomes a loop. It is counted from 1, so that 0 is told
+// from no names.
 fn levels(p: &[u8], r: &[u8]) -> Matching
     requires { ⌜ (length (now p) ≤ longestText) × (length (now r) ≤ longestText) × (without 42 (now r) ≡ true) ⌝ }
-    ensures { λ o. ⌜ o ≡ answerFrom 0 (now (p .entry)) (now (r .entry)) ⌝ }
+    ensures { λ o. ⌜ o ≡ answerOf (now (p .entry)) (now (r .entry)) ⌝ }
 {
     let mut a = [0u8; LONGEST];
     let mut b = [0u8; LONGEST];
     octets::put(&mut a, 0, p);
     octets::put(&mut b, 0, r);
-    levels_at(&a, 0, p.len(), &b, 0, r.len(), 0)
+    let found = levels_at(&a, 0, p.len(), &b, 0, r.len(), 1);
+    if found == 0 {
+        return Matching::No;
+    }
+    Matching::Yes { names: found - 1 }
 }
 
 // What matching a pattern with a text of another terminal id answers.

@@ -25,7 +25,7 @@ at2 c = c .before .before .before .before .before .before .before
 abbrev at1 : tie.Else1 → tie.Start
 at1 c = at2 c .before
 
--- what is requestOf
+-- what is asked
 abbrev asked : tie.Start → Request
 asked s =
     let a = s .args in

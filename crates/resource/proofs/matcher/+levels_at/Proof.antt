@@ -10,7 +10,7 @@ use Rattle.resource_spec.specs.Level.{levels as levelsIn}
 use Rattle.resource.specs.Code.{upTo}
 use Rattle.resource.specs.Laws.{Goes, Stepped}
 use Rattle.resource.specs.declared.LevelStep.the-variants.{Finish}
-use Rattle.resource.proofs.UpToCode.{before-p, before-r, later-answers, later-starless, later-fewer, answer-no, answer-yes}
+use Rattle.resource.proofs.UpToCode.{before-p, before-r, later-names, later-starless, later-fewer, names-none, names-some}
 use Rattle.resource.proofs.matcher.levels_at.Reads as levels-at
 use Rattle.resource.proofs.matcher.levels_at.Kinds as levels-at-kinds
 use Rattle.resource.proofs.matcher.+levels_at.Lts-levels_at as levels-at-lts
@@ -67,7 +67,7 @@ finishes t a = subst (Stepped _ _) (a .names .given .1) (a .before .before .step
 levels-at-step-at-requires : (t : ℕ) → levels-at-lts.Need-step-at-requires (given t) (levels-at-at t) levels-at.Post
 levels-at-step-at-requires t c κs = let p = c .before .before .pre .1 in (p .0, long-p t c, p .2, long-r t c, p .4)
 
-levels-at-add-names : (t : ℕ) → levels-at-lts.Need-add-t18 (given t) (levels-at-at t) levels-at.Post
+levels-at-add-names : (t : ℕ) → levels-at-lts.Need-add-result (given t) (levels-at-at t) levels-at.Post
 levels-at-add-names t c =
     let p = c .before .before .before .before .before .before .pre .1 in omega (arith, finishes t (c .before) .1, p .0, p .1, p .5)
 
@@ -101,16 +101,16 @@ levels-at-levels-at-requires t c κs =
     )
 
 levels-at-returns : (t : ℕ) → levels-at-lts.Need-returns (given t) (levels-at-at t) levels-at.Post
-levels-at-returns t c = sym (answer-no _ _ _ (subst (Stepped _ _) (c .enum-told .given .1) (c .before .before .step-at .ensures)))
+levels-at-returns t c = sym (names-none _ _ _ (subst (Stepped _ _) (c .enum-told .given .1) (c .before .before .step-at .ensures)))
 
 levels-at-returns-2 : (t : ℕ) → levels-at-lts.Need-returns-2 (given t) (levels-at-at t) levels-at.Post
-levels-at-returns-2 t c = sym (answer-yes _ _ _ _ (finishes t (c .before) .0))
+levels-at-returns-2 t c = sym (names-some _ _ _ _ (finishes t (c .before) .0))
 
 levels-at-returns-3 : (t : ℕ) → levels-at-lts.Need-returns-3 (given t) (levels-at-at t) levels-at.Post
 levels-at-returns-3 t c =
     let a = c .before .before in
     let s = a .before .before .before in
-    c .levels-at .ensures ∙ later-answers _ _ _ _ _ _ _ _ (long-p t s) (long-r t s) _ (goes t a) _
+    c .levels-at .ensures ∙ later-names _ _ _ _ _ _ _ _ (long-p t s) (long-r t s) _ (goes t a) _
 
 pub +levels-at-spec : {M : Type 1} → statement M
 +levels-at-spec = close μ-levels-at λ t. levels-at-lts.spec (given t) (levels-at-at t) levels-at.Post

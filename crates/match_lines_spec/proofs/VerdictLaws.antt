@@ -82,7 +82,8 @@ asks-verdict line p x a =
     le-leb (length (l ++ (32 ∷ r))) 600 (omega (arith, size, a .pattern-fits, a .path-fits)) in
     let some : leb (length (l ++ (32 ∷ r))) (length l) ≡ false = lt-leb (length (l ++ (32 ∷ r))) (length l) (omega (arith, size)) in
     let m : matching l r ≡ yesWith (admits p x) (namesMatched p x) =
-    cond-matching (matching l r) (admits p x) (namesMatched p x) (matching-exact p x (a .pattern) (a .path) (a .pattern-fits) (a .path-fits)) in
+    cond-matching (matching l r) (admits p x) (namesMatched p x)
+    (matching-exact p x (a .pattern) (a .path) (a .pattern-fits) (a .path-fits)) in
     rw (a .spelled, fits, n, some, take-at l (32 ∷ r) (length l) refl, after-space l r, m) (go (admits p x) (namesMatched p x))
   where
     go : (b : Bool) (n : ℕ) → verdictOf (yesWith b n) ≡ verdictFor b

@@ -82,14 +82,14 @@ module _ (q : Request) (b : List ℕ) (f : Fields) where
       inOrder (keySteps (q .verdict) (q .window) (q .clock)) (answers.Granted grant mask (min (f .«not_after») (q .clock + q .session)))
 
   -- the steps 9 to 13 and what follows them, by the grant that is picked
-  descriptor-steps : (m : Matched) (k : ℕ → ℕ → Decision) (r : Decision) → ((grant mask names : ℕ) → m ≡ IsAt grant mask names → r ≡ k grant mask)
+  descriptor-steps : (m : Matched) (k : ℕ → ℕ → Decision) (r : Decision)
+      → ((grant mask names : ℕ) → m ≡ IsAt grant mask names → r ≡ k grant mask)
       → afterStage k (inOrder (mapped Refused (descriptorSteps (factsOf b f) (q .fay) (q .terminal) (q .clock) m)) (appliesWith m))
       ≡ inOrder (descriptorSteps (factsOf b f) (q .fay) (q .terminal) (q .clock) m) r
   unfolding descriptorSteps
   descriptor-steps (IsAt grant mask names) k r h =
-      order-staged Refused (afterStage k) (λ x. refl) (descriptorSteps (factsOf b f) (q .fay) (q .terminal) (q .clock) (IsAt grant mask names))
-      (Applies grant mask)
-      ∙ ap (inOrder (descriptorSteps (factsOf b f) (q .fay) (q .terminal) (q .clock) (IsAt grant mask names))) (sym (h grant mask names refl))
+      let steps = descriptorSteps (factsOf b f) (q .fay) (q .terminal) (q .clock) (IsAt grant mask names) in
+      order-staged Refused (afterStage k) (λ x. refl) steps (Applies grant mask) ∙ ap (inOrder steps) (sym (h grant mask names refl))
   descriptor-steps Nothing k r h =
       order-staged Refused (afterStage k) (λ x. refl) (descriptorSteps (factsOf b f) (q .fay) (q .terminal) (q .clock) Nothing)
       (Refused answers.Insufficient)

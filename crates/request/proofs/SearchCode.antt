@@ -32,10 +32,13 @@ eligible-mode mask pairs mode n h e = rw (e, eq-eqb pairs 0 h) (sym (and-true (e
 
 -- ---- whether it serves
 
+-- the levels of a pattern that stands at a place, as the code lends them
+abbrev pub lentLevels : List ℕ → ℕ → ℕ → List ℕ
+lentLevels s start len = take ((start + len) - (start + levelsPlace)) (drop (start + levelsPlace) s)
+
 -- a grant serves when it is eligible and its levels, as the code lends them, match
 serves-both : (s r : List ℕ) (mode : ℕ) (g : GrantSeen) (b t : Bool) → b ≡ eligible (g .mask) (g .pairs) mode
-    → levelsMatch (take ((g .pattern .start + g .pattern .len) - (g .pattern .start + levelsPlace))
-    (drop (g .pattern .start + levelsPlace) s)) r ≡ t
+    → levelsMatch (lentLevels s (g .pattern .start) (g .pattern .len)) r ≡ t
     → serves s r mode g ≡ (b && t)
 unfolding serves eligible
 serves-both s r mode g b t e m =
@@ -46,9 +49,7 @@ serves-both s r mode g b t e m =
 
 -- how many levels it matches by equal names, as the code lends them
 lent-names : (s r : List ℕ) (g : GrantSeen)
-    → namesOf s r g
-    ≡ levelsNamed (take ((g .pattern .start + g .pattern .len) - (g .pattern .start + levelsPlace)) (drop (g .pattern .start + levelsPlace) s))
-    r
+    → namesOf s r g ≡ levelsNamed (lentLevels s (g .pattern .start) (g .pattern .len)) r
 unfolding namesOf
 lent-names s r g = ap (λ (p : List ℕ). levelsNamed p r) (sym (lent-later s (g .pattern .start) (g .pattern .len) levelsPlace))
 
@@ -111,12 +112,11 @@ module _ (s r : List ℕ) (mode count at i : ℕ) (best : Matched) where
 
       -- of one that is, its levels tell
       pub pick-found : b ≡ true → {found picked : Matched}
-          → found
-          ≡ foundOf (take ((g .pattern .start + g .pattern .len) - (g .pattern .start + levelsPlace)) (drop (g .pattern .start + levelsPlace) s)) r i (g .mask)
+          → found ≡ foundOf (lentLevels s (g .pattern .start) (g .pattern .len)) r i (g .mask)
           → picked ≡ pickedOf best found
           → pickFrom s r mode (count - i) at i best ≡ pickFrom s r mode (count - (i + 1)) next (i + 1) picked
       pick-found k {found} {picked} m n =
-          let p : List ℕ = take ((g .pattern .start + g .pattern .len) - (g .pattern .start + levelsPlace)) (drop (g .pattern .start + levelsPlace) s) in
+          let p : List ℕ = lentLevels s (g .pattern .start) (g .pattern .len) in
           pick-read (levelsMatch p r) (serves-both s r mode g b (levelsMatch p r) f refl ∙ rw k)
           ∙ ap (pickFrom s r mode (count - (i + 1)) next (i + 1))
           (ap (pickedWith (levelsMatch p r) best i (g .mask)) (lent-names s r g)

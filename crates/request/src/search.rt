@@ -30,7 +30,8 @@ fn is_eligible(mask: u64, pairs: u64, mode: u64) -> bool
     }
 }
 
-// Of the grant that was picked before and one that is found after it, the one that matches more levels by equal names; the earlier on a tie.
+// Of the grant that was picked before and one that is found after it, the one that matches more levels by equal names; the earlier on a
+// tie.
 fn more_exact(best: Matched, found: Matched) -> Matched
     ensures { λ r. ⌜ r ≡ pickedOf best found ⌝ }
 {

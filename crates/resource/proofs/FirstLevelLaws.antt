@@ -288,7 +288,8 @@ front-firsts l k t h g e f m = record { first-p = l; first-r = k; of-p = front-l
 
 -- the first levels of two texts that go on after "/"
 abbrev slash-firsts : (l k t u : List ℕ) → without 47 l ≡ true → without 47 k ≡ true → (isStar l || same l k) ≡ true
-    → Firsts (l ++ (47 ∷ t)) (k ++ (47 ∷ u)) (levels (drop (length l + 1) (l ++ (47 ∷ t)))) (levels (drop (length k + 1) (k ++ (47 ∷ u)))) true
+    → Firsts (l ++ (47 ∷ t)) (k ++ (47 ∷ u)) (levels (drop (length l + 1) (l ++ (47 ∷ t))))
+    (levels (drop (length k + 1) (k ++ (47 ∷ u)))) true
 slash-firsts l k t u h g m =
     record {
       first-p = l;

@@ -1,5 +1,5 @@
--- Laws of comparing two first levels byte by byte, before it is looked whether the one of the pattern is a wildcard (specs/Code.antt). Where
--- the path has no "*", a level that is equal is no wildcard. Assumes nothing.
+-- Laws of comparing two first levels byte by byte, before it is looked whether the one of the pattern is a wildcard (specs/Code.antt).
+-- Where the path has no "*", a level that is equal is no wildcard. Assumes nothing.
 use mathlib.Core.Path.{_≡_, refl, sym, ap, _∙_}
 use mathlib.Core.Bool.{Bool, true, false, cond}
 use mathlib.Core.List.{List, [], _∷_}
@@ -11,7 +11,7 @@ use Rattle.octets.proofs.SameLaws.{same-equal}
 use Rattle.octets.proofs.Tests.{no-flag}
 use Rattle.resource.specs.declared.LevelStep.{LevelStep}
 use Rattle.resource.specs.declared.LevelStep.the-variants.{Differ, Finish, Next}
-use Rattle.resource_spec.specs.Level.{isStar, isDeep, levels}
+use Rattle.resource_spec.specs.Level.{isDeep, levels}
 use Rattle.resource_spec.proofs.Laws.{first-without}
 use Rattle.resource.specs.Code.{levelLength, nameStep, starFirst, starStep, orStep, stepOf, matchStep}
 use Rattle.resource.specs.Laws.{Firsts, FirstLevels, Stepped, StepDecides}

@@ -178,7 +178,8 @@ module _ (p r : List ℕ) (e : patternOk p ≡ true) where
   match-well f =
       let same-ids : Bool = same (take terminalSize p) (take terminalSize r) in
       let below : Bool = levelsMatch (drop levelsPlace p) (drop levelsPlace r) in
-      rw (e, f, admits-text p r e f, names-text p r e f) (counted-below same-ids below (levelsNamed (drop levelsPlace p) (drop levelsPlace r)))
+      rw (e, f, admits-text p r e f, names-text p r e f)
+      (counted-below same-ids below (levelsNamed (drop levelsPlace p) (drop levelsPlace r)))
 
   -- where the terminal ids differ the answer is no, or the text is malformed
   pub match-terminals : sameTerminal p r ≡ false → matching p r ≡ cond (resourceOk r) No Malformed

@@ -32,31 +32,34 @@ drop-later s i n a =
 length-up-to : (s : List ℕ) (i n : ℕ) → n ≤ length s → length (upTo s i n) ≡ n - i
 length-up-to s i n h = length-take-le (n - i) (drop i s) (omega (arith, length-drop i s))
 
-module _ (p r : List ℕ) (i n j m a b : ℕ) (h : n ≤ length p) (k : m ≤ length r) (c : ℕ) (g : Goes (upTo p i n) (upTo r j m) a b c) where
-  -- the "/" of p stands before its end
-  pub before-p : i + a < n
-  before-p = omega (arith, g .in-p, length-up-to p i n h)
+-- what is left after the first levels, of which the one of p has a bytes, the one of r has b, and c names are counted: both begin before
+-- their ends, tell what all do, have no "*", and there are fewer
+pub record Remaining (p r : List ℕ) (i n j m a b c : ℕ) : Type 0 where
+  pub in-p : i + a < n
+  pub in-r : j + b < m
+  pub names : (k : ℕ) → namesFrom (k + c) (upTo p (i + a + 1) n) (upTo r (j + b + 1) m) ≡ namesFrom k (upTo p i n) (upTo r j m)
+  pub starless : without 42 (upTo r j m) ≡ true → without 42 (upTo r (j + b + 1) m) ≡ true
+  pub fewer : length (levels (upTo p (i + a + 1) n)) < length (levels (upTo p i n))
 
-  -- so does the one of r
-  pub before-r : j + b < m
-  before-r = omega (arith, g .in-r, length-up-to r j m k)
-
-  -- the remaining levels tell as all do, where the first is counted
-  pub later-names : (k : ℕ) → namesFrom (k + c) (upTo p (i + a + 1) n) (upTo r (j + b + 1) m) ≡ namesFrom k (upTo p i n) (upTo r j m)
-  later-names k =
-      let p' : List ℕ = upTo p (i + a + 1) n in
-      let r' : List ℕ = upTo r (j + b + 1) m in
-      let sum : (k + c) + levelsNamed p' r' ≡ k + (c + levelsNamed p' r') = omega arith in
-      sym (ap₂ (λ (t : Bool) (x : ℕ). cond t (k + x) 0) (g .decides) (g .counts)
-      ∙ rw (drop-later p i n a, drop-later r j m b) (ap (λ (x : ℕ). cond (levelsMatch p' r') x 0) (sym sum)))
-
-  -- they have no "*"
-  pub later-starless : without 42 (upTo r j m) ≡ true → without 42 (upTo r (j + b + 1) m) ≡ true
-  later-starless h = rw (← drop-later r j m b) (without-drop 42 (b + 1) (upTo r j m) h)
-
-  -- and there are fewer of them
-  pub later-fewer : length (levels (upTo p (i + a + 1) n)) < length (levels (upTo p i n))
-  later-fewer = rw (← drop-later p i n a) (g .fewer)
+-- it is so where the step of the first levels goes on
+pub remaining : (p r : List ℕ) (i n j m a b c : ℕ) → n ≤ length p → m ≤ length r → Goes (upTo p i n) (upTo r j m) a b c
+    → Remaining p r i n j m a b c
+remaining p r i n j m a b c h l g =
+    record {
+      in-p = omega (arith, g .in-p, length-up-to p i n h);
+      in-r = omega (arith, g .in-r, length-up-to r j m l);
+      names = tell;
+      starless = λ e. rw (← drop-later r j m b) (without-drop 42 (b + 1) (upTo r j m) e);
+      fewer = rw (← drop-later p i n a) (g .fewer);
+    }
+  where
+    tell : (k : ℕ) → namesFrom (k + c) (upTo p (i + a + 1) n) (upTo r (j + b + 1) m) ≡ namesFrom k (upTo p i n) (upTo r j m)
+    tell k =
+        let x : List ℕ = upTo p (i + a + 1) n in
+        let y : List ℕ = upTo r (j + b + 1) m in
+        let sum : (k + c) + levelsNamed x y ≡ k + (c + levelsNamed x y) = omega arith in
+        sym (ap₂ (λ (t : Bool) (z : ℕ). cond t (k + z) 0) (g .decides) (g .counts)
+        ∙ rw (drop-later p i n a, drop-later r j m b) (ap (λ (z : ℕ). cond (levelsMatch x y) z 0) (sym sum)))
 
 -- ---- a copy
 

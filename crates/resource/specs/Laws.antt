@@ -11,7 +11,7 @@ use Rattle.octets.specs.Scan.{without}
 use Rattle.resource.specs.declared.LevelStep.{LevelStep}
 use Rattle.resource.specs.declared.LevelStep.the-variants.{Differ, Finish, Next}
 use Rattle.resource_spec.specs.Identifier.{isTerminal, terminalSize}
-use Rattle.resource_spec.specs.Level.{isStar, isDeep, levels}
+use Rattle.resource_spec.specs.Level.{isStar, levels}
 use Rattle.resource_spec.specs.Text.{patternOk, levelsMatch, levelsNamed}
 use Rattle.resource.specs.Code.{patternUnder, starFirst, stepOf, matchStep}
 

@@ -172,9 +172,9 @@ fn levels_at(
     }
 }
 
-// Whether the levels p of a pattern match the levels r of a path, and how many are matched by equal names. Both are copied, since a slice is
-// handed on by the address of its pointer and length, and no call that hands one on becomes a loop. It is counted from 1, so that 0 is told
-// from no names.
+// Whether the levels p of a pattern match the levels r of a path, and how many are matched by equal names. Both are copied, since a slice
+// is handed on by the address of its pointer and length, and no call that hands one on becomes a loop. It is counted from 1, so that 0 says
+// that they do not match.
 fn levels(p: &[u8], r: &[u8]) -> Matching
     requires { ⌜ (length (now p) ≤ longestText) × (length (now r) ≤ longestText) × (without 42 (now r) ≡ true) ⌝ }
     ensures { λ o. ⌜ o ≡ answerOf (now (p .entry)) (now (r .entry)) ⌝ }
@@ -200,7 +200,8 @@ fn other_terminal(r: &[u8]) -> Matching
     Matching::Malformed
 }
 
-// Whether the pattern p matches the resource id r, and how many levels are matched by equal names. Where r begins with the terminal id of p, that id is not looked at a second time.
+// Whether the pattern p matches the resource id r, and how many levels are matched by equal names. Where r begins with the terminal id of
+// p, that id is not looked at a second time.
 pub(crate) fn texts(p: &[u8], r: &[u8]) -> Matching
     ensures { λ o. ⌜ o ≡ matching (now (p .entry)) (now (r .entry)) ⌝ }
 {

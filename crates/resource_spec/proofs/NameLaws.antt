@@ -37,7 +37,8 @@ equal-texts deep (x ∷ xs) h k = rw (wild-other (42 ∷ 42 ∷ []) x refl (k .0
 equal-texts (name n p) [] h k = refl
 equal-texts (name n p) (x ∷ xs) h k = ap (λ (c : ℕ). cond (same n x) 1 0 + c) (equal-texts p xs (h .1) (k .1))
 equal-texts (star p) [] h k = refl
-equal-texts (star p) (x ∷ xs) h k = rw (wild-other (42 ∷ []) x refl (k .0)) (equal-texts p xs h (k .1) ∙ sym (zero-add (sameTexts (spelled p) xs)))
+equal-texts (star p) (x ∷ xs) h k =
+    rw (wild-other (42 ∷ []) x refl (k .0)) (equal-texts p xs h (k .1) ∙ sym (zero-add (sameTexts (spelled p) xs)))
 
 -- `NamesCounted`
 pub names-are-counted : NamesCounted

@@ -73,7 +73,8 @@ module _ (c : ℕ) (n : isNameChar c ≡ false) where
     spelled-without (star p) h = (rw other, spelled-without p h)
 
 -- joined levels without c have none
-pub joined-without : (c : ℕ) (l : List ℕ) (ls : List (List ℕ)) → eqb 47 c ≡ false → AllWithout c (l ∷ ls) → without c (joined (l ∷ ls)) ≡ true
+pub joined-without : (c : ℕ) (l : List ℕ) (ls : List (List ℕ)) → eqb 47 c ≡ false → AllWithout c (l ∷ ls)
+    → without c (joined (l ∷ ls)) ≡ true
 joined-without c l [] s f = f .0
 joined-without c l (k ∷ ls) s f =
     without-append c l (47 ∷ joined (k ∷ ls)) (f .0) (without-more c 47 (joined (k ∷ ls)) (ap not s) (joined-without c k ls s (f .1)))

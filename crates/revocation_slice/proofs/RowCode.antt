@@ -21,7 +21,8 @@ module _ (row : Revocation) (id : List ℕ) (clock : ℕ) {a : Bool} (e : a ≡ 
   pub row-same : not a ≡ false → leb (row .moment) clock ≡ revokes row id clock
   row-same h = sym (row-tested row id clock .1 (sym e ∙ not-false a h))
 
-module _ (rows : List Revocation) (id : List ℕ) (clock i : ℕ) (h : i < length rows) {t : Bool} (e : t ≡ revokes (rowIn rows i) id clock) where
+module _ (rows : List Revocation) (id : List ℕ) (clock i : ℕ) (h : i < length rows) {t : Bool}
+    (e : t ≡ revokes (rowIn rows i) id clock) where
   -- where row i revokes the id, the rows from it on do
   pub left-hit : t ≡ true → isRevoked (drop i rows) id clock ≡ true
   left-hit f = rows-in-turn rows id clock i noRow h .0 (sym e ∙ f)

@@ -4,11 +4,10 @@
 use mathlib.Core.Path.{_≡_, refl, sym, ap, subst, _∙_}
 use mathlib.Core.Bool.{true}
 use mathlib.Core.Logic.{⊎-elim}
-use mathlib.Core.List.{List}
-use Prim.Native.Nat.{ℕ, _+_, _-_, _^_, _≤_, _<_}
+use Prim.Native.Nat.{_+_, _-_, _^_, _≤_, _<_}
 use native.Mathlib.Nat.{zero-add}
 use native.Mathlib.Omega.{arith}
-use lib.ListN.{length, take, drop}
+use lib.ListN.{length}
 use borrow.Author.Needs.{needs}
 use Rattle.octets.specs.Scan.{without}
 use Rattle.resource_spec.specs.Identifier.{levelsPlace}
@@ -22,10 +21,10 @@ use Rattle.descriptor.specs.declared.GrantRead.the-variants.{IsGrant}
 use Rattle.descriptor.specs.Code.{grantRead}
 use Rattle.descriptor_spec.specs.Reader.{grantAt}
 use Rattle.descriptor_spec.proofs.Laws.{pattern-room}
-use Rattle.request_spec.specs.declared.Matched.the-variants.{IsAt, Nothing}
+use Rattle.request_spec.specs.declared.Matched.the-variants.{Nothing}
 use Rattle.request_spec.specs.Decision.{pickFrom}
 use Rattle.request.proofs.SearchCode.{pick-begin, pick-done, pick-stop, pick-not, pick-found, foundOf, found-none, found-one}
-use Rattle.request.proofs.SearchCode.{next-counts}
+use Rattle.request.proofs.SearchCode.{lentLevels, next-counts}
 use Rattle.request.proofs.search.pick_grant.Statement.{statement}
 use Rattle.request.proofs.search.pick_grant.Tie as tie
 
@@ -87,19 +86,13 @@ room : (x : tie.After-a Inv-levels μ-levels Inv-grants μ-grants)
     l .levels .k + length (l .levels .p .now) + levelsPlace ≤ length (turn (grantIn l) .before .before .before .args .s .now)
 room x = x .before .before .before .levels .inv .4
 
--- the levels of the grant, as the code lends them
-abbrev levelsIn : tie.At-levels Inv-levels μ-levels Inv-grants μ-grants → List ℕ
-levelsIn l =
-    let k = grantIn l in
-    let f = k .fields .given .0 .0 in
-    take ((f .pattern + f .len) - (f .pattern + levelsPlace)) (drop (f .pattern + levelsPlace) (turn k .before .before .before .args .s .now))
-
 -- what the inner loop yields is the grant, where its levels match
 abbrev Yields : tie.At-match2-came Inv-levels μ-levels Inv-grants μ-grants → Type 0
 Yields m =
-    let l = m .before .before in
-    let k = grantIn l in
-    m .match2 .found ≡ foundOf (levelsIn l) (turn k .before .before .before .args .r .now) (turn k .loop .i) (k .fields .given .0 .0 .mask)
+    let k = grantIn (m .before .before) in
+    let a = turn k .before .before .before .args in
+    let f = k .fields .given .0 .0 in
+    m .match2 .found ≡ foundOf (lentLevels (a .s .now) (f .pattern) (f .len)) (a .r .now) (turn k .loop .i) (f .mask)
 
 -- it is so where the ways out of that loop meet
 yields : (m : tie.At-match2-came Inv-levels μ-levels Inv-grants μ-grants) → Yields m
@@ -185,7 +178,8 @@ add-names : tie.Need-add-t30 Inv-levels μ-levels Inv-grants μ-grants
 add-names c =
     let x = c .before .before .before in
     let l = x .before in
-    omega (arith, stepped x {y = Finish (c .before .names .given .0 .0)} (c .before .names .given .1) .1, l .levels .inv .4, small (turn (grantIn l) .before) .0)
+    let e = stepped x {y = Finish (c .before .names .given .0 .0)} (c .before .names .given .1) in
+    omega (arith, e .1, l .levels .inv .4, small (turn (grantIn l) .before) .0)
 
 add-p-3 : tie.Need-add-p-3 Inv-levels μ-levels Inv-grants μ-grants
 add-p-3 c =

@@ -10,7 +10,7 @@ use Rattle.resource_spec.specs.Level.{levels as levelsIn}
 use Rattle.resource.specs.Code.{upTo}
 use Rattle.resource.specs.Laws.{Goes, Stepped}
 use Rattle.resource.specs.declared.LevelStep.the-variants.{Finish}
-use Rattle.resource.proofs.UpToCode.{before-p, before-r, later-names, later-starless, later-fewer, names-none, names-some}
+use Rattle.resource.proofs.UpToCode.{Remaining, remaining, names-none, names-some}
 use Rattle.resource.proofs.matcher.levels_at.Reads as levels-at
 use Rattle.resource.proofs.matcher.levels_at.Kinds as levels-at-kinds
 use Rattle.resource.proofs.matcher.+levels_at.Lts-levels_at as levels-at-lts
@@ -48,14 +48,11 @@ goes : (t : ℕ) (a : levels-at-lts.After-a (given t) (levels-at-at t) levels-at
     (a .a .given .0 .1 .1 .0)
 goes t a = subst (Stepped _ _) (a .a .given .1) (a .before .before .step-at .ensures)
 
--- the "/" of both stand before their ends
-in-p : (t : ℕ) (a : levels-at-lts.After-a (given t) (levels-at-at t) levels-at.Post)
-    → let s = a .before .before .before .before .before .args in s .i + a .a .given .0 .0 < s .n
-in-p t a = before-p _ _ _ _ _ _ _ _ (long-p t (a .before .before .before)) (long-r t (a .before .before .before)) _ (goes t a)
-
-in-r : (t : ℕ) (a : levels-at-lts.After-a (given t) (levels-at-at t) levels-at.Post)
-    → let s = a .before .before .before .before .before .args in s .j + a .a .given .0 .1 .0 < s .m
-in-r t a = before-r _ _ _ _ _ _ _ _ (long-p t (a .before .before .before)) (long-r t (a .before .before .before)) _ (goes t a)
+-- so what is left after them
+left : (t : ℕ) (a : levels-at-lts.After-a (given t) (levels-at-at t) levels-at.Post)
+    → let s = a .before .before .before .before .before .args in
+    Remaining (s .p .now) (s .r .now) (s .i) (s .n) (s .j) (s .m) (a .a .given .0 .0) (a .a .given .0 .1 .0) (a .a .given .0 .1 .1 .0)
+left t a = let s = a .before .before .before in remaining _ _ _ _ _ _ _ _ _ (long-p t s) (long-r t s) (goes t a)
 
 -- what it says where they are the last
 finishes : (t : ℕ) (a : levels-at-lts.After-names (given t) (levels-at-at t) levels-at.Post)
@@ -72,16 +69,16 @@ levels-at-add-names t c =
     let p = c .before .before .before .before .before .before .pre .1 in omega (arith, finishes t (c .before) .1, p .0, p .1, p .5)
 
 levels-at-add-levels-at : (t : ℕ) → levels-at-lts.Need-add-levels-at (given t) (levels-at-at t) levels-at.Post
-levels-at-add-levels-at t c = omega (arith, in-p t (c .before), c .before .before .before .before .before .before .pre .1 .1)
+levels-at-add-levels-at t c = omega (arith, left t (c .before) .in-p, c .before .before .before .before .before .before .pre .1 .1)
 
 levels-at-add-levels-at-2 : (t : ℕ) → levels-at-lts.Need-add-levels-at-2 (given t) (levels-at-at t) levels-at.Post
-levels-at-add-levels-at-2 t c = omega (arith, in-p t (c .before), c .before .before .before .before .before .before .pre .1 .1)
+levels-at-add-levels-at-2 t c = omega (arith, left t (c .before) .in-p, c .before .before .before .before .before .before .pre .1 .1)
 
 levels-at-add-levels-at-3 : (t : ℕ) → levels-at-lts.Need-add-levels-at-3 (given t) (levels-at-at t) levels-at.Post
-levels-at-add-levels-at-3 t c = omega (arith, in-r t (c .before), c .before .before .before .before .before .before .pre .1 .3)
+levels-at-add-levels-at-3 t c = omega (arith, left t (c .before) .in-r, c .before .before .before .before .before .before .pre .1 .3)
 
 levels-at-add-levels-at-4 : (t : ℕ) → levels-at-lts.Need-add-levels-at-4 (given t) (levels-at-at t) levels-at.Post
-levels-at-add-levels-at-4 t c = omega (arith, in-r t (c .before), c .before .before .before .before .before .before .pre .1 .3)
+levels-at-add-levels-at-4 t c = omega (arith, left t (c .before) .in-r, c .before .before .before .before .before .before .pre .1 .3)
 
 levels-at-add-levels-at-5 : (t : ℕ) → levels-at-lts.Need-add-levels-at-5 (given t) (levels-at-at t) levels-at.Post
 levels-at-add-levels-at-5 t c =
@@ -92,12 +89,9 @@ levels-at-levels-at-requires t c κs =
     let a = c .before in
     let s = a .before .before .before .before .before in
     let p = s .pre .1 in
-    let fewer = later-fewer (s .args .p .now) (s .args .r .now) (s .args .i) (s .args .n) (s .args .j) (s .args .m)
-    (a .a .given .0 .0) (a .a .given .0 .1 .0) (long-p t (a .before .before .before)) (long-r t (a .before .before .before)) _ (goes t a) in
-    let starless = later-starless (s .args .p .now) (s .args .r .now) (s .args .i) (s .args .n) (s .args .j) (s .args .m)
-    (a .a .given .0 .0) (a .a .given .0 .1 .0) (long-p t (a .before .before .before)) (long-r t (a .before .before .before)) _ (goes t a) in (
-      omega (arith, s .pre .0, fewer),
-      (omega (arith, in-p t a), p .1, omega (arith, in-r t a), p .3, starless (p .4), omega (arith, goes t a .one, p .5)),
+    let l = left t a in (
+      omega (arith, s .pre .0, l .fewer),
+      (omega (arith, l .in-p), p .1, omega (arith, l .in-r), p .3, l .starless (p .4), omega (arith, goes t a .one, p .5)),
     )
 
 levels-at-returns : (t : ℕ) → levels-at-lts.Need-returns (given t) (levels-at-at t) levels-at.Post
@@ -107,10 +101,7 @@ levels-at-returns-2 : (t : ℕ) → levels-at-lts.Need-returns-2 (given t) (leve
 levels-at-returns-2 t c = sym (names-some _ _ _ _ (finishes t (c .before) .0))
 
 levels-at-returns-3 : (t : ℕ) → levels-at-lts.Need-returns-3 (given t) (levels-at-at t) levels-at.Post
-levels-at-returns-3 t c =
-    let a = c .before .before in
-    let s = a .before .before .before in
-    c .levels-at .ensures ∙ later-names _ _ _ _ _ _ _ _ (long-p t s) (long-r t s) _ (goes t a) _
+levels-at-returns-3 t c = c .levels-at .ensures ∙ left t (c .before .before) .names _
 
 pub +levels-at-spec : {M : Type 1} → statement M
 +levels-at-spec = close μ-levels-at λ t. levels-at-lts.spec (given t) (levels-at-at t) levels-at.Post

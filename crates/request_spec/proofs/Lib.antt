@@ -12,4 +12,5 @@ pub mod GivenLaws
 pub mod BeforeLaws
 pub mod StoredLaws
 pub mod Promises
+pub mod Cases
 pub mod Laws

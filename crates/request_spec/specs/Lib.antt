@@ -2,4 +2,5 @@ pub mod Request
 pub mod Decision
 pub mod Meaning
 pub mod Promises
+pub mod Cases
 pub mod Laws

@@ -6,7 +6,7 @@ CARGO := cargo --offline
 # cargo's own folder, where it is not on the path
 export PATH := $(PATH):$(shell getent passwd "$$(id -u)" | cut -d: -f6)/.cargo/bin
 
-.PHONY: test lib install example match lines bench promises layers header calls rows differential vectors stored encoder tools
+.PHONY: test lib install example match lines bench promises layers edits header calls rows differential vectors stored encoder tools
 
 # proves every crate of crates.txt from nothing, tries the must-fail edits, runs the programs, and compares the library with ordinary Rust
 test:
@@ -58,6 +58,10 @@ promises: tools
 # no crate cites of a lower one more than its promises and public laws
 layers: tools
 	tests/layers
+
+# each must-fail edit still fits its file
+edits: tools
+	tests/edits
 
 # the encoder of the scripts that make the stored vectors, from Debian where it is missing
 encoder:

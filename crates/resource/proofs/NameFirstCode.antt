@@ -13,7 +13,7 @@ use Rattle.resource.specs.declared.LevelStep.{LevelStep}
 use Rattle.resource.specs.declared.LevelStep.the-variants.{Differ, Finish, Next}
 use Rattle.resource_spec.specs.Level.{isDeep, levels}
 use Rattle.resource_spec.proofs.Laws.{first-without}
-use Rattle.resource.specs.Code.{levelLength, nameStep, starFirst, starStep, orStep, stepOf, matchStep}
+use Rattle.resource.specs.Code.{orStep, stepOf, matchStep}
 use Rattle.resource.specs.Laws.{Firsts, FirstLevels, Stepped, StepDecides}
 use Rattle.resource.proofs.FirstLevelLaws.{starless-other, first-levels, step-tells, deep-tells}
 
@@ -23,34 +23,20 @@ Fits Differ = ⊥
 Fits (Finish names) = Unit {0}
 Fits (Next i j names) = Unit {0}
 
--- ---- the comparison first
+-- ---- a step, or another one where the first levels differ
 
 -- a step that fits is taken
-taken : (o : LevelStep) {x : LevelStep} (other : LevelStep) → o ≡ x → Fits o → o ≡ orStep x other
-taken Differ other e f = absurd f
-taken (Finish names) other e f = ap (λ (x : LevelStep). orStep x other) e
-taken (Next i j names) other e f = ap (λ (x : LevelStep). orStep x other) e
+pub step-taken : {o x : LevelStep} (other : LevelStep) → o ≡ x → Fits o → o ≡ orStep x other
+step-taken {o} {x} other e f = go o e f
+  where
+    go : (o : LevelStep) → o ≡ x → Fits o → o ≡ orStep x other
+    go Differ e f = absurd f
+    go (Finish names) e f = ap (λ (y : LevelStep). orStep y other) e
+    go (Next i j names) e f = ap (λ (y : LevelStep). orStep y other) e
 
--- where two levels are equal, the comparison is the step
-pub name-says : (p r : List ℕ) {o : LevelStep} → o ≡ nameStep 0 p r → Fits o → o ≡ stepOf p r
-unfolding stepOf
-name-says p r {o} e f = taken o (cond (starFirst p) (starStep p r (levelLength r)) Differ) e f
-
--- where they are not equal it is looked for "*"
-pub differ-says : (p r : List ℕ) {o : LevelStep} → Differ ≡ nameStep 0 p r
-    → o ≡ cond (starFirst p) (starStep p r (levelLength r)) Differ → o ≡ stepOf p r
-unfolding stepOf
-differ-says p r e f = f ∙ ap (λ (x : LevelStep). orStep x (cond (starFirst p) (starStep p r (levelLength r)) Differ)) e
-
--- where they fit, their step is the one of matching
-pub step-says : (p r : List ℕ) {o : LevelStep} → o ≡ stepOf p r → Fits o → o ≡ matchStep p r
-unfolding matchStep
-step-says p r {o} e f = taken o (cond (isDeep p) (Finish 0) Differ) e f
-
--- where they do not fit it is looked for "**"
-pub deep-says : (p r : List ℕ) {o : LevelStep} → Differ ≡ stepOf p r → o ≡ cond (isDeep p) (Finish 0) Differ → o ≡ matchStep p r
-unfolding matchStep
-deep-says p r e f = f ∙ ap (λ (x : LevelStep). orStep x (cond (isDeep p) (Finish 0) Differ)) e
+-- where the levels differ, the other is
+pub other-taken : {o x other : LevelStep} → Differ ≡ x → o ≡ other → o ≡ orStep x other
+other-taken {other = other} e f = f ∙ ap (λ (y : LevelStep). orStep y other) e
 
 -- ---- "**"
 

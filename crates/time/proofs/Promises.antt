@@ -1,0 +1,15 @@
+-- The promises of specs/Promises.antt, each by its law. Assumes nothing.
+use Rattle.time.specs.Promises.{RoundedDown, ScaledExactly, SmallScaled, ThereAndBack}
+use Rattle.time.proofs.TimeLaws as laws
+
+pub rounded-down : RoundedDown
+rounded-down = laws.rounded-down
+
+pub scaled-exactly : ScaledExactly
+scaled-exactly = laws.scaled-exactly
+
+pub small-scaled : SmallScaled
+small-scaled = laws.small-scaled
+
+pub there-and-back : ThereAndBack
+there-and-back = laws.there-and-back

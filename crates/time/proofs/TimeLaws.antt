@@ -1,0 +1,38 @@
+-- Units of time: what their numbers are. Assumes nothing.
+use mathlib.Core.Path.{_≡_, ap}
+use Prim.Native.Nat.{_+_, _*_, min}
+use native.Mathlib.Omega.{arith}
+use Rattle.time.specs.declared.Seconds.{Seconds}
+use Rattle.time.specs.declared.Milliseconds.{Milliseconds}
+use Rattle.time.specs.Time.{seconds, milliseconds, perSecond, mostHeld, wholeSeconds, inMilliseconds, plusAtMost}
+use Rattle.time.specs.Promises.{RoundedDown, ScaledExactly, SmallScaled, ThereAndBack}
+
+-- ---- for the functions
+
+-- what has the number of the milliseconds is the milliseconds
+pub scaled : (t : Seconds) (r : Milliseconds) → r .0 ≡ min (t .0 * perSecond) mostHeld → r ≡ inMilliseconds t
+unfolding inMilliseconds
+scaled t r e = ap milliseconds e
+
+-- what has the number of the sum is the sum
+pub sum : (t more end r : Seconds) → r .0 ≡ min (end .0) (t .0 + more .0) → r ≡ plusAtMost t more end
+unfolding plusAtMost
+sum t more end r e = ap seconds e
+
+-- ---- the promises
+
+pub rounded-down : RoundedDown
+unfolding wholeSeconds
+rounded-down t = (omega arith, omega arith)
+
+pub scaled-exactly : ScaledExactly
+unfolding inMilliseconds
+scaled-exactly t = ((λ h. omega (arith, h)), (λ h. omega (arith, h)))
+
+pub small-scaled : SmallScaled
+unfolding inMilliseconds
+small-scaled t h = omega (arith, h)
+
+pub there-and-back : ThereAndBack
+unfolding wholeSeconds inMilliseconds
+there-and-back t h = ap seconds (omega (arith, h))

@@ -1,0 +1,23 @@
+-- What is promised of units of time, and nothing else. Each statement `NameOfIt` is proved in proofs/Promises.antt as `name-of-it`.
+use mathlib.Core.Path.{_≡_}
+use Prim.Native.Nat.{_+_, _*_, _≤_, _<_, _^_}
+use Rattle.time.specs.declared.Seconds.{Seconds}
+use Rattle.time.specs.declared.Milliseconds.{Milliseconds}
+use Rattle.time.specs.Time.{wholeSeconds, inMilliseconds}
+
+-- a number of seconds is that of a number of milliseconds exactly when 1,000 times it is not more, and one second more would be
+abbrev pub RoundedDown : Type 0
+RoundedDown = (t : Milliseconds) → (wholeSeconds t .0 * 1000 ≤ t .0) × (t .0 < (wholeSeconds t .0 + 1) * 1000)
+
+-- seconds have 1,000 times as many milliseconds, where 64 bits hold that; else it is the most that they hold
+abbrev pub ScaledExactly : Type 0
+ScaledExactly = (t : Seconds) → (t .0 * 1000 < 2 ^ 64 → inMilliseconds t .0 ≡ t .0 * 1000)
+    × (2 ^ 64 ≤ t .0 * 1000 → inMilliseconds t .0 + 1 ≡ 2 ^ 64)
+
+-- so seconds below 2^32 have 1,000 times as many
+abbrev pub SmallScaled : Type 0
+SmallScaled = (t : Seconds) → t .0 < 2 ^ 32 → inMilliseconds t .0 ≡ 1000 * t .0
+
+-- seconds in milliseconds and back are the same seconds, where 64 bits hold them
+abbrev pub ThereAndBack : Type 0
+ThereAndBack = (t : Seconds) → t .0 * 1000 < 2 ^ 64 → wholeSeconds (inMilliseconds t) ≡ t

@@ -1,0 +1,32 @@
+-- Units of time and what leads from one to the other. Document 02, §4: milliseconds and seconds must not be mixable by accident.
+use Prim.Native.Nat.{ℕ, _+_, _*_, _/_, min}
+use Rattle.time.specs.declared.Seconds.{Seconds}
+use Rattle.time.specs.declared.Milliseconds.{Milliseconds}
+
+-- so many seconds
+abbrev pub seconds : ℕ → Seconds
+seconds n = record { 0 = n }
+
+-- so many milliseconds
+abbrev pub milliseconds : ℕ → Milliseconds
+milliseconds n = record { 0 = n }
+
+-- a second has 1,000 milliseconds
+abbrev pub perSecond : ℕ
+perSecond = 1000
+
+-- the most that 64 bits hold: 2^64 − 1
+abbrev pub mostHeld : ℕ
+mostHeld = 18446744073709551615
+
+-- the whole seconds of milliseconds, rounded down
+unfoldable pub wholeSeconds : Milliseconds → Seconds
+wholeSeconds t = seconds (t .0 / perSecond)
+
+-- seconds in milliseconds, or the most that 64 bits hold where that is less
+unfoldable pub inMilliseconds : Seconds → Milliseconds
+inMilliseconds t = milliseconds (min (t .0 * perSecond) mostHeld)
+
+-- the smaller of an end and a sum
+unfoldable pub plusAtMost : Seconds → Seconds → Seconds → Seconds
+plusAtMost t more end = seconds (min (end .0) (t .0 + more .0))

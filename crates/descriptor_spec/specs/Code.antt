@@ -1,5 +1,6 @@
 -- A reader of the promises does not need this page.
 -- What reading answers: the types of src/lib.rt for what is seen.
+use Rattle.time.specs.Time.{seconds}
 use Rattle.octets.specs.Span.{Span}
 use Rattle.descriptor_spec.specs.declared.Part.{Part}
 use Rattle.descriptor_spec.specs.declared.Fields.{Fields}
@@ -16,9 +17,9 @@ abbrev pub fieldsOf : Seen → Fields
 fieldsOf v =
     record {
       payload = partOf (v .covered);
-      «issued_at» = v .payload .issuedAt;
-      «not_before» = v .payload .notBefore;
-      «not_after» = v .payload .notAfter;
+      «issued_at» = seconds (v .payload .issuedAt);
+      «not_before» = seconds (v .payload .notBefore);
+      «not_after» = seconds (v .payload .notAfter);
       id = v .payload .id;
       issuer = partOf (v .payload .issuer);
       grantor = record { at = v .payload .grantor .at; len = v .payload .grantor .size };

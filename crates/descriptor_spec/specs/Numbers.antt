@@ -3,6 +3,7 @@
 -- include/cap.h.
 use mathlib.Core.List.{List}
 use Prim.Native.Nat.{ℕ}
+use Rattle.time.specs.Time.{seconds}
 use Rattle.octets.specs.Span.{Span, spanOf, inside}
 use Rattle.exact.specs.Reads.{Got, got, refused}
 use Rattle.descriptor_spec.specs.declared.Part.{Part}
@@ -20,9 +21,9 @@ answerNumbers n f =
       answer = n;
       «payload_at» = f .payload .at;
       «payload_len» = f .payload .len;
-      «issued_at» = f .«issued_at»;
-      «not_before» = f .«not_before»;
-      «not_after» = f .«not_after»;
+      «issued_at» = f .«issued_at» .0;
+      «not_before» = f .«not_before» .0;
+      «not_after» = f .«not_after» .0;
       «id_at» = f .id;
       «issuer_at» = f .issuer .at;
       «issuer_len» = f .issuer .len;
@@ -51,9 +52,9 @@ abbrev pub zeroFields : Fields
 zeroFields =
     record {
       payload = noPart;
-      «issued_at» = 0;
-      «not_before» = 0;
-      «not_after» = 0;
+      «issued_at» = seconds 0;
+      «not_before» = seconds 0;
+      «not_after» = seconds 0;
       id = 0;
       issuer = noPart;
       grantor = noPart;

@@ -2,6 +2,8 @@
 // specs/Promises.antt. No function: here are the types of what reading answers; `descriptor` has the functions.
 pub mod sizes;
 
+use time::Seconds;
+
 // A part of the bytes: its place and its length; both 0 for what is absent.
 pub struct Part {
     pub at: usize,
@@ -13,9 +15,9 @@ pub struct Part {
 // its pairs; `constraints` counts the constraint pairs of all grants, `mask` is the union of their modes' masks.
 pub struct Fields {
     pub payload: Part,
-    pub issued_at: u64,
-    pub not_before: u64,
-    pub not_after: u64,
+    pub issued_at: Seconds,
+    pub not_before: Seconds,
+    pub not_after: Seconds,
     pub id: usize,
     pub issuer: Part,
     pub grantor: Part,

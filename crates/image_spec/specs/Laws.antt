@@ -66,7 +66,7 @@ BodyRead = (b : List ℕ) → AreBytes b → isRead (reading b) ≡ true
 -- the encoding of an allowed descriptor is read, with its beginning and its id
 abbrev pub EncodingRead : Type 0
 EncodingRead = (d : Descriptor) → AreBytes (encode d) → Allowed d
-    → (f : Fields) × (reading (encode d) ≡ Read f) × (f .«not_before» ≡ d .payload .notBefore) × (idOf (encode d) ≡ d .payload .id)
+    → (f : Fields) × (reading (encode d) ≡ Read f) × (f .«not_before» .0 ≡ d .payload .notBefore) × (idOf (encode d) ≡ d .payload .id)
 
 -- ---- the body with an id
 

@@ -27,4 +27,4 @@ isThat verdict n = eqb verdict n
 
 -- the clock is in the key's window: not before valid_from and, where there is a valid_until, not after it
 unfoldable pub keyOpen : Window → ℕ → Bool
-keyOpen window clock = leb (window .from) clock && (not (window .bounded) || leb clock (window .until))
+keyOpen window clock = leb (window .from .0) clock && (not (window .bounded) || leb clock (window .until .0))

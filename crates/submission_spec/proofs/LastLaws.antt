@@ -36,12 +36,12 @@ use Rattle.submission_spec.proofs.StoredLaws.{refusal-keeps, repeat-kee
 -- ---- the last two steps
 
 -- the clock is in the key's window
-key-opens : (window : Window) (clock : ℕ) → window .from ≤ clock → (window .bounded ≡ true → clock ≤ window .until)
-    → (leb (window .from) clock && (not (window .bounded) || leb clock (window .until))) ≡ true
-key-opens window clock f u = rw (le-leb (window .from) clock f) (go (window .bounded) u)
+key-opens : (window : Window) (clock : ℕ) → window .from .0 ≤ clock → (window .bounded ≡ true → clock ≤ window .until .0)
+    → (leb (window .from .0) clock && (not (window .bounded) || leb clock (window .until .0))) ≡ true
+key-opens window clock f u = rw (le-leb (window .from .0) clock f) (go (window .bounded) u)
   where
-    go : (t : Bool) → (t ≡ true → clock ≤ window .until) → (not t || leb clock (window .until)) ≡ true
-    go true u = le-leb clock (window .until) (u refl)
+    go : (t : Bool) → (t ≡ true → clock ≤ window .until .0) → (not t || leb clock (window .until .0)) ≡ true
+    go true u = le-leb clock (window .until .0) (u refl)
     go false u = refl
 
 module _ (d : List ℕ) (bs : List Row) (c : Descriptor) (clock : ℕ) (window : Window) (r : Ready d bs c clock window) where
@@ -73,7 +73,7 @@ module _ (d : List ℕ) (bs : List Row) (c : Descriptor) (clock : ℕ) (window :
     early = le-leb (c .payload .notBefore) (clock + 86400) l
 
     -- so does that of the key
-    open-key : (leb (window .from) clock && (not (window .bounded) || leb clock (window .until))) ≡ true
+    open-key : (leb (window .from .0) clock && (not (window .bounded) || leb clock (window .until .0))) ≡ true
     open-key = key-opens window clock (r .opened) (r .lasts)
 
     -- the same bytes are held

@@ -70,7 +70,7 @@ by-validity d b clock verdict window bs n end h = refl
 
 -- the encoding of a descriptor
 by-descriptor : (d : List ℕ) (clock verdict : ℕ) (window : Window) (bs : List Row) (c : Descriptor) (f : Fields) (h : Held)
-    → rowsHeld d ≡ bs → f .«not_before» ≡ c .payload .notBefore → HeldIs d (c .payload .id) bs h
+    → rowsHeld d ≡ bs → f .«not_before» .0 ≡ c .payload .notBefore → HeldIs d (c .payload .id) bs h
     → numberBy d (encode c) clock verdict window (Read f) (Sound (length bs) (length (imageOf bs)) h)
     ≡ inOrder (stepsFor (rows bs) (encoding c) (length d) clock verdict window) 0
 unfolding stepsBy isVerdict isThat keyOpen grow.hasRoom

@@ -93,7 +93,7 @@ stepsFor (rows rs) (descriptor c) room clock verdict window =
     ∷ step true 2
     ∷ step (leb (c .payload .notBefore) (clock + 86400)) 2
     ∷ step (not (eqb verdict 2)) 3
-    ∷ step (leb (window .from) clock && (not (window .bounded) || leb clock (window .until))) 14
+    ∷ step (leb (window .from .0) clock && (not (window .bounded) || leb clock (window .until .0))) 14
     ∷ step (not (eqb verdict 1)) 4
     ∷ step (isSame (bodyWith (c .payload .id) rs) (encode c)) 5
     ∷ step (isHeld (bodyWith (c .payload .id) rs) || (ltb (length rs) 64 && leb (length (imageOf (rs ++ (rowOf (encode c) ∷ [])))) room)) 6
@@ -145,8 +145,8 @@ pub record Ready (d : List ℕ) (rs : List Row) (c : Descriptor) (clock : ℕ) (
   pub holds : Holds d rs
   pub allowed : Allowed c
   pub bytes : AreBytes (encode c)
-  pub opened : window .from ≤ clock
-  pub lasts : window .bounded ≡ true → clock ≤ window .until
+  pub opened : window .from .0 ≤ clock
+  pub lasts : window .bounded ≡ true → clock ≤ window .until .0
 
 -- where the signature is good and the steps before pass: if the id is held, the same bytes give 0 and no change, other bytes 5; 6 if 64
 -- rows are held or the larger image exceeds the buffer; else the row and body are added last, and bytes beyond the new end stay

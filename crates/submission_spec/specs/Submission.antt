@@ -38,7 +38,7 @@ isValidity Validity = true
 
 -- not_before
 abbrev pub begins : Reading → ℕ
-begins (Read f) = f .«not_before»
+begins (Read f) = f .«not_before» .0
 begins Structure = 0
 begins Validity = 0
 

@@ -1,2 +1,3 @@
 pub mod TimeLaws
 pub mod Promises
+pub mod Laws

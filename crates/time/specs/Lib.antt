@@ -1,2 +1,3 @@
 pub mod Time
 pub mod Promises
+pub mod Laws

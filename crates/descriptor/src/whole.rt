@@ -12,6 +12,7 @@ use entries::signature::SignatureFields;
 use entries::signature::SignatureRead;
 use entries::signature::signature_at;
 use octets::has_at;
+use time::Seconds;
 ghost use mathlib.Core.Path.{_≡_};
 ghost use Rattle.descriptor_spec.specs.Reader.{readOf};
 ghost use Rattle.descriptor_spec.specs.Code.{fieldsOf, readingOf};
@@ -31,9 +32,9 @@ fn fields_of(p: PayloadFields, n: usize, g: SignatureFields) -> Fields
     let ids = p.ids;
     Fields {
         payload: Part { at: 9, len: n },
-        issued_at: issue.issued_at,
-        not_before: grantor.not_before,
-        not_after: issue.not_after,
+        issued_at: Seconds(issue.issued_at),
+        not_before: Seconds(grantor.not_before),
+        not_after: Seconds(issue.not_after),
         id: ids.id,
         issuer,
         grantor: Part {

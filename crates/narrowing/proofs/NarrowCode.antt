@@ -6,8 +6,9 @@ use mathlib.Core.List.{List}
 use Prim.Native.Nat.{ℕ, suc, _+_, _-_, _≤_, _<_}
 use native.Mathlib.Omega.{arith}
 use lib.ListN.{length, take, drop, length-take, length-drop}
-use lib.Dec.{eqb, ltb, leb}
-use borrow.Author.Tests.{leb-true, leb-false, lt-ltb, le-ltb, eq-eqb, ne-eqb}
+use lib.Dec.{eqb, ltb}
+use borrow.Author.Tests.{eq-eqb, ne-eqb}
+use Rattle.time.proofs.Laws.{not-before}
 use Rattle.resource_spec.specs.Identifier.{levelsPlace, terminalSize}
 use Rattle.octets.specs.Bytes as cbor
 use Rattle.octets.specs.Bytes.{AreBytes, part}
@@ -34,41 +35,26 @@ use Rattle.narrowing.proofs.AgreeLaws.{scan-agrees}
 
 -- ---- both descriptors
 
--- the opposite tests of two numbers
-later-not : (a b : ℕ) → ltb b a ≡ not (leb a b)
-later-not a b = go (leb a b) refl
-  where
-    go : (t : Bool) → leb a b ≡ t → ltb b a ≡ not t
-    go true e = le-ltb b a (leb-true a b e)
-    go false e = lt-ltb b a (leb-false a b e)
-
 -- the tests one by one are the tests together
 tests-agree : (a b c d : Bool) (x y : Narrowing) → x ≡ y
-    → cond (not a) Constrained (cond (not b) Constrained (cond (not c) Period (cond (not d) Period x)))
-    ≡ cond (a && b) (cond (c && d) y Period) Constrained
+    → cond (not a) Constrained (cond (not b) Constrained (cond c Period (cond d Period x)))
+    ≡ cond (a && b) (cond (not c && not d) y Period) Constrained
 tests-agree false b c d x y e = refl
 tests-agree true false c d x y e = refl
-tests-agree true true false d x y e = refl
-tests-agree true true true false x y e = refl
-tests-agree true true true true x y e = e
+tests-agree true true true d x y e = refl
+tests-agree true true false true x y e = refl
+tests-agree true true false false x y e = e
 
 -- comparing two descriptors that were read in their bytes answers what comparing them does
 compared-agrees : (s t : List ℕ) (v w : Seen) → AreBytes s → AreBytes t → readOf s ≡ read v → readOf t ≡ read w
     → comparedIn s (fieldsOf v) t (fieldsOf w) ≡ compared s v t w
 unfolding comparedIn compared
 compared-agrees s t v w bs bt e f =
-    let g : Narrowing = firstIn s (v .payload .grants .start) (v .payload .grants .count)
-    (cbor.same (part s (v .payload .terminal) terminalSize) (part t (w .payload .terminal) terminalSize)) t 0
-    (w .payload .grants .count)
-    (w .payload .grants .start) in
-    ap₂ (λ (x y : Bool). cond (not (eqb (v .payload .grants .sum .pairs) 0)) Constrained
-    (cond (not (eqb (w .payload .grants .sum .pairs) 0)) Constrained (cond x Period (cond y Period g))))
-    (later-not (v .payload .notBefore) (w .payload .notBefore))
-    (later-not (w .payload .notAfter) (v .payload .notAfter))
-    ∙ tests-agree (eqb (v .payload .grants .sum .pairs) 0) (eqb (w .payload .grants .sum .pairs) 0)
-    (leb (v .payload .notBefore) (w .payload .notBefore))
-    (leb (w .payload .notAfter) (v .payload .notAfter)) g _
-    (scan-agrees s t v w bs bt e f)
+    let p = v .payload in
+    let q = w .payload in
+    rw (not-before (p .notBefore) (q .notBefore), not-before (q .notAfter) (p .notAfter))
+    (tests-agree (eqb (p .grants .sum .pairs) 0) (eqb (q .grants .sum .pairs) 0) (ltb (q .notBefore) (p .notBefore))
+    (ltb (p .notAfter) (q .notAfter)) _ _ (scan-agrees s t v w bs bt e f))
 
 -- ---- what was read
 
@@ -170,21 +156,23 @@ module _ (s : List ℕ) (v : Fields) (t : List ℕ) (w : Fields) where
   unfolding comparedIn
   child-constrained a b = rw (eq-eqb _ _ a, ne-eqb _ _ b)
 
-  pub begins-early : v .constraints ≡ 0 → w .constraints ≡ 0 → w .«not_before» < v .«not_before» → Period ≡ comparedIn s v t w
+  pub begins-early : v .constraints ≡ 0 → w .constraints ≡ 0 → ltb (w .«not_before» .0) (v .«not_before» .0) ≡ true
+      → Period ≡ comparedIn s v t w
   unfolding comparedIn
-  begins-early a b c = rw (eq-eqb _ _ a, eq-eqb _ _ b, lt-ltb _ _ c)
+  begins-early a b c = rw (eq-eqb _ _ a, eq-eqb _ _ b, c)
 
-  pub ends-late : v .constraints ≡ 0 → w .constraints ≡ 0 → v .«not_before» ≤ w .«not_before» → v .«not_after» < w .«not_after» → Period
-      ≡ comparedIn s v t w
+  pub ends-late : v .constraints ≡ 0 → w .constraints ≡ 0 → ltb (w .«not_before» .0) (v .«not_before» .0) ≡ false
+      → ltb (v .«not_after» .0) (w .«not_after» .0) ≡ true
+      → Period ≡ comparedIn s v t w
   unfolding comparedIn
-  ends-late a b c d = rw (eq-eqb _ _ a, eq-eqb _ _ b, le-ltb _ _ c, lt-ltb _ _ d)
+  ends-late a b c d = rw (eq-eqb _ _ a, eq-eqb _ _ b, c, d)
 
-  pub compared-first : {shared : Bool} → v .constraints ≡ 0 → w .constraints ≡ 0 → v .«not_before» ≤ w .«not_before»
-      → w .«not_after» ≤ v .«not_after»
+  pub compared-first : {shared : Bool} → v .constraints ≡ 0 → w .constraints ≡ 0 → ltb (w .«not_before» .0) (v .«not_before» .0) ≡ false
+      → ltb (v .«not_after» .0) (w .«not_after» .0) ≡ false
       → shared ≡ cbor.same (part s (v .terminal) terminalSize) (part t (w .terminal) terminalSize)
       → firstIn s (v .first) (v .grants) shared t 0 (w .grants) (w .first) ≡ comparedIn s v t w
   unfolding comparedIn
-  compared-first a b c d e = rw (eq-eqb _ _ a, eq-eqb _ _ b, le-ltb _ _ c, le-ltb _ _ d, e)
+  compared-first a b c d e = rw (eq-eqb _ _ a, eq-eqb _ _ b, c, d, e)
 
 -- ---- the search through the child's grants
 

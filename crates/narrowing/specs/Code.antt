@@ -154,7 +154,7 @@ unfoldable pub comparedIn : List ℕ → Fields → List ℕ → Fields → Narr
 comparedIn s v t w =
     cond (not (eqb (v .constraints) 0)) Constrained
     (cond (not (eqb (w .constraints) 0)) Constrained
-    (cond (ltb (w .«not_before») (v .«not_before»)) Period
-    (cond (ltb (v .«not_after») (w .«not_after»)) Period
+    (cond (ltb (w .«not_before» .0) (v .«not_before» .0)) Period
+    (cond (ltb (v .«not_after» .0) (w .«not_after» .0)) Period
     (firstIn s (v .first) (v .grants) (same (part s (v .terminal) terminalSize) (part t (w .terminal) terminalSize)) t 0 (w .grants)
     (w .first)))))

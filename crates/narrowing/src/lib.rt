@@ -25,10 +25,14 @@ fn compared(s: &[u8], v: Fields, t: &[u8], w: Fields) -> Narrowing
     if w.constraints != 0 {
         return Narrowing::Constrained;
     }
-    if w.not_before < v.not_before {
+    let from = v.not_before;
+    let begins = w.not_before;
+    if begins.is_before(from) {
         return Narrowing::Period;
     }
-    if v.not_after < w.not_after {
+    let until = v.not_after;
+    let ends = w.not_after;
+    if until.is_before(ends) {
         return Narrowing::Period;
     }
     let a = v.terminal;

@@ -1,6 +1,6 @@
 -- `all_rows` meets its contract. Assumes nothing.
 use mathlib.Core.Path.{_≡_, sym, ap, _∙_}
-use Prim.Native.Nat.{_+_, _-_, _≤_}
+use Prim.Native.Nat.{_+_, _-_, _≤_, _<_, _^_}
 use native.Mathlib.Omega.{arith}
 use lib.ListN.{length}
 use Rattle.image_spec.specs.declared.Held.the-variants.{Missing}
@@ -29,6 +29,10 @@ inside k =
     let t = k .before .before .before .before .before in
     let p = t .before .before .before .before .before .pre in
     row-inside _ (p .0) _ _ _ _ (t .loop-test .taken) (k .row-place2 .ensures .0) (p .2)
+
+-- the next row's number is one of 64 bits
+next-fits : (t : tie.In-loop Inv-loop μ-loop) → t .before .loop .i + 1 < 2 ^ 64
+next-fits t = omega arith
 
 loop-holds : tie.Need-loop-holds Inv-loop μ-loop
 loop-holds c = (omega arith, omega arith, rows-begin _ _ _ _ _ _ _ (c .row-place .ensures .0))
@@ -62,6 +66,9 @@ returns c =
     sym (ap (checkAnswer (t .before .before .before .before .before .args .n))
     (l .inv .2 ∙ rows-stop _ _ _ _ _ _ _ (t .loop-test .taken) (sym (ap rowRead (c .enum-told .given .1)) ∙ r .row-at .ensures)))
 
+add-i : tie.Need-add-i Inv-loop μ-loop
+add-i c = record { fits = next-fits (c .before .before .before .before .before .before .before .before) }
+
 loop-again : tie.Need-loop-again Inv-loop μ-loop
 loop-again c =
     let k = c .before .before .before in
@@ -86,5 +93,5 @@ all-rows-spec =
     tie.close
     (tie.spec Inv-loop μ-loop (λ c κs. search needs) loop-holds row-at-requires (λ c. search needs)
     (λ c κs. search needs) add-same-bytes (λ c. search needs) (λ c. search needs) part-same-bytes-end
-    (λ c κs. search needs) sub-keep (λ c κs. search needs) (λ c. search needs) returns (λ c. search needs)
+    (λ c κs. search needs) sub-keep (λ c κs. search needs) (λ c. search needs) returns add-i
     (λ c. search needs) loop-again returns-2)

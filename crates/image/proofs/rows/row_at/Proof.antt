@@ -1,6 +1,7 @@
 -- `row_at` meets its contract. Assumes nothing.
 use mathlib.Core.Path.{_≡_, sym, _∙_}
 use mathlib.Core.Logic.{inl, inr}
+use Prim.Native.Nat.{_+_, _<_, _^_}
 use native.Mathlib.Omega.{arith}
 use Rattle.image_spec.specs.Layout.{rowPlace}
 use Rattle.image_spec.specs.Check.{onRead, rowAt}
@@ -25,6 +26,10 @@ opened : (k : tie.After-read-descriptor) → let a = start k .args in
 opened k = row-read _ _ _ _ _ _ _ (start k .pre .0) (placed k) (omega arith) (k .before .before .before .number-at .ensures .0)
     (omega arith)
     (omega arith) (k .read-descriptor .ensures)
+
+-- the place after the body is a number of 64 bits
+next-fits : (k : tie.After-read-descriptor) → start k .args .at + k .before .before .before .number-at .result < 2 ^ 64
+next-fits k = omega arith
 
 returns : tie.Need-returns
 returns c =
@@ -55,6 +60,9 @@ returns-3 c =
     sym (opened k ∙ row-twice _ _ _ _ _ _ (placed k) _ _ (f .fields .given .1) _ (u .before .row-fits .ensures) (u .if2 .left) _
     (c .before .id-among .ensures) (c .if3 .taken))
 
+add-next : tie.Need-add-t20
+add-next c = record { fits = next-fits (c .before .before .before .before .before .before .before .before) }
+
 returns-4 : tie.Need-returns-4
 returns-4 c =
     let u = c .before .before .before in
@@ -75,5 +83,5 @@ row-at-spec =
     (tie.spec (λ c κs. search needs) (λ c. search needs) (λ c κs. search needs) (λ c. search needs) returns
     (λ c. search needs) (λ c. search needs) (λ c. search needs) (λ c. search needs) (λ c κs. search needs)
     (λ c. search needs) row-fits-requires returns-2 (λ c. search needs) (λ c. search needs) (λ c. search needs)
-    (λ c. search needs) (λ c κs. search needs) returns-3 (λ c. search needs) (λ c. search needs) (λ c. search needs)
+    (λ c. search needs) (λ c κs. search needs) returns-3 add-next (λ c. search needs) (λ c. search needs)
     returns-4 returns-5 returns-6)

@@ -1,11 +1,12 @@
 -- Laws of the rows of a list of bytes (specs/Revocation.antt of `revocation_spec`), in the code's own form. Assumes nothing.
 use mathlib.Core.Path.{_≡_, sym, ap, _∙_}
-use mathlib.Core.Bool.{Bool, true, false}
+use mathlib.Core.Bool.{Bool, true, false, not}
 use mathlib.Core.List.{List}
 use Prim.Native.Nat.{ℕ, _+_, _-_, _*_, _/_, _≤_, _<_}
 use native.Mathlib.Omega.{arith}
 use lib.ListN.{length, take, drop}
-use lib.Dec.{leb}
+use lib.Dec.{leb, ltb}
+use Rattle.time.proofs.Laws.{not-before}
 use Rattle.octets.specs.Bytes.{same}
 use Rattle.octets.specs.Number.{numberIn}
 use Rattle.octets.proofs.NumberLaws.{number-in}
@@ -30,11 +31,11 @@ module _ (list id : List ℕ) (at clock : ℕ) {b : Bool} (e : b ≡ same (take 
 
   -- of a row of the id the moment tells
   pub row-moment : b ≡ true → at + revocationSize ≤ length list → {n : ℕ} → n ≡ numberIn list (at + idSize) momentWidth
-      → leb n clock ≡ revokes (revocationAt list at) id clock
+      → {t : Bool} → t ≡ ltb clock n → not t ≡ revokes (revocationAt list at) id clock
   unfolding revocationAt
-  row-moment f h g =
+  row-moment f h {n} g k =
       let number = number-in list (at + idSize) momentWidth (omega arith) (omega arith) in
-      ap (λ (n : ℕ). leb n clock) (g ∙ number) ∙ sym (laws.row-tested (revocationAt list at) id clock .1 (lent-id ∙ f))
+      ap not k ∙ sym (not-before n clock) ∙ ap (λ (n : ℕ). leb n clock) (g ∙ number) ∙ sym (laws.row-tested (revocationAt list at) id clock .1 (lent-id ∙ f))
 
 -- ---- the rows
 

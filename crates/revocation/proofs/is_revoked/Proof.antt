@@ -12,7 +12,7 @@ use Rattle.revocation.proofs.is_revoked.Tie as tie
 
 abbrev Inv-loop : tie.InvT-loop
 Inv-loop list id clock n i₀ i = (i ≤ n) × (n ≡ length list / revocationSize)
-    × (isRevoked (revocationsOf list) id clock ≡ isRevoked (drop i (revocationsOf list)) id clock)
+    × (isRevoked (revocationsOf list) id (clock .0) ≡ isRevoked (drop i (revocationsOf list)) id (clock .0))
 
 abbrev μ-loop : tie.MeasureT-loop
 μ-loop list id clock n i₀ i = n - i

@@ -10,12 +10,13 @@ returns c = row-other _ _ _ _ (c .before .same-bytes .ensures) (not-true _ (c .i
 
 returns-2 : tie.Need-returns-2
 returns-2 c =
-    let e = c .before in
+    let n = c .before in
+    let e = n .before in
     row-moment _ _ _ _ (e .before .same-bytes .ensures) (not-false _ (e .if1 .left)) (e .before .before .before .before .before .pre)
-    (c .number-at .ensures .0)
+    (n .number-at .ensures .0) (c .is-before .ensures)
 
 pub revokes-at-spec : {M : Type 1} → statement M
 revokes-at-spec =
     tie.close
     (tie.spec (λ c. search needs) (λ c. search needs) (λ c. search needs) (λ c. search needs) (λ c κs. search needs) returns
-    (λ c. search needs) (λ c κs. search needs) returns-2)
+    (λ c. search needs) (λ c κs. search needs) (λ c κs. search needs) returns-2)

@@ -1,11 +1,12 @@
 -- Laws of one row and of a loop over a slice of rows (specs/Laws.antt of `revocation_spec`), in the code's own form. Assumes nothing.
-use mathlib.Core.Path.{_≡_, sym, _∙_}
+use mathlib.Core.Path.{_≡_, sym, ap, _∙_}
 use mathlib.Core.Bool.{Bool, true, false, not}
 use mathlib.Core.List.{List}
 use Prim.Native.Nat.{ℕ, _+_, _<_}
 use lib.ListN.{length, drop}
-use lib.Dec.{leb}
+use lib.Dec.{ltb}
 use borrow.Author.Tests.{not-true, not-false}
+use Rattle.time.proofs.Laws.{not-before}
 use Rattle.octets.specs.Bytes.{same}
 use Rattle.revocation_spec.specs.declared.Revocation.{Revocation}
 use Rattle.revocation_spec.specs.Revocation.{revokes, isRevoked}
@@ -18,8 +19,8 @@ module _ (row : Revocation) (id : List ℕ) (clock : ℕ) {a : Bool} (e : a ≡ 
   row-other h = sym (row-tested row id clock .0 (sym e ∙ not-true a h))
 
   -- of a row of the id the moment tells
-  pub row-same : not a ≡ false → leb (row .moment) clock ≡ revokes row id clock
-  row-same h = sym (row-tested row id clock .1 (sym e ∙ not-false a h))
+  pub row-same : not a ≡ false → {t : Bool} → t ≡ ltb clock (row .moment) → not t ≡ revokes row id clock
+  row-same h k = ap not k ∙ sym (not-before (row .moment) clock) ∙ sym (row-tested row id clock .1 (sym e ∙ not-false a h))
 
 module _ (rows : List Revocation) (id : List ℕ) (clock i : ℕ) (h : i < length rows) {t : Bool}
     (e : t ≡ revokes (rowIn rows i) id clock) where

@@ -2,6 +2,7 @@
 // `revocation_spec`. Nothing that has a slice of structs is covered by the borrow checker: `row_at` and `is_revoked_in` are proved by hand.
 use octets::same_bytes;
 use revocation_spec::Revocation;
+use time::Seconds;
 ghost use mathlib.Core.Path.{_≡_};
 ghost use Prim.Native.Nat.{_<_};
 ghost use lib.ListN.{length};
@@ -16,7 +17,9 @@ fn row_revokes(row: Revocation, id: &[u8], clock: u64) -> bool
     if !same_bytes(&have, id) {
         return false;
     }
-    row.moment <= clock
+    let moment = Seconds(row.moment);
+    let clock = Seconds(clock);
+    !clock.is_before(moment)
 }
 
 // A row of the slice.

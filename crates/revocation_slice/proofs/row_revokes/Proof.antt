@@ -8,7 +8,7 @@ returns : tie.Need-returns
 returns c = row-other _ _ _ (c .before .same-bytes .ensures) (c .if1 .taken)
 
 returns-2 : tie.Need-returns-2
-returns-2 c = row-same _ _ _ (c .before .before .same-bytes .ensures) (c .before .if1 .left)
+returns-2 c = let e = c .before in row-same _ _ _ (e .before .same-bytes .ensures) (e .if1 .left) (c .is-before .ensures)
 
 pub row-revokes-spec : {M : Type 1} → statement M
-row-revokes-spec = tie.close (tie.spec (λ c. search needs) (λ c κs. search needs) returns returns-2)
+row-revokes-spec = tie.close (tie.spec (λ c. search needs) (λ c κs. search needs) returns (λ c κs. search needs) returns-2)

@@ -69,7 +69,7 @@ all-done d b clock verdict window r v e =
     sym (passed-end steps answers.Done (all-pass steps e))
 
 module _ (d b : List ℕ) (clock verdict : ℕ) (window : Window) (known : isVerdict verdict ≡ true) where
-  module _ (n end : ℕ) (f : Fields) (early : leb (f .«not_before») (clock + longestLead) ≡ true) (issuer : isThat verdict noKey ≡ false)
+  module _ (n end : ℕ) (f : Fields) (early : leb (f .«not_before» .0) (clock + longestLead) ≡ true) (issuer : isThat verdict noKey ≡ false)
       (key : keyOpen window clock ≡ true) (signed : isThat verdict bad ≡ false) where
     -- where the steps before it pass, the place of the body is what the last two steps come to
     placed-is : (h : Held) → ChoiceIs d b clock verdict window (Read f) (Sound n end h) (placed d b n end h f)
@@ -94,12 +94,12 @@ module _ (d b : List ℕ) (clock verdict : ℕ) (window : Window) (known : isVer
   -- a body that reads, in an image that is sound: the steps from the beginning to the signature, and then the place
   read-is : (n end : ℕ) (h : Held) (f : Fields)
       → ChoiceIs d b clock verdict window (Read f) (Sound n end h)
-      (whenAdmitted (admitted (f .«not_before») clock verdict window) (placed d b n end h f))
+      (whenAdmitted (admitted (f .«not_before» .0) clock verdict window) (placed d b n end h f))
   unfolding stepsBy admitted
   read-is n end h f =
       let v : ImageCheck = Sound n end h in
       let P : Admission → Type 0 = λ a. ChoiceIs d b clock verdict window (Read f) v (whenAdmitted a (placed d b n end h f)) in
-      by-cond P (leb (f .«not_before») (clock + longestLead))
+      by-cond P (leb (f .«not_before» .0) (clock + longestLead))
       (λ early. by-cond P (isThat verdict noKey)
       (λ issuer. refuses d b clock verdict window (Read f) v answers.UnknownIssuer (omega arith) (rw (known, early, issuer)))
       (λ issuer. by-cond P (keyOpen window clock)

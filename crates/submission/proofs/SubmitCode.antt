@@ -4,8 +4,12 @@ use mathlib.Core.Path.{_≡_, sym, ap, _∙_, subst}
 use mathlib.Core.Bool.{Bool, true, false, not}
 use mathlib.Core.List.{List}
 use Prim.Native.Nat.{ℕ, _+_, _-_, _≤_, _<_}
+use native.Mathlib.Omega.{arith}
 use lib.ListN.{length, take, drop, replicate}
-use borrow.Author.Tests.{le-leb, lt-leb, eq-eqb, ne-eqb, not-true, not-false}
+use lib.Dec.{ltb}
+use borrow.Author.Tests.{ltb-true, ltb-false, le-leb, lt-leb, eq-eqb, ne-eqb, not-true, not-false}
+use Rattle.time.specs.declared.Seconds.{Seconds}
+use Rattle.time.specs.Time.{seconds, plusAtMost}
 use Rattle.octets.specs.Bytes.{part, same}
 use Rattle.descriptor_spec.specs.declared.Fields.{Fields}
 use Rattle.descriptor_spec.specs.declared.Reading.{Reading}
@@ -34,6 +38,17 @@ use Rattle.submission_spec.specs.Submission.{longestLead}
 use Rattle.submission.specs.Code.{admitted, placed, whenAdmitted, chosenRead, chosenUnread, chosenBy, choiceOf}
 
 -- ---- the beginning, the issuer, the key and the signature
+
+-- by whether the latest beginning is before a descriptor's, that is more than a day ahead, or not
+module _ (before clock latest : Seconds) (e : latest ≡ plusAtMost clock (seconds longestLead) before) {t : Bool}
+    (k : t ≡ ltb (latest .0) (before .0)) where
+  pub begins-late : t ≡ true → clock .0 + longestLead < before .0
+  unfolding plusAtMost
+  begins-late f = omega (arith, ap (λ (x : Seconds). x .0) e, ltb-true (latest .0) (before .0) (sym k ∙ f))
+
+  pub begins-soon : t ≡ false → before .0 ≤ clock .0 + longestLead
+  unfolding plusAtMost
+  begins-soon f = omega (arith, ap (λ (x : Seconds). x .0) e, ltb-false (latest .0) (before .0) (sym k ∙ f))
 
 -- a descriptor that begins more than a day ahead is refused
 pub admit-late : (before clock verdict : ℕ) (window : Window) → clock + longestLead < before
@@ -98,7 +113,7 @@ module _ (d b : List ℕ) (clock verdict : ℕ) (window : Window) (f : Fields) (
   unfolding chosenRead
   read-unsound e = sym (ap (chosenRead d b clock verdict window f) e)
 
-  module _ (n end : ℕ) (h : Held) (e : v ≡ Sound n end h) (a : Admission) (k : a ≡ admitted (f .«not_before») clock verdict window) where
+  module _ (n end : ℕ) (h : Held) (e : v ≡ Sound n end h) (a : Admission) (k : a ≡ admitted (f .«not_before» .0) clock verdict window) where
     -- in a sound image it is placed, if it is admitted
     read-sound : chosenRead d b clock verdict window f v ≡ whenAdmitted a (placed d b n end h f)
     unfolding chosenRead

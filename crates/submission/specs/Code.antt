@@ -49,7 +49,7 @@ whenAdmitted Admitted c = c
 -- a body that reads, by the check of the image
 unfoldable pub chosenRead : List ℕ → List ℕ → ℕ → ℕ → Window → Fields → ImageCheck → Choice
 chosenRead d b clock verdict window f (Sound n end h) =
-    whenAdmitted (admitted (f .«not_before») clock verdict window) (placed d b n end h f)
+    whenAdmitted (admitted (f .«not_before» .0) clock verdict window) (placed d b n end h f)
 chosenRead d b clock verdict window f Unsound = Answer answers.BadImage
 
 -- a body that does not read, by the check of the image

@@ -6,6 +6,7 @@ use descriptor_spec::sizes::ID_SIZE;
 use image::Held;
 use image::ImageCheck;
 use steps::Window;
+use time::Seconds;
 ghost use mathlib.Core.Path.{_≡_};
 ghost use Prim.Native.Nat.{_+_};
 ghost use lib.ListN.{replicate};
@@ -36,13 +37,12 @@ pub(crate) enum Admission {
 const LONGEST_LEAD: u64 = 86400;
 
 // The beginning, the issuer, the key and the signature of a body that reads.
-fn admit(not_before: u64, clock: u64, verdict: u64, window: Window) -> Admission
-    ensures { λ r. ⌜ r ≡ admitted «not_before» clock verdict window ⌝ }
+fn admit(not_before: Seconds, clock: Seconds, verdict: u64, window: Window) -> Admission
+    ensures { λ r. ⌜ r ≡ admitted («not_before» .0) (clock .0) verdict window ⌝ }
 {
-    if clock < not_before {
-        if LONGEST_LEAD < not_before - clock {
-            return Admission::Refused(Submission::Validity);
-        }
+    let latest = clock.plus_at_most(Seconds(LONGEST_LEAD), not_before);
+    if latest.is_before(not_before) {
+        return Admission::Refused(Submission::Validity);
     }
     if verdict == 2 {
         return Admission::Refused(Submission::UnknownIssuer);
@@ -81,18 +81,19 @@ fn place(image: &[u8], body: &[u8], rows: u64, end: usize, held: Held, fields: F
 fn choose_read(
     image: &[u8],
     body: &[u8],
-    clock: u64,
+    clock: Seconds,
     verdict: u64,
     window: Window,
     fields: Fields,
     found: ImageCheck,
 ) -> Choice
     requires { ⌜ CheckFits (now image) found ⌝ }
-    ensures { λ r. ⌜ r ≡ chosenRead (now (image .entry)) (now (body .entry)) clock verdict window fields found ⌝ }
+    ensures { λ r. ⌜ r ≡ chosenRead (now (image .entry)) (now (body .entry)) (clock .0) verdict window fields found ⌝ }
 {
     match found {
         ImageCheck::Sound { rows, end, held } => {
-            match admit(fields.not_before, clock, verdict, window) {
+            let begins = fields.not_before;
+            match admit(begins, clock, verdict, window) {
                 Admission::Refused(answer) => Choice::Answer(answer),
                 Admission::Admitted => place(image, body, rows, end, held, fields),
             }
@@ -117,8 +118,14 @@ fn choose_unread(image: &[u8], answer: Submission) -> Choice
 }
 
 // What is to be done with the body.
-pub(crate) fn choose(image: &[u8], body: &[u8], clock: u64, verdict: u64, window: Window) -> Choice
-    ensures { λ r. ⌜ (r ≡ choiceOf (now (image .entry)) (now (body .entry)) clock verdict window) × AreBytes (now (image .entry)) ⌝ }
+pub(crate) fn choose(
+    image: &[u8],
+    body: &[u8],
+    clock: Seconds,
+    verdict: u64,
+    window: Window,
+) -> Choice
+    ensures { λ r. ⌜ (r ≡ choiceOf (now (image .entry)) (now (body .entry)) (clock .0) verdict window) × AreBytes (now (image .entry)) ⌝ }
 {
     if 2 < verdict {
         return Choice::Answer(Submission::Malformed);

@@ -5,14 +5,21 @@ use choose::Choice;
 use image::Added;
 use steps::Window;
 pub use submission_spec::Submission;
+use time::Seconds;
 ghost use mathlib.Core.Path.{_≡_};
 ghost use Rattle.submission_spec.specs.Submission.{submitted, afterOf};
 ghost use Rattle.submission.specs.Code.{storedAs};
 
 // Submits the descriptor in `body` to the image. A refusal changes no byte of the image, nor does a repeat of what is held.
-pub fn submit(image: &mut [u8], body: &[u8], clock: u64, verdict: u64, window: Window) -> Submission
-    ensures { λ r. ⌜ (r ≡ submitted (now (image .entry)) (now (body .entry)) clock verdict window)
-        × (now (image .exit) ≡ afterOf (now (image .entry)) (now (body .entry)) clock verdict window) ⌝ }
+pub fn submit(
+    image: &mut [u8],
+    body: &[u8],
+    clock: Seconds,
+    verdict: u64,
+    window: Window,
+) -> Submission
+    ensures { λ r. ⌜ (r ≡ submitted (now (image .entry)) (now (body .entry)) (clock .0) verdict window)
+        × (now (image .exit) ≡ afterOf (now (image .entry)) (now (body .entry)) (clock .0) verdict window) ⌝ }
 {
     match choose::choose(image, body, clock, verdict, window) {
         Choice::Answer(answer) => answer,

@@ -10,6 +10,7 @@ use narrowing::NarrowingNumbers;
 use request::DecisionNumbers;
 use request::Environment;
 use resource::MatchingNumbers;
+use time::Seconds;
 ghost use mathlib.Core.Path.{_≡_};
 ghost use Rattle.octets.specs.Bytes.{AreBytes};
 ghost use Rattle.cbor_item_spec.specs.Item as items;
@@ -100,7 +101,7 @@ pub extern "C" fn cap_submit(
     ensures lent { λ _. ⌜ AreBytes (now (image .entry)) × AreBytes (now (descriptor .entry)) ⌝ }
 {
     let key = numbers::window(valid_from, has_valid_until, valid_until);
-    numbers::of_submission(submission::submit(image, descriptor, clock, verdict, key))
+    numbers::of_submission(submission::submit(image, descriptor, Seconds(clock), verdict, key))
 }
 
 // Decides a request.

@@ -17,6 +17,7 @@ use resource::Matching;
 use resource::MatchingNumbers;
 use steps::Window;
 use submission::Submission;
+use time::Seconds;
 ghost use mathlib.Core.Path.{_≡_};
 ghost use Rattle.cbor_item_spec.specs.Item as items;
 ghost use Rattle.resource_spec.specs.Text as texts;
@@ -34,9 +35,9 @@ pub(crate) fn window(from: u64, has_until: u64, until: u64) -> Window
     ensures { λ r. ⌜ r ≡ windowOf from «has_until» until ⌝ }
 {
     Window {
-        from,
+        from: Seconds(from),
         bounded: has_until != 0,
-        until,
+        until: Seconds(until),
     }
 }
 
@@ -91,6 +92,9 @@ fn of_fields(f: Fields) -> DescriptorNumbers
     ensures { λ r. ⌜ r ≡ descriptors.fieldNumbers f ⌝ }
 {
     let payload = f.payload;
+    let issued = f.issued_at;
+    let begins = f.not_before;
+    let ends = f.not_after;
     let issuer = f.issuer;
     let grantor = f.grantor;
     let key = f.key;
@@ -99,9 +103,9 @@ fn of_fields(f: Fields) -> DescriptorNumbers
         answer: 0,
         payload_at: payload.at as u64,
         payload_len: payload.len as u64,
-        issued_at: f.issued_at,
-        not_before: f.not_before,
-        not_after: f.not_after,
+        issued_at: issued.0,
+        not_before: begins.0,
+        not_after: ends.0,
         id_at: f.id as u64,
         issuer_at: issuer.at as u64,
         issuer_len: issuer.len as u64,

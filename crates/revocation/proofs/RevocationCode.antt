@@ -35,7 +35,8 @@ module _ (list id : List ℕ) (at clock : ℕ) {b : Bool} (e : b ≡ same (take 
   unfolding revocationAt
   row-moment f h {n} g k =
       let number = number-in list (at + idSize) momentWidth (omega arith) (omega arith) in
-      ap not k ∙ sym (not-before n clock) ∙ ap (λ (n : ℕ). leb n clock) (g ∙ number) ∙ sym (laws.row-tested (revocationAt list at) id clock .1 (lent-id ∙ f))
+      ap not k ∙ sym (not-before n clock) ∙ ap (λ (n : ℕ). leb n clock) (g ∙ number)
+      ∙ sym (laws.row-tested (revocationAt list at) id clock .1 (lent-id ∙ f))
 
 -- ---- the rows
 

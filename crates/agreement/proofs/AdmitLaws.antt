@@ -17,7 +17,7 @@ use Rattle.entries_spec.specs.Model.{pairCount}
 use Rattle.descriptor_spec.specs.Model.{Grant, Descriptor, encode}
 use Rattle.descriptor_spec.specs.Allowed.{isIn}
 use Rattle.request_spec.specs.Request.{Request}
-use Rattle.request_spec.specs.Promises.{someServes, formed}
+use Rattle.request_spec.specs.Promises.{secondsOf, someServes, formedBefore, formed}
 use Rattle.narrowing_spec.specs.Meaning.{anyAdmits}
 use Rattle.narrowing_spec.specs.Promises.{NoPairs, Inside}
 use Rattle.narrowing_spec.proofs.Promises.{constrained-exactly, accepted-exactly}
@@ -96,14 +96,14 @@ all-pass ns ms (s ∷ steps) e a b =
 pub steps-admit : StepsAdmit
 steps-admit q d n = (
   λ p. record {
-    begun = leb-true (d .payload .notBefore) (q .clock) (p .0);
-    lasting = ltb-true (q .clock) (d .payload .notAfter) (p .1 .0);
+    begun = leb-true (d .payload .notBefore) (secondsOf q) (p .0);
+    lasting = ltb-true (secondsOf q) (d .payload .notAfter) (p .1 .0);
     granted = sym (some-admits (d .payload .grants) (q .mode) (pathOf (q .resource)) n) ∙ p .1 .1 .0;
   },
   λ a. (
-    le-leb (d .payload .notBefore) (q .clock) (a .begun),
+    le-leb (d .payload .notBefore) (secondsOf q) (a .begun),
     (
-      lt-ltb (q .clock) (d .payload .notAfter) (a .lasting),
+      lt-ltb (secondsOf q) (d .payload .notAfter) (a .lasting),
       (some-admits (d .payload .grants) (q .mode) (pathOf (q .resource)) n ∙ a .granted, tt),
     ),
   ),
@@ -152,4 +152,4 @@ path-formed q e =
     (and-right (leb (length (q .resource)) 256) (isResource (q .resource))
     (and-left _ _ (and-right (isTerminal (q .terminal)) _
     (and-right (isFay (q .fay)) _
-    (and-right (eqb (length (q .id)) 16) _ (and-right (leb (q .mode) 3) _ (and-right (leb (q .verdict) 2) _ e)))))))
+    (and-right (eqb (length (q .id)) 16) _ (and-right (leb (q .mode) 3) _ (and-right (leb (q .verdict) 2) _ (and-left (formedBefore q) _ e))))))))

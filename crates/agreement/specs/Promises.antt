@@ -14,7 +14,7 @@ use Rattle.steps.specs.Order.{Step, AllPass}
 use Rattle.request_spec.specs.declared.DecisionNumbers.{DecisionNumbers}
 use Rattle.request_spec.specs.Request.{Request}
 use Rattle.request_spec.specs.Decision.{decisionOf, numbersOf}
-use Rattle.request_spec.specs.Promises.{held, Under, stepsFor}
+use Rattle.request_spec.specs.Promises.{held, Under, secondsOf, stepsFor}
 use Rattle.narrowing_spec.specs.Meaning.{Admits}
 use Rattle.narrowing_spec.specs.Narrow.{narrow, numbersOf as narrowNumbers}
 use Rattle.narrowing_spec.specs.Promises.{NoPairs, answerOnly}
@@ -30,22 +30,22 @@ Serves q d = AllPass (numbered (9 ∷ 10 ∷ 13 ∷ []) (stepsFor q (held d)))
 
 -- the other steps pass
 abbrev pub OthersPass : Request → Descriptor → Type 0
-OthersPass q d = AllPass (numbered (15 ∷ 16 ∷ 7 ∷ 8 ∷ 11 ∷ 12 ∷ 14 ∷ 4 ∷ []) (stepsFor q (held d)))
+OthersPass q d = AllPass (numbered (15 ∷ 16 ∷ 7 ∷ 8 ∷ 11 ∷ 12 ∷ 14 ∷ 4 ∷ 26 ∷ 23 ∷ 24 ∷ 25 ∷ []) (stepsFor q (held d)))
 
 -- for a descriptor without constraint pairs, steps 9, 10 and 13 pass exactly when it admits the request's moment, path and mode together
 abbrev pub StepsAdmit : Type 0
 StepsAdmit = (q : Request) (d : Descriptor) → NoPairs (d .payload .grants)
-    → Serves q d ↔ Admits d (q .clock) (pathOf (q .resource)) (q .mode)
+    → Serves q d ↔ Admits d (secondsOf q) (pathOf (q .resource)) (q .mode)
 
 -- where the other steps pass, a request for such a descriptor is answered 0 exactly when the descriptor admits its moment, path and
 -- mode together
 abbrev pub GrantedAdmits : Type 0
 GrantedAdmits = (s : List ℕ) (q : Request) (d : Descriptor) → Under s (q .id) (held d) → NoPairs (d .payload .grants) → OthersPass q d
-    → (numbersOf (decisionOf s q) .answer ≡ 0) ↔ Admits d (q .clock) (pathOf (q .resource)) (q .mode)
+    → (numbersOf (decisionOf s q) .answer ≡ 0) ↔ Admits d (secondsOf q) (pathOf (q .resource)) (q .mode)
 
 -- r asks for the moment, the path and the mode that q asks for
 pub record AsksSame (q r : Request) : Type 0 where
-  pub clock : r .clock ≡ q .clock
+  pub clock : secondsOf r ≡ secondsOf q
   pub resource : r .resource ≡ q .resource
   pub mode : r .mode ≡ q .mode
 

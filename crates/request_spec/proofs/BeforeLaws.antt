@@ -1,7 +1,7 @@
 -- A request is answered the number that it was answered under document 01's rule (specs/Promises.antt). Assumes nothing.
 use mathlib.Core.Path.{_≡_, refl, sym, ap, _∙_}
 use mathlib.Core.Bool.{Bool, true, false, cond, _||_}
-use mathlib.Core.List.{List, [], _∷_}
+use mathlib.Core.List.{List, [], _∷_, _++_}
 use mathlib.Core.Option.{some}
 use Prim.Native.Nat.{ℕ, _+_}
 use Rattle.resource_spec.specs.Pattern.{Path}
@@ -9,7 +9,8 @@ use Rattle.resource_spec.specs.Text.{pathOf}
 use Rattle.descriptor_spec.specs.Model.{Grant}
 use Rattle.steps.specs.Order.{inOrder}
 use Rattle.steps.proofs.Laws.{order-mapped}
-use Rattle.request_spec.specs.Promises.{badImage, notHeld, held, refusal, grantServes, someServes, stepsOn, stepsFor, grantedFor}
+use Rattle.request_spec.specs.Promises.{badImage, notHeld, held, refusal, formed, grantServes, someServes, stepsOn, leaseFor}
+use Rattle.request_spec.specs.Promises.{leaseSteps, stepsFor, grantedFor}
 use Rattle.request_spec.specs.Promises.{firstServing, isThere, AnsweredAsBefore}
 use Rattle.request_spec.proofs.NumberLaws.{answerOf, decided-exactly}
 
@@ -31,5 +32,5 @@ answered-as-before s q (held d) u =
     ap answerOf (decided-exactly s q (held d) u)
     ∙ order-mapped answerOf (stepsFor q (held d)) (grantedFor q (held d))
     ∙ sym (order-mapped answerOf (stepsFor q (held d)) (refusal 0))
-    ∙ ap (λ (found : Bool). answerOf (inOrder (stepsOn q d found) (refusal 0)))
+    ∙ ap (λ (found : Bool). answerOf (inOrder (stepsOn (formed q) q d found ++ leaseSteps (leaseFor q) (q .clock .0)) (refusal 0)))
     (sym (there-serves (d .payload .grants) (q .mode) (pathOf (q .resource)) 0))

@@ -10,7 +10,7 @@ use Rattle.descriptor_spec.specs.Modes.{unionOf}
 use Rattle.steps.specs.Order.{AllPass}
 use Rattle.steps.proofs.Laws.{passed-end, passed-by}
 use Rattle.request_spec.specs.declared.DecisionNumbers.{DecisionNumbers}
-use Rattle.request_spec.specs.Request.{Request}
+use Rattle.request_spec.specs.Request.{Request, secondsOf}
 use Rattle.request_spec.specs.Promises.{Stored, badImage, notHeld, held, Under, stepsFor, grantedFor, Picked, GrantedGives}
 use Rattle.request_spec.proofs.ServingLaws.{picked}
 use Rattle.request_spec.proofs.NumberLaws.{answerOf, decided-exactly, granted-exactly}
@@ -20,7 +20,7 @@ use Rattle.request_spec.proofs.UnderLaws.{all-stored}
 abbrev Given : List ℕ → Request → DecisionNumbers → Type 0
 Given s q n = (d : Descriptor) × Under s (q .id) (held d)
     × ((g : Grant) × Picked (d .payload .grants) (q .mode) (pathOf (q .resource)) (n .grant) g × (n .mask ≡ unionOf (g ∷ [])))
-    × (n .«session_end» ≡ min (d .payload .notAfter) (q .clock + q .session))
+    × (n .«session_end» ≡ min (d .payload .notAfter) (secondsOf q + q .session .0))
 
 -- where every step passes, what follows them is given
 given : (s : List ℕ) (q : Request) (x : Stored) → Under s (q .id) x → AllPass (stepsFor q x) → Given s q (grantedFor q x)

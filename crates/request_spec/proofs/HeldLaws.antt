@@ -23,14 +23,14 @@ use Rattle.request_spec.specs.declared.Decision.{Decision}
 use Rattle.request_spec.specs.declared.Decision.the-variants as answers
 use Rattle.request_spec.specs.declared.Matched.{Matched}
 use Rattle.request_spec.specs.declared.Matched.the-variants.{Nothing}
-use Rattle.request_spec.specs.Request.{Request, wellFormed}
+use Rattle.request_spec.specs.Request.{Request, wellFormed, leaseFor}
 use Rattle.request_spec.specs.Decision.{Facts, stepsBy, grantedBy, factsOf, matchedOn, factsIn, matchedIn, stepsOf, decisionOf}
 
 -- ---- what is decided on a check
 
 -- the decision by the steps: whether the image is sound and holds the id, the facts of the descriptor, and the grant that is picked
 abbrev pub decidedBy : Request → Bool → Bool → Facts → Matched → Decision
-decidedBy q sound held x m = inOrder (stepsBy q sound held x m) (grantedBy q x m)
+decidedBy q sound held x m = inOrder (stepsBy q sound held x m) (grantedBy q (leaseFor q) x m)
 
 -- the decision of a request of which the check of the image is v
 abbrev pub decidedIn : List ℕ → Request → ImageCheck → Decision

@@ -10,6 +10,7 @@ pub mod BoundaryLaws
 pub mod RevocationLaws
 pub mod GivenLaws
 pub mod BeforeLaws
+pub mod LeaseLaws
 pub mod StoredLaws
 pub mod Promises
 pub mod Cases

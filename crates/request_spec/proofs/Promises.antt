@@ -3,20 +3,21 @@ use mathlib.Core.Path.{refl}
 use Rattle.request_spec.specs.Promises.{ArgumentsInOrder, AllStored, DecidedExactly, GrantedExactly, RefusedExactly}
 use Rattle.request_spec.specs.Promises.{RefusalsZero, EditionsRefused, GrantedGives, BeginBoundary, EndBoundary, StoredDecided}
 use Rattle.request_spec.specs.Promises.{OthersDecided, RevokedRefused, RowMoreRefuses, EarlyRowWaits, StaysRevoked, PickedOnce}
-use Rattle.request_spec.specs.Promises.{AnsweredAsBefore}
+use Rattle.request_spec.specs.Promises.{AnsweredAsBefore, WithoutLease, GrantMargin, StaleMargin, OtherLeases, OlderSync}
 use Rattle.request_spec.proofs.UnderLaws as under
 use Rattle.request_spec.proofs.NumberLaws as numbers
 use Rattle.request_spec.proofs.ServingLaws as serving
 use Rattle.request_spec.proofs.GivenLaws as given
 use Rattle.request_spec.proofs.BeforeLaws as before
 use Rattle.request_spec.proofs.RevocationLaws as revocation
+use Rattle.request_spec.proofs.LeaseLaws as lease
 use Rattle.request_spec.proofs.BoundaryLaws as boundary
 use Rattle.request_spec.proofs.StoredLaws as stored
 
 -- ---- the arguments
 
 pub arguments-in-order : ArgumentsInOrder
-arguments-in-order id fay terminal resource mode clock session revoked verdict window = refl
+arguments-in-order id fay terminal resource mode clock session revoked leases verdict window = refl
 
 -- ---- what an image holds under an id
 
@@ -66,6 +67,23 @@ early-row-waits = revocation.early-row-waits
 
 pub stays-revoked : StaysRevoked
 stays-revoked = revocation.stays-revoked
+
+-- ---- leases
+
+pub without-lease : WithoutLease
+without-lease = lease.without-lease
+
+pub grant-margin : GrantMargin
+grant-margin = lease.grant-margin
+
+pub stale-margin : StaleMargin
+stale-margin = lease.stale-margin
+
+pub other-leases : OtherLeases
+other-leases = lease.other-leases
+
+pub older-sync : OlderSync
+older-sync = lease.older-sync
 
 -- ---- both sides of not_before and not_after
 

@@ -3,14 +3,15 @@ use mathlib.Core.Path.{_≡_, refl, sym, ap, ap₂, _∙_, subst}
 use mathlib.Core.Logic.{_⊎_, inl, inr}
 use mathlib.Core.Bool.{Bool, true, false, not, _&&_, _||_}
 use mathlib.Core.List.{List, _++_}
-use Prim.Native.Nat.{ℕ, _%_, _≤_}
+use Prim.Native.Nat.{ℕ, _/_, _%_, _^_, _≤_}
 use native.Mathlib.Omega.{arith}
 use lib.ListN.{length, length-append}
 use lib.Dec.{leb}
-use borrow.Author.Tests.{lt-leb}
+use borrow.Author.Tests.{le-leb, lt-leb}
 use Rattle.octets.specs.Bytes.{part, same}
 use Rattle.octets.specs.Number.{numberAt}
-use Rattle.octets.proofs.Tests.{and-false, or-false}
+use Rattle.octets.proofs.Tests.{and-left, and-right, and-both, and-false, or-false}
+use Rattle.time.specs.declared.Milliseconds.{Milliseconds}
 use Rattle.descriptor_spec.specs.Model.{Descriptor}
 use Rattle.revocation_spec.specs.Revocation.{isRevoked, revocationsOf}
 use Rattle.revocation_spec.proofs.Promises.{revoked-exactly, row-more, later-revoked}
@@ -25,10 +26,11 @@ use Rattle.request_spec.specs.declared.Decision.{Decision}
 use Rattle.request_spec.specs.declared.Decision.the-variants as answers
 use Rattle.request_spec.specs.declared.Matched.{Matched}
 use Rattle.request_spec.specs.declared.Matched.the-variants.{IsAt, Nothing}
-use Rattle.request_spec.specs.Request.{Request, wellFormed, revokedNow}
-use Rattle.request_spec.specs.Decision.{Facts, revocationSteps, descriptorSteps, keySteps, laterSteps, stepsBy, grantedBy, decisionOf}
-use Rattle.request_spec.specs.Decision.{numbersOf}
-use Rattle.request_spec.specs.Promises.{Stored, badImage, notHeld, held, Under, refusal, formed, stepsFor, grantedFor, RevokedRefused}
+use Rattle.request_spec.specs.Request.{Request, secondsOf, argumentsOk, wellFormed, revokedNow, leaseFor}
+use Rattle.request_spec.specs.Decision.{Facts, revocationSteps, descriptorSteps, keySteps, leaseSteps, laterSteps, stepsBy}
+use Rattle.request_spec.specs.Decision.{grantedBy, decisionOf, numbersOf}
+use Rattle.request_spec.specs.Promises.{Stored, badImage, notHeld, held, Under, refusal, formedBefore, formed, stepsFor, grantedFor}
+use Rattle.request_spec.specs.Promises.{RevokedRefused}
 use Rattle.request_spec.specs.Promises.{withRevoked, RowMoreRefuses, EarlyRowWaits, atClock, StaysRevoked}
 use Rattle.request_spec.proofs.HeldLaws.{decidedBy, decidedIn, decided-in}
 use Rattle.request_spec.proofs.UnderLaws.{all-stored}
@@ -40,7 +42,7 @@ use Rattle.request_spec.proofs.BoundaryLaws.{not-answered, answered}
 module _ (s : List ℕ) (q : Request) (d : Descriptor) (u : Under s (q .id) (held d)) where
   -- where the arguments are well formed and a row revokes the id, the answer is 8
   revoked-answered : formed q ≡ true → revokedNow q ≡ true → numbersOf (decisionOf s q) ≡ refusal 8
-  revoked-answered w l = answered s q d u 8 (λ e. omega arith) (rw (w, l))
+  revoked-answered w l = answered s q d u 8 (λ e. omega arith) (λ e. omega arith) (rw (w, l))
 
   -- and where it is 8 the arguments are well formed
   answered-formed : (t : Bool) → formed q ≡ t → numbersOf (decisionOf s q) ≡ refusal 8 → formed q ≡ true
@@ -61,9 +63,9 @@ pub revoked-refused : RevokedRefused
 revoked-refused s q d u = (
   λ e. (
     answered-formed s q d u (formed q) refl e,
-    revoked-exactly (revocationsOf (q .revoked)) (q .id) (q .clock) .0 (answered-revoked s q d u (revokedNow q) refl e),
+    revoked-exactly (revocationsOf (q .revoked)) (q .id) (secondsOf q) .0 (answered-revoked s q d u (revokedNow q) refl e),
   ),
-  λ p. revoked-answered s q d u (p .0) (revoked-exactly (revocationsOf (q .revoked)) (q .id) (q .clock) .1 (p .1)),
+  λ p. revoked-answered s q d u (p .0) (revoked-exactly (revocationsOf (q .revoked)) (q .id) (secondsOf q) .1 (p .1)),
 )
 
 -- ---- a later clock
@@ -76,18 +78,27 @@ never-eight s q x u k e =
     let o : _≡_ {A = ℕ} 0 8 = sym (granted-zero q x) ∙ sym (ap answerOf (not-by answerOf 8 (stepsFor q x) (grantedFor q x) k z .1)) ∙ z in
     omega (arith, o)
 
+-- well-formed arguments are so at each clock that is not above 2^53
+later-formed : (q : Request) (later : Milliseconds) → later .0 ≤ 2 ^ 53 → formed q ≡ true → formed (atClock q later) ≡ true
+later-formed q later k w =
+    and-both (formedBefore q) _ (and-left (formedBefore q) _ w)
+    (and-both (leb (later .0) (2 ^ 53)) _ (le-leb (later .0) (2 ^ 53) k)
+    (and-right (leb (q .clock .0) (2 ^ 53)) _ (and-right (formedBefore q) _ w)))
+
 -- by what the image holds
-stays : (s : List ℕ) (q : Request) (later : ℕ) (x : Stored) → Under s (q .id) x → q .clock ≤ later → numbersOf (decisionOf s q) ≡ refusal 8
-    → numbersOf (decisionOf s (atClock q later)) ≡ refusal 8
-stays s q later badImage u h e = absurd (never-eight s q badImage u refl e)
-stays s q later notHeld u h e = absurd (never-eight s q notHeld u refl e)
-stays s q later (held d) u h e =
-    revoked-answered s (atClock q later) d u (answered-formed s q d u (formed q) refl e)
-    (later-revoked (revocationsOf (q .revoked)) (q .id) (q .clock) later h (answered-revoked s q d u (revokedNow q) refl e))
+stays : (s : List ℕ) (q : Request) (later : Milliseconds) (x : Stored) → Under s (q .id) x → q .clock .0 ≤ later .0 → later .0 ≤ 2 ^ 53
+    → numbersOf (decisionOf s q) ≡ refusal 8 → numbersOf (decisionOf s (atClock q later)) ≡ refusal 8
+stays s q later badImage u h k e = absurd (never-eight s q badImage u refl e)
+stays s q later notHeld u h k e = absurd (never-eight s q notHeld u refl e)
+stays s q later (held d) u h k e =
+    let w : formed q ≡ true = answered-formed s q d u (formed q) refl e in
+    revoked-answered s (atClock q later) d u (later-formed q later k w)
+    (later-revoked (revocationsOf (q .revoked)) (q .id) (secondsOf q) (later .0 / 1000) (omega arith)
+    (answered-revoked s q d u (revokedNow q) refl e))
 
 -- `StaysRevoked`
 pub stays-revoked : StaysRevoked
-stays-revoked s q later b h e = let k = all-stored s (q .id) b in stays s q later (k .0) (k .1) h e
+stays-revoked s q later b h l e = let k = all-stored s (q .id) b in stays s q later (k .0) (k .1) h l e
 
 -- ---- a row more
 
@@ -100,7 +111,8 @@ behind formed sound there revoked r =
 -- what the steps after the revocation list come to
 abbrev restOf : Request → Facts → Matched → Decision
 restOf q x m =
-    inOrder (descriptorSteps x (q .fay) (q .terminal) (q .clock) m ++ keySteps (q .verdict) (q .window) (q .clock)) (grantedBy q x m)
+    inOrder (descriptorSteps x (q .fay) (q .terminal) (secondsOf q) m
+    ++ (keySteps (q .verdict) (q .window) (secondsOf q) ++ leaseSteps (leaseFor q) (q .clock .0))) (grantedBy q (leaseFor q) x m)
 
 -- the two are the decision
 decided-behind : (q : Request) (sound there : Bool) (x : Facts) (m : Matched)
@@ -178,7 +190,7 @@ module _ (q : Request) (l l′ : List ℕ) (w : wellFormed (withRevoked q l′) 
 module _ (q : Request) (before row after : List ℕ) (h : length before % 24 ≡ 0) (k : length row ≡ 24) where
   -- a list with a row more is well formed where it is without it
   formed-more : wellFormed (withRevoked q (before ++ (row ++ after))) ≡ wellFormed (withRevoked q (before ++ after))
-  unfolding wellFormed
+  unfolding wellFormed argumentsOk
   formed-more =
       let e : length (before ++ (row ++ after)) % 24 ≡ length (before ++ after) % 24 = simp length-append (omega arith) in
       rw e
@@ -187,7 +199,7 @@ module _ (q : Request) (before row after : List ℕ) (h : length before % 24 ≡
 pub row-more-refuses : RowMoreRefuses
 row-more-refuses s q before row after h k =
     elim (more-decided q (before ++ after) (before ++ (row ++ after)) (formed-more q before row after h k) _
-    (row-more before row after (q .id) (q .clock) h k) s) [
+    (row-more before row after (q .id) (secondsOf q) h k) s) [
       | inl a ↦ inl (ap numbersOf a)
       | inr a ↦ inr (ap numbersOf a)
     ]
@@ -195,10 +207,10 @@ row-more-refuses s q before row after h k =
 -- `EarlyRowWaits`
 pub early-row-waits : EarlyRowWaits
 early-row-waits s q before row after h k l =
-    let none : (same (part row 0 16) (q .id) && leb (numberAt row 16 8) (q .clock)) ≡ false
-    = ap (λ (b : Bool). same (part row 0 16) (q .id) && b) (lt-leb (numberAt row 16 8) (q .clock) l)
+    let none : (same (part row 0 16) (q .id) && leb (numberAt row 16 8) (secondsOf q)) ≡ false
+    = ap (λ (b : Bool). same (part row 0 16) (q .id) && b) (lt-leb (numberAt row 16 8) (secondsOf q) l)
     ∙ and-false (same (part row 0 16) (q .id)) in
     ap numbersOf (alike-decided q (before ++ after) (before ++ (row ++ after)) (formed-more q before row after h k)
-    (row-more before row after (q .id) (q .clock) h k
-    ∙ ap (λ (b : Bool). isRevoked (revocationsOf (before ++ after)) (q .id) (q .clock) || b) none
-    ∙ or-false (isRevoked (revocationsOf (before ++ after)) (q .id) (q .clock))) s)
+    (row-more before row after (q .id) (secondsOf q) h k
+    ∙ ap (λ (b : Bool). isRevoked (revocationsOf (before ++ after)) (q .id) (secondsOf q) || b) none
+    ∙ or-false (isRevoked (revocationsOf (before ++ after)) (q .id) (secondsOf q))) s)

@@ -1,9 +1,11 @@
--- The decision of a request, as the code takes it: the steps in document 01's order. These definitions compute. A reader of the
+-- The decision of a request, as the code takes it: the steps in the papers' order. These definitions compute. A reader of the
 -- promises does not need this page.
 use mathlib.Core.Bool.{Bool, true, false, not, cond, _&&_}
 use mathlib.Core.List.{List, [], _∷_, _++_}
+use mathlib.Core.Option.{Option, none, some}
 use Prim.Native.Nat.{ℕ, zero, suc, _+_, _-_, min}
 use lib.ListN.{take, drop}
+use lib.IntN.{pos}
 use lib.Dec.{leb, ltb, eqb}
 use Rattle.resource_spec.specs.Identifier.{faySize, levelsPlace, terminalSize}
 use Rattle.octets.specs.Bytes.{part, same}
@@ -11,9 +13,13 @@ use Rattle.exact.specs.Reads.{got, refused}
 use Rattle.resource_spec.specs.Text.{levelsMatch, levelsNamed}
 use Rattle.descriptor_spec.specs.declared.Fields.{Fields}
 use Rattle.descriptor_spec.specs.Reader.{hasMode, GrantSeen, grantAt}
+use Rattle.time.specs.declared.Margin.{Margin}
+use Rattle.time.specs.Time.{seconds}
 use Rattle.steps.specs.declared.Window.{Window}
 use Rattle.steps.specs.Order.{Step, step, inOrder}
 use Rattle.steps.specs.Key.{bad, noKey, isThat, keyOpen}
+use Rattle.lease_spec.specs.declared.Lease.{Lease}
+use Rattle.lease_spec.specs.Lease.{lastActive, lastStale, isFuture, marginOf}
 use Rattle.image_spec.specs.declared.Held.the-variants.{Missing, Body}
 use Rattle.image_spec.specs.declared.ImageCheck.{ImageCheck}
 use Rattle.image_spec.specs.declared.ImageCheck.the-variants.{Sound, Unsound}
@@ -24,7 +30,7 @@ use Rattle.request_spec.specs.declared.DecisionNumbers.{DecisionNumbers}
 use Rattle.request_spec.specs.declared.Decision.the-variants as answers
 use Rattle.request_spec.specs.declared.Matched.{Matched}
 use Rattle.request_spec.specs.declared.Matched.the-variants.{IsAt, Nothing}
-use Rattle.request_spec.specs.Request.{Request, wellFormed, revokedNow}
+use Rattle.request_spec.specs.Request.{Request, secondsOf, wellFormed, revokedNow, leaseFor}
 
 -- ---- the steps
 
@@ -61,10 +67,31 @@ keySteps verdict window clock =
     ∷ step (not (isThat verdict bad)) answers.BadSignature
     ∷ []
 
--- the steps on a descriptor that was found, by its facts and the grant that is picked
-unfoldable pub laterSteps : Request → Facts → Matched → List (Step Decision)
-laterSteps q x m =
-    revocationSteps q ++ (descriptorSteps x (q .fay) (q .terminal) (q .clock) m ++ keySteps (q .verdict) (q .window) (q .clock))
+-- a test of the lease, where there is one; without a lease it passes
+abbrev pub whereLeased : Option Lease → (Lease → Bool) → Bool
+whereLeased none test = true
+whereLeased (some l) test = test l
+
+-- the margin of the lease, and 0 without one
+abbrev pub marginFor : Option Lease → ℕ → Margin
+marginFor none n = record { 0 = pos 0 }
+marginFor (some l) n = marginOf l n
+
+-- 26, 23, 24 and 25: the lease is revoked, future, stale or expired at the clock n
+unfoldable pub leaseSteps : Option Lease → ℕ → List (Step Decision)
+leaseSteps lease n =
+    step (whereLeased lease (λ l. not (l .revoked))) answers.LeaseRevoked
+    ∷ step (whereLeased lease (λ l. not (isFuture l n))) answers.LeaseFuture
+    ∷ step (whereLeased lease (λ l. not (ltb (lastActive l) n && leb n (lastStale l)))) (answers.LeaseStale (marginFor lease n))
+    ∷ step (whereLeased lease (λ l. not (ltb (lastStale l) n))) answers.LeaseExpired
+    ∷ []
+
+-- the steps on a descriptor that was found, by its lease, its facts and the grant that is picked
+unfoldable pub laterSteps : Request → Option Lease → Facts → Matched → List (Step Decision)
+laterSteps q lease x m =
+    revocationSteps q
+    ++ (descriptorSteps x (q .fay) (q .terminal) (secondsOf q) m
+    ++ (keySteps (q .verdict) (q .window) (secondsOf q) ++ leaseSteps lease (q .clock .0)))
 
 -- all steps: the arguments, the image, that the id is held, and those
 unfoldable pub stepsBy : Request → Bool → Bool → Facts → Matched → List (Step Decision)
@@ -72,20 +99,22 @@ stepsBy q sound held x m =
     step (wellFormed q) answers.Malformed
     ∷ step sound answers.BadImage
     ∷ step held answers.NotFound
-    ∷ laterSteps q x m
+    ∷ laterSteps q (leaseFor q) x m
 
--- granted: the grant's place, its mask, and the session's end, the smaller of not_after and the clock and the session length together
-unfoldable pub grantedBy : Request → Facts → Matched → Decision
-grantedBy q x (IsAt grant mask names) = answers.Granted grant mask (min (x .notAfter) (q .clock + q .session))
-grantedBy q x Nothing = answers.Insufficient
+-- granted: the grant's place, its mask, the session's end, the smaller of not_after and the clock and the session length together; and
+-- the margin of the lease
+unfoldable pub grantedBy : Request → Option Lease → Facts → Matched → Decision
+grantedBy q lease x (IsAt grant mask names) =
+    answers.Granted grant mask (seconds (min (x .notAfter) (secondsOf q + q .session .0))) (marginFor lease (q .clock .0))
+grantedBy q lease x Nothing = answers.Insufficient
 
 -- ---- from the bytes of an image
 
 -- the facts of a body of which f was read
 abbrev pub factsOf : List ℕ → Fields → Facts
 factsOf b f = record {
-  notBefore = f .«not_before»;
-  notAfter = f .«not_after»;
+  notBefore = f .«not_before» .0;
+  notAfter = f .«not_after» .0;
   fay = part b (f .fay) faySize;
   terminal =
       part b (f .terminal) terminalSize;
@@ -124,12 +153,12 @@ matchedOn b f resource mode =
     cond (same (part b (f .terminal) terminalSize) (take terminalSize resource))
     (pickFrom b (drop levelsPlace resource) mode (f .grants) (f .first) 0 Nothing) Nothing
 
--- the decision on a body of which f was read
-unfoldable pub decidedOn : Request → List ℕ → Fields → Decision
-decidedOn q b f =
+-- the decision on a body of which f was read, and which has that lease
+unfoldable pub decidedOn : Request → Option Lease → List ℕ → Fields → Decision
+decidedOn q lease b f =
     let x = factsOf b f in
     let m = matchedOn b f (q .resource) (q .mode) in
-    inOrder (laterSteps q x m) (grantedBy q x m)
+    inOrder (laterSteps q lease x m) (grantedBy q lease x m)
 
 -- the facts of the body that was found
 abbrev pub factsIn : List ℕ → ImageCheck → Facts
@@ -149,17 +178,22 @@ stepsOf s q = let v = checkOf s (q .id) in stepsBy q (isSound v) (isHeld v) (fac
 
 -- the decision: the first failing step's refusal, or granted
 unfoldable pub decisionOf : List ℕ → Request → Decision
-decisionOf s q = let v = checkOf s (q .id) in inOrder (stepsOf s q) (grantedBy q (factsIn s v) (matchedIn s q v))
+decisionOf s q = let v = checkOf s (q .id) in inOrder (stepsOf s q) (grantedBy q (leaseFor q) (factsIn s v) (matchedIn s q v))
 
--- ---- document 01's numbers
+-- ---- the papers' numbers
 
--- a refusal's other numbers are 0
+-- a refusal's other numbers are 0, but for the margin of 24
 abbrev pub refusal : ℕ → DecisionNumbers
-refusal n = record { answer = n; grant = 0; mask = 0; «session_end» = 0 }
+refusal n = record { answer = n; grant = 0; mask = 0; «session_end» = 0; margin = pos 0 }
+
+-- 24: stale, with the margin
+abbrev pub staleWith : Margin → DecisionNumbers
+staleWith m = record { answer = 24; grant = 0; mask = 0; «session_end» = 0; margin = m .0 }
 
 -- the answer, and what is granted
 abbrev pub numbersOf : Decision → DecisionNumbers
-numbersOf (answers.Granted grant mask end) = record { answer = 0; grant = grant; mask = mask; «session_end» = end }
+numbersOf (answers.Granted grant mask end m) =
+    record { answer = 0; grant = grant; mask = mask; «session_end» = end .0; margin = m .0 }
 numbersOf answers.Malformed = refusal 15
 numbersOf answers.BadImage = refusal 16
 numbersOf answers.NotFound = refusal 7
@@ -171,3 +205,7 @@ numbersOf answers.TerminalMismatch = refusal 12
 numbersOf answers.Insufficient = refusal 13
 numbersOf answers.KeyInvalid = refusal 14
 numbersOf answers.BadSignature = refusal 4
+numbersOf answers.LeaseRevoked = refusal 26
+numbersOf answers.LeaseFuture = refusal 23
+numbersOf (answers.LeaseStale m) = staleWith m
+numbersOf answers.LeaseExpired = refusal 25

@@ -10,7 +10,7 @@ use Rattle.steps.specs.Order.{inOrder}
 use Rattle.request_spec.specs.declared.Decision.{Decision}
 use Rattle.request_spec.specs.declared.Matched.{Matched}
 use Rattle.request_spec.specs.declared.Matched.the-variants.{Nothing}
-use Rattle.request_spec.specs.Request.{Request}
+use Rattle.request_spec.specs.Request.{Request, leaseFor}
 use Rattle.request_spec.specs.Decision.{Facts, pickedWith, stepsBy, grantedBy}
 use Rattle.request_spec.specs.Promises.{grantServes, grantNames}
 
@@ -34,4 +34,4 @@ unfoldable pub decidedFor : Request → Descriptor → Decision
 decidedFor q d =
     let x = factsOfDescriptor d in
     let m = pickServing (d .payload .grants) (q .mode) (pathOf (q .resource)) 0 Nothing in
-    inOrder (stepsBy q true true x m) (grantedBy q x m)
+    inOrder (stepsBy q true true x m) (grantedBy q (leaseFor q) x m)

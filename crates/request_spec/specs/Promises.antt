@@ -4,8 +4,10 @@ use mathlib.Core.Logic.{_↔_, _⊎_}
 use mathlib.Core.Bool.{Bool, true, false, not, cond, _&&_, _||_}
 use mathlib.Core.List.{List, [], _∷_, _++_}
 use mathlib.Core.Option.{Option, none, some}
-use Prim.Native.Nat.{ℕ, _+_, _%_, _≤_, _<_, min, max}
+use Prim.Native.Nat.{ℕ, _+_, _/_, _%_, _^_, _≤_, _<_, min, max}
 use lib.ListN.{length, getD}
+use lib.IntN.{ℤ, pos, _-ℤ_}
+use lib.Signed.{_≤ℤ_, _<ℤ_}
 use lib.Dec.{leb, ltb, eqb}
 use Rattle.octets.specs.Bytes.{AreBytes, same}
 use Rattle.octets.specs.Number.{numberAt}
@@ -19,6 +21,11 @@ use Rattle.descriptor_spec.specs.Modes.{unionOf}
 use Rattle.revocation_spec.specs.declared.Revocation.{Revocation}
 use Rattle.revocation_spec.specs.Revocation.{isRevoked, revocationsOf}
 use Rattle.revocation_spec.specs.Promises.{IsRow}
+use Rattle.lease_spec.specs.declared.Lease.{Lease}
+use Rattle.lease_spec.specs.Table.{Row as LeaseRow, tableBytes, rowsOf, leaseUnder, tableOk}
+use Rattle.lease_spec.specs.Promises.{activeEnd, staleEnd, withSync, AreRows}
+use Rattle.time.specs.declared.Seconds.{Seconds}
+use Rattle.time.specs.declared.Milliseconds.{Milliseconds}
 use Rattle.steps.specs.declared.Window.{Window}
 use Rattle.steps.specs.Order.{Step, step, inOrder, AllPass, FirstFails}
 use Rattle.image_spec.specs.Image.{Row, rowOf}
@@ -32,8 +39,9 @@ use Rattle.request_spec.specs.Decision.{decisionOf, numbersOf}
 
 -- the arguments of the call, in its order
 abbrev pub ArgumentsInOrder : Type 0
-ArgumentsInOrder = (id fay terminal resource : List ℕ) (mode clock session : ℕ) (revoked : List ℕ) (verdict : ℕ) (window : Window)
-    → requestOf id fay terminal resource mode clock session revoked verdict window
+ArgumentsInOrder = (id fay terminal resource : List ℕ) (mode : ℕ) (clock : Milliseconds) (session : Seconds) (revoked leases : List ℕ)
+    (verdict : ℕ) (window : Window)
+    → requestOf id fay terminal resource mode clock session revoked leases verdict window
     ≡ record {
       id = id;
       fay = fay;
@@ -43,6 +51,7 @@ ArgumentsInOrder = (id fay terminal resource : List ℕ) (mode clock session : �
       clock = clock;
       session = session;
       revoked = revoked;
+      leases = leases;
       verdict = verdict;
       window = window;
     }
@@ -75,21 +84,33 @@ Under s id (held d) = (rs : List Row) × Holds s rs × Among rs id d
 abbrev pub AllStored : Type 0
 AllStored = (s id : List ℕ) → AreBytes s → (x : Stored) × Under s id x
 
--- ---- the steps in document 01's order, with their numbers
+-- ---- the steps in the papers' order, with their numbers
+
+-- the clock in seconds: milliseconds divided by 1,000, rounded down
+abbrev pub secondsOf : Request → ℕ
+secondsOf q = q .clock .0 / 1000
 
 -- a refusal's other numbers are 0
 abbrev pub refusal : ℕ → DecisionNumbers
-refusal n = record { answer = n; grant = 0; mask = 0; «session_end» = 0 }
+refusal n = record { answer = n; grant = 0; mask = 0; «session_end» = 0; margin = pos 0 }
 
--- the arguments are well formed: the verdict is not above 2, the mode not above 3, the id 16 bytes; the fay, terminal and resource ids
--- are well formed, the last at most 256 bytes; the revocation list is a multiple of 24
-abbrev pub formed : Request → Bool
-formed q =
+-- but for 24, which has a margin
+abbrev pub staleWith : ℤ → DecisionNumbers
+staleWith margin = record { answer = 24; grant = 0; mask = 0; «session_end» = 0; margin = margin }
+
+-- the arguments but for the clock and the lease table are well formed: the verdict is not above 2, the mode not above 3, the id 16 bytes;
+-- the fay, terminal and resource ids are well formed, the last at most 256 bytes; the revocation list is a multiple of 24
+abbrev pub formedBefore : Request → Bool
+formedBefore q =
     leb (q .verdict) 2
     && (leb (q .mode) 3
     && (eqb (length (q .id)) 16
     && (isFay (q .fay)
     && (isTerminal (q .terminal) && ((leb (length (q .resource)) 256 && isResource (q .resource)) && eqb (length (q .revoked) % 24) 0)))))
+
+-- the arguments are well formed: those, the clock is not above 2^53, and the lease table is one
+abbrev pub formed : Request → Bool
+formed q = formedBefore q && (leb (q .clock .0) (2 ^ 53) && tableOk (q .leases))
 
 -- a grant serves: it has the mode, a matching pattern and no constraint pair
 abbrev pub grantServes : Grant → ℕ → Path → Bool
@@ -102,29 +123,60 @@ someServes (g ∷ gs) m x = grantServes g m x || someServes gs m x
 
 -- the key is valid: not before valid_from and, where there is a valid_until, not after it
 abbrev pub keyValid : Window → ℕ → Bool
-keyValid window clock = leb (window .from) clock && (not (window .bounded) || leb clock (window .until))
+keyValid window clock = leb (window .from .0) clock && (not (window .bounded) || leb clock (window .until .0))
 
--- the steps where the descriptor d is held under the id, by whether a grant is found in step 13
-abbrev pub stepsOn : Request → Descriptor → Bool → List (Step DecisionNumbers)
-stepsOn q d found =
-    step (formed q) (refusal 15)
+-- the steps up to the signature where the descriptor d is held under the id, by whether the arguments are well formed, and whether a
+-- grant is found in step 13
+abbrev pub stepsOn : Bool → Request → Descriptor → Bool → List (Step DecisionNumbers)
+stepsOn ok q d found =
+    step ok (refusal 15)
     ∷ step true (refusal 16)
     ∷ step true (refusal 7)
-    ∷ step (not (isRevoked (revocationsOf (q .revoked)) (q .id) (q .clock))) (refusal 8)
-    ∷ step (leb (d .payload .notBefore) (q .clock)) (refusal 9)
-    ∷ step (ltb (q .clock) (d .payload .notAfter)) (refusal 10)
+    ∷ step (not (isRevoked (revocationsOf (q .revoked)) (q .id) (secondsOf q))) (refusal 8)
+    ∷ step (leb (d .payload .notBefore) (secondsOf q)) (refusal 9)
+    ∷ step (ltb (secondsOf q) (d .payload .notAfter)) (refusal 10)
     ∷ step (same (d .payload .fay) (q .fay)) (refusal 11)
     ∷ step (same (d .payload .terminal) (q .terminal)) (refusal 12)
     ∷ step found (refusal 13)
-    ∷ step (not (eqb (q .verdict) 2) && keyValid (q .window) (q .clock)) (refusal 14)
+    ∷ step (not (eqb (q .verdict) 2) && keyValid (q .window) (secondsOf q)) (refusal 14)
     ∷ step (not (eqb (q .verdict) 1)) (refusal 4)
     ∷ []
 
--- the steps, by what the image holds under the id
+-- the steps up to the signature, by what the image holds under the id
+abbrev pub stepsWith : Bool → Request → Stored → List (Step DecisionNumbers)
+stepsWith ok q badImage = step ok (refusal 15) ∷ step false (refusal 16) ∷ []
+stepsWith ok q notHeld = step ok (refusal 15) ∷ step true (refusal 16) ∷ step false (refusal 7) ∷ []
+stepsWith ok q (held d) = stepsOn ok q d (someServes (d .payload .grants) (q .mode) (pathOf (q .resource)))
+
+-- the lease that the lease table has under the id
+abbrev pub leaseFor : Request → Option Lease
+leaseFor q = leaseUnder (rowsOf (q .leases)) (q .id)
+
+-- a test of the lease; an id without a lease passes
+abbrev pub whereLeased : Option Lease → (Lease → Bool) → Bool
+whereLeased none test = true
+whereLeased (some l) test = test l
+
+-- the margin L + T + E − N of the lease at the clock N; 0 without a lease
+abbrev pub marginAt : Option Lease → ℕ → ℤ
+marginAt none n = pos 0
+marginAt (some l) n = pos (activeEnd l) -ℤ pos n
+
+-- the lease's steps at the clock N: 26 where it is revoked, 23 where N < L − D, 24 where L + T + E < N ≤ L + T + G + E, 25 where
+-- N > L + T + G + E
+abbrev pub leaseSteps : Option Lease → ℕ → List (Step DecisionNumbers)
+leaseSteps lease n =
+    step (whereLeased lease (λ l. not (l .revoked))) (refusal 26)
+    ∷ step (whereLeased lease (λ l. not (ltb (n + l .skew .0) (l .«last_sync» .0)))) (refusal 23)
+    ∷ step (whereLeased lease (λ l. not (ltb (activeEnd l) n && leb n (staleEnd l)))) (staleWith (marginAt lease n))
+    ∷ step (whereLeased lease (λ l. not (ltb (staleEnd l) n))) (refusal 25)
+    ∷ []
+
+-- the steps, by what the image holds under the id: the lease's follow the signature's
 abbrev pub stepsFor : Request → Stored → List (Step DecisionNumbers)
-stepsFor q badImage = step (formed q) (refusal 15) ∷ step false (refusal 16) ∷ []
-stepsFor q notHeld = step (formed q) (refusal 15) ∷ step true (refusal 16) ∷ step false (refusal 7) ∷ []
-stepsFor q (held d) = stepsOn q d (someServes (d .payload .grants) (q .mode) (pathOf (q .resource)))
+stepsFor q badImage = stepsWith (formed q) q badImage
+stepsFor q notHeld = stepsWith (formed q) q notHeld
+stepsFor q (held d) = stepsWith (formed q) q (held d) ++ leaseSteps (leaseFor q) (q .clock .0)
 
 -- how many levels of a path a grant matches by equal names
 abbrev pub grantNames : Grant → Path → ℕ
@@ -153,18 +205,23 @@ firstMask test (g ∷ gs) = cond (test g) (unionOf (g ∷ [])) (firstMask test g
 abbrev pub isPicked : List Grant → ℕ → Path → Grant → Bool
 isPicked gs m x = servesWith (mostNames gs m x) m x
 
--- granted: that grant's place, its mask, and the session's end, the smaller of not_after and now + the host's session length; where the
--- id is not held a step fails, and nothing is granted
-abbrev pub grantedFor : Request → Stored → DecisionNumbers
-grantedFor q badImage = refusal 0
-grantedFor q notHeld = refusal 0
-grantedFor q (held d) =
+-- granted: that grant's place, its mask, the session's end, the smaller of not_after and now + the host's session length, and a margin;
+-- where the id is not held a step fails, and nothing is granted
+abbrev pub grantedWith : ℤ → Request → Stored → DecisionNumbers
+grantedWith margin q badImage = refusal 0
+grantedWith margin q notHeld = refusal 0
+grantedWith margin q (held d) =
     record {
       answer = 0;
       grant = firstPlace (isPicked (d .payload .grants) (q .mode) (pathOf (q .resource))) (d .payload .grants);
       mask = firstMask (isPicked (d .payload .grants) (q .mode) (pathOf (q .resource))) (d .payload .grants);
-      «session_end» = min (d .payload .notAfter) (q .clock + q .session);
+      «session_end» = min (d .payload .notAfter) (secondsOf q + q .session .0);
+      margin = margin;
     }
+
+-- granted, with the margin of the lease
+abbrev pub grantedFor : Request → Stored → DecisionNumbers
+grantedFor q x = grantedWith (marginAt (leaseFor q) (q .clock .0)) q x
 
 -- the numbers that a request is answered, by what the image holds under the id
 abbrev pub answerFor : Request → Stored → DecisionNumbers
@@ -181,14 +238,14 @@ abbrev pub GrantedExactly : Type 0
 GrantedExactly = (s : List ℕ) (q : Request) (x : Stored) → Under s (q .id) x → (numbersOf (decisionOf s q) .answer ≡ 0)
     ↔ AllPass (stepsFor q x)
 
--- and another answer exactly when it is that of the first step that fails
+-- and other numbers exactly when they are those of the first step that fails
 abbrev pub RefusedExactly : Type 0
-RefusedExactly = (s : List ℕ) (q : Request) (x : Stored) (n : ℕ) → Under s (q .id) x → (n ≡ 0 → ⊥)
-    → (numbersOf (decisionOf s q) .answer ≡ n) ↔ FirstFails (stepsFor q x) (refusal n)
+RefusedExactly = (s : List ℕ) (q : Request) (x : Stored) (r : DecisionNumbers) → Under s (q .id) x → (r .answer ≡ 0 → ⊥)
+    → (numbersOf (decisionOf s q) ≡ r) ↔ FirstFails (stepsFor q x) r
 
--- whatever the image is, a refusal's other numbers are 0
+-- whatever the image is, the other numbers of a refusal but 24 are 0
 abbrev pub RefusalsZero : Type 0
-RefusalsZero = (s : List ℕ) (q : Request) → (numbersOf (decisionOf s q) .answer ≡ 0 → ⊥)
+RefusalsZero = (s : List ℕ) (q : Request) → (numbersOf (decisionOf s q) .answer ≡ 0 → ⊥) → (numbersOf (decisionOf s q) .answer ≡ 24 → ⊥)
     → numbersOf (decisionOf s q) ≡ refusal (numbersOf (decisionOf s q) .answer)
 
 -- an image whose image edition or mode edition is another than 1 grants nothing; it is answered 16, where the arguments are well formed
@@ -222,7 +279,7 @@ GrantedGives = (s : List ℕ) (q : Request) → AreBytes s → numbersOf (decisi
     → (d : Descriptor) × Under s (q .id) (held d)
     × ((g : Grant) × Picked (d .payload .grants) (q .mode) (pathOf (q .resource)) (numbersOf (decisionOf s q) .grant) g
     × (numbersOf (decisionOf s q) .mask ≡ unionOf (g ∷ [])))
-    × (numbersOf (decisionOf s q) .«session_end» ≡ min (d .payload .notAfter) (q .clock + q .session))
+    × (numbersOf (decisionOf s q) .«session_end» ≡ min (d .payload .notAfter) (secondsOf q + q .session .0))
 
 -- ---- document 01's rule, which document 02 amends
 
@@ -241,7 +298,8 @@ abbrev pub answerBefore : Request → Stored → ℕ
 answerBefore q badImage = answerFor q badImage .answer
 answerBefore q notHeld = answerFor q notHeld .answer
 answerBefore q (held d) =
-    inOrder (stepsOn q d (isThere (firstServing (d .payload .grants) (q .mode) (pathOf (q .resource)) 0))) (refusal 0) .answer
+    inOrder (stepsOn (formed q) q d (isThere (firstServing (d .payload .grants) (q .mode) (pathOf (q .resource)) 0))
+    ++ leaseSteps (leaseFor q) (q .clock .0)) (refusal 0) .answer
 
 -- a request is answered the number that it was answered under that rule; so it is granted exactly when it was
 abbrev pub AnsweredAsBefore : Type 0
@@ -255,12 +313,12 @@ abbrev pub RevokedRefused : Type 0
 RevokedRefused = (s : List ℕ) (q : Request) (d : Descriptor) → Under s (q .id) (held d)
     → (numbersOf (decisionOf s q) ≡ refusal 8)
     ↔ ((formed q ≡ true)
-    × ((r : Revocation) × IsRow r (revocationsOf (q .revoked)) × (r .id ≡ q .id) × (r .moment ≤ q .clock)))
+    × ((r : Revocation) × IsRow r (revocationsOf (q .revoked)) × (r .id ≡ q .id) × (r .moment ≤ secondsOf q)))
 
 -- the same request with another revocation list
 abbrev pub withRevoked : Request → List ℕ → Request
 withRevoked q revoked =
-    requestOf (q .id) (q .fay) (q .terminal) (q .resource) (q .mode) (q .clock) (q .session) revoked (q .verdict) (q .window)
+    requestOf (q .id) (q .fay) (q .terminal) (q .resource) (q .mode) (q .clock) (q .session) revoked (q .leases) (q .verdict) (q .window)
 
 -- a row more, wherever it stands among the others, leaves the answer or makes it 8; so it never turns a refusal into a grant
 abbrev pub RowMoreRefuses : Type 0
@@ -271,33 +329,78 @@ RowMoreRefuses = (s : List ℕ) (q : Request) (before row after : List ℕ) → 
 -- a row whose moment is after now leaves the answer
 abbrev pub EarlyRowWaits : Type 0
 EarlyRowWaits = (s : List ℕ) (q : Request) (before row after : List ℕ) → length before % 24 ≡ 0 → length row ≡ 24
-    → q .clock < numberAt row 16 8
+    → secondsOf q < numberAt row 16 8
     → numbersOf (decisionOf s (withRevoked q (before ++ (row ++ after)))) ≡ numbersOf (decisionOf s (withRevoked q (before ++ after)))
 
 -- the same request at another clock
-abbrev pub atClock : Request → ℕ → Request
+abbrev pub atClock : Request → Milliseconds → Request
 atClock q clock =
-    requestOf (q .id) (q .fay) (q .terminal) (q .resource) (q .mode) clock (q .session) (q .revoked) (q .verdict) (q .window)
+    requestOf (q .id) (q .fay) (q .terminal) (q .resource) (q .mode) clock (q .session) (q .revoked) (q .leases) (q .verdict) (q .window)
 
--- a request that is answered 8 is answered 8 at each later clock
+-- a request that is answered 8 is answered 8 at each later clock that is not above 2^53
 abbrev pub StaysRevoked : Type 0
-StaysRevoked = (s : List ℕ) (q : Request) (later : ℕ) → AreBytes s → q .clock ≤ later → numbersOf (decisionOf s q) ≡ refusal 8
+StaysRevoked = (s : List ℕ) (q : Request) (later : Milliseconds) → AreBytes s → q .clock .0 ≤ later .0 → later .0 ≤ 2 ^ 53
+    → numbersOf (decisionOf s q) ≡ refusal 8
     → numbersOf (decisionOf s (atClock q later)) ≡ refusal 8
+
+-- ---- leases
+
+-- a request for an id without a lease is answered as it was before there were leases: the steps up to the signature, at the clock in
+-- seconds, and margin 0; where the clock is not above 2^53 and the lease table is one
+abbrev pub WithoutLease : Type 0
+WithoutLease = (s : List ℕ) (q : Request) (x : Stored) → Under s (q .id) x → q .clock .0 ≤ 2 ^ 53 → tableOk (q .leases) ≡ true
+    → leaseFor q ≡ none → numbersOf (decisionOf s q) ≡ inOrder (stepsWith (formedBefore q) q x) (grantedWith (pos 0) q x)
+
+-- the margin of a grant: 0 without a lease; with a lease L + T + E − N, which is not below zero
+abbrev pub GrantMargin : Type 0
+GrantMargin = (s : List ℕ) (q : Request) → AreBytes s → numbersOf (decisionOf s q) .answer ≡ 0
+    → (leaseFor q ≡ none → numbersOf (decisionOf s q) .margin ≡ pos 0)
+    × ((l : Lease) → leaseFor q ≡ some l
+    → (numbersOf (decisionOf s q) .margin ≡ pos (activeEnd l) -ℤ pos (q .clock .0)) × (pos 0 ≤ℤ numbersOf (decisionOf s q) .margin))
+
+-- the answer 24 has the margin of the lease, which is below zero, and its other numbers are 0
+abbrev pub StaleMargin : Type 0
+StaleMargin = (s : List ℕ) (q : Request) → AreBytes s → numbersOf (decisionOf s q) .answer ≡ 24
+    → (l : Lease) × (leaseFor q ≡ some l) × (numbersOf (decisionOf s q) ≡ staleWith (pos (activeEnd l) -ℤ pos (q .clock .0)))
+    × (numbersOf (decisionOf s q) .margin <ℤ pos 0)
+
+-- the same request with another lease table
+abbrev pub withLeases : Request → List ℕ → Request
+withLeases q leases =
+    requestOf (q .id) (q .fay) (q .terminal) (q .resource) (q .mode) (q .clock) (q .session) (q .revoked) leases (q .verdict) (q .window)
+
+-- the rows of other ids matter to no request: two lease tables that have the same lease under its id decide it alike
+abbrev pub OtherLeases : Type 0
+OtherLeases = (s : List ℕ) (q : Request) (t u : List ℕ) → AreBytes s → tableOk t ≡ true → tableOk u ≡ true
+    → leaseUnder (rowsOf t) (q .id) ≡ leaseUnder (rowsOf u) (q .id)
+    → numbersOf (decisionOf s (withLeases q t)) ≡ numbersOf (decisionOf s (withLeases q u))
+
+-- the answer is 24 or 25
+abbrev pub Faded : DecisionNumbers → Type 0
+Faded r = (r .answer ≡ 24) ⊎ (r .answer ≡ 25)
+
+-- where a row's last sync is an older one, a request that was answered 24 or 25 is answered 24 or 25; so it is not granted
+abbrev pub OlderSync : Type 0
+OlderSync = (s : List ℕ) (q : Request) (before after : List LeaseRow) (r : LeaseRow) (older : ℕ) → AreBytes s
+    → AreRows (before ++ (r ∷ after)) → older ≤ r .lease .«last_sync» .0
+    → Faded (numbersOf (decisionOf s (withLeases q (tableBytes (before ++ (r ∷ after))))))
+    → Faded (numbersOf (decisionOf s
+    (withLeases q (tableBytes (before ++ (record { id = r .id; lease = withSync (r .lease) older } ∷ after))))))
 
 -- ---- both sides of not_before and not_after
 
 -- now = not_before is answered neither 9 nor 10; one second before it 9 is answered, where the steps before pass
 abbrev pub BeginBoundary : Type 0
 BeginBoundary = (s : List ℕ) (q : Request) (d : Descriptor) → Under s (q .id) (held d)
-    → (q .clock ≡ d .payload .notBefore → (numbersOf (decisionOf s q) .answer ≡ 9 → ⊥) × (numbersOf (decisionOf s q) .answer ≡ 10 → ⊥))
-    × (q .clock + 1 ≡ d .payload .notBefore → formed q ≡ true → isRevoked (revocationsOf (q .revoked)) (q .id) (q .clock) ≡ false
+    → (secondsOf q ≡ d .payload .notBefore → (numbersOf (decisionOf s q) .answer ≡ 9 → ⊥) × (numbersOf (decisionOf s q) .answer ≡ 10 → ⊥))
+    × (secondsOf q + 1 ≡ d .payload .notBefore → formed q ≡ true → isRevoked (revocationsOf (q .revoked)) (q .id) (secondsOf q) ≡ false
     → numbersOf (decisionOf s q) ≡ refusal 9)
 
 -- one second before not_after is answered neither 9 nor 10; now = not_after is answered 10, where the steps before pass
 abbrev pub EndBoundary : Type 0
 EndBoundary = (s : List ℕ) (q : Request) (d : Descriptor) → Under s (q .id) (held d)
-    → (q .clock + 1 ≡ d .payload .notAfter → (numbersOf (decisionOf s q) .answer ≡ 9 → ⊥) × (numbersOf (decisionOf s q) .answer ≡ 10 → ⊥))
-    × (q .clock ≡ d .payload .notAfter → formed q ≡ true → isRevoked (revocationsOf (q .revoked)) (q .id) (q .clock) ≡ false
+    → (secondsOf q + 1 ≡ d .payload .notAfter → (numbersOf (decisionOf s q) .answer ≡ 9 → ⊥) × (numbersOf (decisionOf s q) .answer ≡ 10 → ⊥))
+    × (secondsOf q ≡ d .payload .notAfter → formed q ≡ true → isRevoked (revocationsOf (q .revoked)) (q .id) (secondsOf q) ≡ false
     → numbersOf (decisionOf s q) ≡ refusal 10)
 
 -- ---- with submission

@@ -4,7 +4,7 @@ use Prim.Native.Nat.{_+_, _*_, min}
 use native.Mathlib.Omega.{arith}
 use Rattle.time.specs.declared.Seconds.{Seconds}
 use Rattle.time.specs.declared.Milliseconds.{Milliseconds}
-use Rattle.time.specs.Time.{seconds, milliseconds, perSecond, mostHeld, wholeSeconds, inMilliseconds, plusAtMost}
+use Rattle.time.specs.Time.{seconds, milliseconds, perSecond, mostHeld, inMilliseconds, plusAtMost}
 use Rattle.time.specs.Promises.{RoundedDown, ScaledExactly, SmallScaled, ThereAndBack}
 
 -- ---- for the functions
@@ -22,7 +22,6 @@ sum t more end r e = ap seconds e
 -- ---- the promises
 
 pub rounded-down : RoundedDown
-unfolding wholeSeconds
 rounded-down t = (omega arith, omega arith)
 
 pub scaled-exactly : ScaledExactly
@@ -34,5 +33,5 @@ unfolding inMilliseconds
 small-scaled t h = omega (arith, h)
 
 pub there-and-back : ThereAndBack
-unfolding wholeSeconds inMilliseconds
+unfolding inMilliseconds
 there-and-back t h = ap seconds (omega (arith, h))

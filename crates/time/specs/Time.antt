@@ -20,7 +20,7 @@ abbrev pub mostHeld : ℕ
 mostHeld = 18446744073709551615
 
 -- the whole seconds of milliseconds, rounded down
-unfoldable pub wholeSeconds : Milliseconds → Seconds
+abbrev pub wholeSeconds : Milliseconds → Seconds
 wholeSeconds t = seconds (t .0 / perSecond)
 
 -- seconds in milliseconds, or the most that 64 bits hold where that is less

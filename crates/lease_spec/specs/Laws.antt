@@ -1,0 +1,23 @@
+-- What the crates above stand on beyond the promises. A reader of the promises does not need this page.
+use mathlib.Core.Path.{_≡_}
+use mathlib.Core.Bool.{true}
+use mathlib.Core.List.{List, _∷_, _++_}
+use Prim.Native.Nat.{ℕ, _≤_}
+use Rattle.lease_spec.specs.declared.Lease.{Lease}
+use Rattle.lease_spec.specs.declared.LeaseFound.the-variants.{Found}
+use Rattle.lease_spec.specs.Lease.{leaseOk}
+use Rattle.lease_spec.specs.Table.{Row, tableBytes, tableOk, findIn}
+use Rattle.lease_spec.specs.Promises.{AreRows, withSync}
+
+-- the bytes of allowed rows with different ids are a lease table
+abbrev pub BytesTable : Type 0
+BytesTable = (rs : List Row) → AreRows rs → tableOk (tableBytes rs) ≡ true
+
+-- rows stay such rows where one gets an older sync
+abbrev pub OlderRows : Type 0
+OlderRows = (before after : List Row) (r : Row) (older : ℕ) → AreRows (before ++ (r ∷ after)) → older ≤ r .lease .«last_sync» .0
+    → AreRows (before ++ (record { id = r .id; lease = withSync (r .lease) older } ∷ after))
+
+-- a lease that is found is within the limits
+abbrev pub FoundWithin : Type 0
+FoundWithin = (s id : List ℕ) (l : Lease) → findIn s id ≡ Found l → leaseOk l ≡ true

@@ -1,0 +1,5 @@
+pub mod Lease
+pub mod Table
+pub mod Promises
+pub mod Cases
+pub mod Laws

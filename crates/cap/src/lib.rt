@@ -10,6 +10,7 @@ use narrowing::NarrowingNumbers;
 use request::DecisionNumbers;
 use request::Environment;
 use resource::MatchingNumbers;
+use time::Milliseconds;
 use time::Seconds;
 ghost use mathlib.Core.Path.{_≡_};
 ghost use Rattle.octets.specs.Bytes.{AreBytes};
@@ -23,6 +24,7 @@ ghost use Rattle.image_spec.specs.Check as images;
 ghost use Rattle.image_spec.specs.NewImage as creations;
 ghost use Rattle.image_spec.specs.Edition1 as edition1;
 ghost use Rattle.submission_spec.specs.Submission as submissions;
+ghost use Rattle.time.specs.Time.{seconds, milliseconds};
 ghost use Rattle.request_spec.specs.Request.{requestOf};
 ghost use Rattle.request_spec.specs.Decision as requests;
 ghost use Rattle.narrowing_spec.specs.Narrow as narrowings;
@@ -113,23 +115,25 @@ pub extern "C" fn cap_request(
     terminal: &[u8],
     resource: &[u8],
     mode: u64,
-    clock: u64,
+    now_ms: u64,
     session_length: u64,
     revoked: &[u8],
+    leases: &[u8],
     verdict: u64,
     valid_from: u64,
     has_valid_until: u64,
     valid_until: u64,
 ) -> DecisionNumbers
     ensures answer { λ r. ⌜ r ≡ requests.numbersOf (requests.decisionOf (now (image .entry))
-        (requestOf (now (id .entry)) (now (fay .entry)) (now (terminal .entry)) (now (resource .entry)) mode clock «session_length»
-        (now (revoked .entry)) verdict (windowOf «valid_from» «has_valid_until» «valid_until»))) ⌝ }
+        (requestOf (now (id .entry)) (now (fay .entry)) (now (terminal .entry)) (now (resource .entry)) mode
+        (milliseconds «now_ms») (seconds «session_length») (now (revoked .entry)) (now (leases .entry)) verdict (windowOf «valid_from» «has_valid_until» «valid_until»))) ⌝ }
     ensures lent { λ _. ⌜ AreBytes (now (image .entry)) × AreBytes (now (id .entry)) × AreBytes (now (fay .entry))
-        × AreBytes (now (terminal .entry)) × AreBytes (now (resource .entry)) × AreBytes (now (revoked .entry)) ⌝ }
+        × AreBytes (now (terminal .entry)) × AreBytes (now (resource .entry)) × AreBytes (now (revoked .entry))
+        × AreBytes (now (leases .entry)) ⌝ }
 {
     let environment = Environment {
-        clock,
-        session: session_length,
+        clock: Milliseconds(now_ms),
+        session: Seconds(session_length),
         verdict,
         window: numbers::window(valid_from, has_valid_until, valid_until),
     };
@@ -141,6 +145,7 @@ pub extern "C" fn cap_request(
         resource,
         mode,
         revoked,
+        leases,
         environment,
     );
     numbers::of_decision(decision)

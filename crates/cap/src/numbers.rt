@@ -17,6 +17,7 @@ use resource::Matching;
 use resource::MatchingNumbers;
 use steps::Window;
 use submission::Submission;
+use time::Margin;
 use time::Seconds;
 ghost use mathlib.Core.Path.{_≡_};
 ghost use Rattle.cbor_item_spec.specs.Item as items;
@@ -262,12 +263,12 @@ pub(crate) fn of_decision(decision: Decision) -> DecisionNumbers
     ensures { λ r. ⌜ r ≡ requests.numbersOf decision ⌝ }
 {
     match decision {
-        Decision::Granted { grant, mask, end } => DecisionNumbers {
-            answer: 0,
+        Decision::Granted {
             grant,
             mask,
-            session_end: end,
-        },
+            end,
+            margin,
+        } => granted(grant, mask, end, margin),
         Decision::Malformed => refused(15),
         Decision::BadImage => refused(16),
         Decision::NotFound => refused(7),
@@ -279,6 +280,23 @@ pub(crate) fn of_decision(decision: Decision) -> DecisionNumbers
         Decision::Insufficient => refused(13),
         Decision::KeyInvalid => refused(14),
         Decision::BadSignature => refused(4),
+        Decision::LeaseRevoked => refused(26),
+        Decision::LeaseFuture => refused(23),
+        Decision::LeaseStale(margin) => stale(margin),
+        Decision::LeaseExpired => refused(25),
+    }
+}
+
+// Those of a granted request.
+fn granted(grant: u64, mask: u64, end: Seconds, margin: Margin) -> DecisionNumbers
+    ensures { λ r. ⌜ r ≡ requests.grantedNumbers grant mask end margin ⌝ }
+{
+    DecisionNumbers {
+        answer: 0,
+        grant,
+        mask,
+        session_end: end.0,
+        margin: margin.0,
     }
 }
 
@@ -291,6 +309,20 @@ fn refused(answer: u64) -> DecisionNumbers
         grant: 0,
         mask: 0,
         session_end: 0,
+        margin: 0,
+    }
+}
+
+// Those of a request that is refused for a stale lease.
+fn stale(margin: Margin) -> DecisionNumbers
+    ensures { λ r. ⌜ r ≡ requests.staleWith margin ⌝ }
+{
+    DecisionNumbers {
+        answer: 24,
+        grant: 0,
+        mask: 0,
+        session_end: 0,
+        margin: margin.0,
     }
 }
 

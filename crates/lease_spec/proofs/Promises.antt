@@ -1,6 +1,6 @@
 -- The promises of specs/Promises.antt, each from its law. Assumes nothing.
 use Rattle.lease_spec.specs.Promises.{StateExactly, OutsideExactly, MarginExact, MarginSign, MarginFits, OlderSync, LaterClock}
-use Rattle.lease_spec.specs.Promises.{RowExactly, TableExactly, RowsBack, FoundExactly, MissingExactly, MalformedExactly}
+use Rattle.lease_spec.specs.Promises.{RowExactly, RowShort, RowLaidOut, TableExactly, RowsBack, FoundExactly, MissingExactly, MalformedExactly}
 use Rattle.lease_spec.proofs.MarginLaws as margin
 use Rattle.lease_spec.proofs.StateLaws as state
 use Rattle.lease_spec.proofs.RowLaws as row
@@ -37,6 +37,12 @@ later-clock = state.later-clock
 
 pub row-exactly : RowExactly
 row-exactly = row.row-exactly
+
+pub row-short : RowShort
+row-short = row.row-short
+
+pub row-laid-out : RowLaidOut
+row-laid-out = row.row-laid-out
 
 pub table-exactly : TableExactly
 table-exactly = table.table-exactly

@@ -8,20 +8,20 @@ use native.Mathlib.Omega.{arith}
 use lib.ListN.{length, take, drop, getD, length-append}
 use lib.Seq.{take-at, drop-at, getD-take, getD-drop}
 use lib.Dec.{leb, eqb}
-use borrow.Author.Tests.{leb-true, eqb-true, le-leb, lt-leb, eq-eqb}
+use borrow.Author.Tests.{leb-true, eqb-true, le-leb, lt-leb}
 use Rattle.octets.specs.Bytes.{AreBytes, part, Has}
 use Rattle.octets.specs.Number.{bigEndian, numberAt}
 use Rattle.octets.proofs.BytesLaws.{all-has, has-all, has-left, has-after, has-both, has-part, part-has}
 use Rattle.octets.proofs.NumberLaws.{length-bigEndian, number-of-has, has-of-number}
 use Rattle.octets.proofs.PartLaws.{part-part, part-bytes}
-use Rattle.octets.proofs.Tests.{and-left, and-right, and-both}
+use Rattle.octets.proofs.Tests.{and-left, and-right}
 use Rattle.descriptor_spec.specs.Allowed.{idSize}
 use Rattle.lease_spec.specs.declared.Lease.{Lease}
 use Rattle.lease_spec.specs.declared.LeaseRow.the-variants.{IsRow, NoRow}
 use Rattle.lease_spec.specs.Lease.{leaseOk}
 use Rattle.lease_spec.specs.Table.{Row, leaseSize, flagPlace, flagWidth, zeroPlace, zeroWidth, lastSyncPlace, ttlPlace, gracePlace}
 use Rattle.lease_spec.specs.Table.{skewPlace, tolerancePlace, numberWidth, flagOf, rowBytes, leaseAt, rowOk, leaseRead, rowAt}
-use Rattle.lease_spec.specs.Promises.{Allowed, RowExactly}
+use Rattle.lease_spec.specs.Promises.{Within, Allowed, RowExactly, RowShort, numbersOf, RowLaidOut}
 use Rattle.lease_spec.proofs.StateLaws.{ok-within, within-ok}
 
 -- ---- a row depends on its 64 bytes alone
@@ -133,8 +133,8 @@ flag-back : (b : Bool) → eqb (flagOf b) 1 ≡ b
 flag-back true = refl
 flag-back false = refl
 
--- a flag is 0 or 1
-flag-small : (b : Bool) → flagOf b ≤ 1
+-- a flag fits one byte
+flag-small : (b : Bool) → flagOf b < 256
 flag-small true = omega arith
 flag-small false = omega arith
 
@@ -144,57 +144,65 @@ flag-forth zero h = refl
 flag-forth (suc zero) h = refl
 flag-forth (suc (suc n)) h = absurd (omega arith)
 
+-- a flag, seven zero bytes and a lease within the limits may stand
+ok-back : (s : List ℕ) (b : Bool) → numberAt s flagPlace flagWidth ≡ flagOf b → numberAt s zeroPlace zeroWidth ≡ 0
+    → leaseOk (leaseAt s 0) ≡ true → rowOk s 0 ≡ true
+unfolding rowOk
+ok-back s true flag zeros ok = rw (flag, zeros, ok)
+ok-back s false flag zeros ok = rw (flag, zeros, ok)
+
+-- and where a row may stand there are such
+ok-says : (s : List ℕ) → rowOk s 0 ≡ true
+    → (numberAt s flagPlace flagWidth ≤ 1) × (numberAt s zeroPlace zeroWidth ≡ 0) × Within (leaseAt s 0)
+unfolding rowOk
+ok-says s e =
+    let flag = numberAt s flagPlace flagWidth in
+    let zeros = numberAt s zeroPlace zeroWidth in
+    let f = and-right (leb flag 1) (eqb zeros 0 && leaseOk (leaseAt s 0)) e in (
+      leb-true flag 1 (and-left (leb flag 1) _ e),
+      eqb-true zeros 0 (and-left (eqb zeros 0) _ f),
+      ok-within (leaseAt s 0) (and-right (eqb zeros 0) _ f),
+    )
+
 -- the bytes of an allowed row may stand, and are read as the row
 row-back : (s : List ℕ) (r : Row) → Allowed r → s ≡ rowBytes r → (rowOk s 0 ≡ true) × (rowAt s 0 ≡ r)
-unfolding rowOk rowAt leaseAt
+unfolding rowAt leaseAt
 row-back s r a e =
     let l = r .lease in
     let w = a .within in
-    let first = numberAt s flagPlace flagWidth in
-    let second = numberAt s zeroPlace zeroWidth in
     let size : length s ≡ leaseSize = ap length e ∙ row-length r (a .size) in
     let f = has-fields s r (a .size) (subst (Has s 0) e (all-has s)) in
-    let flag : first ≡ flagOf (l .revoked)
-    = number-of-has s flagPlace flagWidth _ (omega (arith, flag-small (l .revoked))) (omega arith) (f .flag) in
-    let zeros : second ≡ 0 = number-of-has s zeroPlace zeroWidth 0 (omega arith) (omega arith) (f .zeros) in
+    let id : part s 0 idSize ≡ r .id = ap (part s 0) (sym (a .size)) ∙ has-part s 0 (r .id) (f .id) in
+    let flag = number-of-has s flagPlace flagWidth (flagOf (l .revoked)) (flag-small (l .revoked)) (omega arith) (f .flag) in
+    let zeros = number-of-has s zeroPlace zeroWidth 0 (omega arith) (omega arith) (f .zeros) in
     let sync = number-of-has s lastSyncPlace numberWidth _ (omega (arith, w .sync)) (omega arith) (f .sync) in
     let ttl = number-of-has s ttlPlace numberWidth _ (omega (arith, w .ttl)) (omega arith) (f .ttl) in
     let grace = number-of-has s gracePlace numberWidth _ (omega (arith, w .grace)) (omega arith) (f .grace) in
     let skew = number-of-has s skewPlace numberWidth _ (omega (arith, w .skew)) (omega arith) (f .skew) in
     let tolerance = number-of-has s tolerancePlace numberWidth _ (omega (arith, w .tolerance)) (omega arith) (f .tolerance) in
-    let lease : leaseAt s 0 ≡ l = rw (flag, sync, ttl, grace, skew, tolerance, flag-back (l .revoked)) in
-    let id : part s 0 idSize ≡ r .id = ap (part s 0) (sym (a .size)) ∙ has-part s 0 (r .id) (f .id) in (
-      and-both (leb first 1) _ (le-leb first 1 (omega (arith, flag, flag-small (l .revoked))))
-          (and-both (eqb second 0) (leaseOk (leaseAt s 0)) (eq-eqb second 0 zeros) (ap leaseOk lease ∙ within-ok l w)),
+    let lease : leaseAt s 0 ≡ l = rw (flag, sync, ttl, grace, skew, tolerance, flag-back (l .revoked)) in (
+      ok-back s (l .revoked) flag zeros (ap leaseOk lease ∙ within-ok l w),
       ap₂ (λ (i : List ℕ) (m : Lease). record { id = i; lease = m }) id lease,
     )
 
 -- and 64 bytes that may stand are those of the row that they are read as, which is allowed
 row-stands : (s : List ℕ) → AreBytes s → length s ≡ leaseSize → rowOk s 0 ≡ true → Allowed (rowAt s 0) × (s ≡ rowBytes (rowAt s 0))
-unfolding rowOk rowAt leaseAt
+unfolding rowAt leaseAt
 row-stands s b size e =
-    let flag = numberAt s flagPlace flagWidth in
-    let zeros = numberAt s zeroPlace zeroWidth in
     let r = rowAt s 0 in
-    let e₁ = and-right (leb flag 1) (eqb zeros 0 && leaseOk (leaseAt s 0)) e in
-    let small : flag ≤ 1 = leb-true flag 1 (and-left (leb flag 1) _ e) in
-    let none : zeros ≡ 0 = eqb-true zeros 0 (and-left (eqb zeros 0) _ e₁) in
+    let ok = ok-says s e in
     let id = part-has s 0 idSize (omega arith) in
     let f : Fields s r = record {
       id = id .0;
-      flag = rw (flag-forth flag small) (has-of-number s flagPlace flagWidth b (omega arith));
-      zeros = rw none at (has-of-number s zeroPlace zeroWidth b (omega arith));
+      flag = rw (flag-forth (numberAt s flagPlace flagWidth) (ok .0)) (has-of-number s flagPlace flagWidth b (omega arith));
+      zeros = rw (ok .1) at (has-of-number s zeroPlace zeroWidth b (omega arith));
       sync = has-of-number s lastSyncPlace numberWidth b (omega arith);
       ttl = has-of-number s ttlPlace numberWidth b (omega arith);
       grace = has-of-number s gracePlace numberWidth b (omega arith);
       skew = has-of-number s skewPlace numberWidth b (omega arith);
       tolerance = has-of-number s tolerancePlace numberWidth b (omega arith);
     } in (
-      record {
-        size = id .1;
-        bytes = part-bytes s 0 idSize b;
-        within = ok-within (leaseAt s 0) (and-right (eqb zeros 0) (leaseOk (leaseAt s 0)) e₁);
-      },
+      record { size = id .1; bytes = part-bytes s 0 idSize b; within = ok .2 },
       has-all s (rowBytes r) (fields-has s r (id .1) f) (row-length r (id .1) ∙ sym size),
     )
 
@@ -236,8 +244,8 @@ row-exactly before s after l b h = (
       ∙ ap (λ (r : Row). IsRow (r .lease)) (q .1) ∙ ap IsRow (p .2),
 )
 
--- no row is read where the bytes end before it does
-pub row-short : (s : List ℕ) (at : ℕ) → length s < at + leaseSize → leaseRead s at ≡ NoRow
+-- `RowShort`
+pub row-short : RowShort
 unfolding leaseRead
 row-short s at h = rw (lt-leb (at + leaseSize) (length s) h)
 
@@ -253,3 +261,14 @@ pub there-row : (s : List ℕ) (at : ℕ) → AreBytes s → at + leaseSize ≤ 
 there-row s at b h e =
     let row = part s at leaseSize in
     rw (row-part s at) (row-stands row (part-bytes s at leaseSize b) (part-has s at leaseSize h .1) (sym (ok-part s at) ∙ e))
+
+-- the bytes of a row, with its flag written out
+laid-out : (r : Row) (b : Bool) → r .lease .revoked ≡ b
+    → rowBytes r ≡ r .id ++ (bigEndian flagWidth (flagOf b) ++ (bigEndian zeroWidth 0 ++ numbersOf (r .lease)))
+unfolding rowBytes
+laid-out r b e = ap (λ (t : Bool). r .id ++ (bigEndian flagWidth (flagOf t) ++ (bigEndian zeroWidth 0 ++ numbersOf (r .lease)))) e
+
+-- `RowLaidOut`
+pub row-laid-out : RowLaidOut
+unfolding bigEndian
+row-laid-out r = (laid-out r true, laid-out r false)

@@ -152,7 +152,7 @@ outside-exactly l n = (
 -- ---- leases fade
 
 -- a lease that has faded is within the limits, not revoked, and past its last active millisecond
-pub record Faded (l : Lease) (n : ℕ) : Type 0 where
+record Faded (l : Lease) (n : ℕ) : Type 0 where
   pub within : Within l
   pub clock : n ≤ 2 ^ 53
   pub current : l .revoked ≡ false

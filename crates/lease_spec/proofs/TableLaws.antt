@@ -9,7 +9,7 @@ use native.Mathlib.Omega.{arith}
 use lib.ListN.{length, take, drop, length-append}
 use lib.Seq.{take-add, take-at, take-all, drop-at, drop-drop}
 use lib.Dec.{eqb}
-use borrow.Author.Tests.{eqb-true, eq-eqb, not-true}
+use borrow.Author.Tests.{eqb-true, not-true}
 use Rattle.octets.specs.Bytes.{AreBytes, part, same}
 use Rattle.octets.proofs.SameLaws.{same-equal, equal-same, not-same}
 use Rattle.octets.proofs.Tests.{by-cond, and-left, and-right, and-both, or-no-left, or-no-right}
@@ -86,9 +86,7 @@ unfolding tableOk
 table-ok rs a =
     let s = tableBytes rs in
     let whole : length s % leaseSize ≡ 0 = omega (arith, table-length rs a) in
-    let ok : rowsOk s 0 (length s / leaseSize) ≡ true = ap (rowsOk s 0) (table-count rs a) ∙ rows-there s 0 rs a refl .0 in
-    and-both (eqb (length s % leaseSize) 0) _ (eq-eqb (length s % leaseSize) 0 whole)
-    (and-both (rowsOk s 0 (length s / leaseSize)) (idsDiffer (rowsOf s)) ok (ap idsDiffer (rows-back rs a) ∙ ids-differ rs a))
+    rw (whole, table-count rs a, rows-there s 0 rs a refl .0, rows-back rs a, ids-differ rs a)
 
 -- ---- the rows of bytes
 

@@ -1,5 +1,5 @@
--- Source 001's published test vectors, "Test Vectors", and both sides of each line, by computation. The ttl is 86,400 s, the grace 300 s, the
--- skew and the tolerance 5,000 ms. TV-05 has no lease row; a request without a row is promised in `request_spec`.
+-- Source 001's published test vectors, "Test Vectors", and both sides of each line, by computation. The ttl is 86,400 s, the grace 300 s,
+-- the skew and the tolerance 5,000 ms. TV-05 has no lease row; a request without a row is promised in `request_spec`.
 use mathlib.Core.Path.{_≡_}
 use mathlib.Core.Bool.{Bool, true, false}
 use Prim.Native.Nat.{ℕ}

@@ -1,5 +1,5 @@
--- A lease, its limits, its state at a clock, and its margin. Document 02, §4, after source 001, "State Definitions". L is the last sync, T the
--- ttl, G the grace, D the skew, E the tolerance, and N the clock in milliseconds.
+-- A lease, its limits, its state at a clock, and its margin. Document 02, §4, after source 001, "State Definitions". L is the last sync,
+-- T the ttl, G the grace, D the skew, E the tolerance, and N the clock in milliseconds.
 use mathlib.Core.Bool.{Bool, cond, _&&_}
 use Prim.Native.Nat.{ℕ, _+_, _*_}
 use lib.IntN.{pos, _-ℤ_}

@@ -5,15 +5,16 @@ use mathlib.Core.Logic.{_↔_, _⊎_}
 use mathlib.Core.Bool.{true, false}
 use mathlib.Core.List.{List, [], _∷_, _++_}
 use Prim.Native.Nat.{ℕ, _+_, _*_, _^_, _≤_, _<_}
-use lib.ListN.{length}
+use lib.ListN.{length, replicate}
 use lib.IntN.{pos, negsuc, _+ℤ_, _-ℤ_}
 use lib.Signed.{_≤ℤ_, _<ℤ_}
 use Rattle.octets.specs.Bytes.{AreBytes}
+use Rattle.octets.specs.Number.{bigEndian}
 use Rattle.time.specs.declared.Margin.{Margin}
 use Rattle.lease_spec.specs.declared.Lease.{Lease}
 use Rattle.lease_spec.specs.declared.LeaseState.{LeaseState}
 use Rattle.lease_spec.specs.declared.LeaseState.the-variants as states
-use Rattle.lease_spec.specs.declared.LeaseRow.the-variants.{IsRow}
+use Rattle.lease_spec.specs.declared.LeaseRow.the-variants.{IsRow, NoRow}
 use Rattle.lease_spec.specs.declared.LeaseFound.the-variants as finds
 use Rattle.lease_spec.specs.Lease.{marginOf, stateOf}
 use Rattle.lease_spec.specs.Table.{Row, rowBytes, tableBytes, leaseRead, rowsOf, tableOk, findIn}
@@ -123,6 +124,22 @@ AreRows (r ∷ rs) = Allowed r × ((x : Row) → IsIn x rs → x .id ≡ r .id �
 abbrev pub RowExactly : Type 0
 RowExactly = (before s after : List ℕ) (l : Lease) → AreBytes s → length s ≡ 64
     → (leaseRead (before ++ (s ++ after)) (length before) ≡ IsRow l) ↔ ((r : Row) × Allowed r × (r .lease ≡ l) × (s ≡ rowBytes r))
+
+-- and where fewer than 64 bytes are left no row is read
+abbrev pub RowShort : Type 0
+RowShort = (s : List ℕ) (at : ℕ) → length s < at + 64 → leaseRead s at ≡ NoRow
+
+-- the five numbers of a lease, in 8 bytes each, big-endian: L, T, G, D and E
+abbrev pub numbersOf : Lease → List ℕ
+numbersOf l =
+    bigEndian 8 (l .«last_sync» .0)
+    ++ (bigEndian 8 (l .ttl .0) ++ (bigEndian 8 (l .grace .0) ++ (bigEndian 8 (l .skew .0) ++ bigEndian 8 (l .tolerance .0))))
+
+-- the bytes of a row: its id, 1 where the lease is revoked and 0 where it is not, seven bytes 0, and the five numbers
+abbrev pub RowLaidOut : Type 0
+RowLaidOut = (r : Row)
+    → (r .lease .revoked ≡ true → rowBytes r ≡ r .id ++ (1 ∷ (replicate 7 0 ++ numbersOf (r .lease))))
+    × (r .lease .revoked ≡ false → rowBytes r ≡ r .id ++ (0 ∷ (replicate 7 0 ++ numbersOf (r .lease))))
 
 -- bytes are a lease table exactly when they are those of such rows
 abbrev pub TableExactly : Type 0

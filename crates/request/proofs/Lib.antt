@@ -1,4 +1,5 @@
 pub mod SearchCode
 pub mod ArgumentCode
 pub mod DecideCode
+pub mod LeasedCode
 pub mod BodyCode

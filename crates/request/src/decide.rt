@@ -2,77 +2,30 @@
 use crate::Decision;
 use crate::Environment;
 use descriptor::Fields;
-use descriptor_spec::sizes::HIGHEST_MODE;
-use descriptor_spec::sizes::ID_SIZE;
+use lease::LeaseFound;
 use octets::same_bytes;
 use request_spec::Matched;
 use resource_spec::sizes::FAY_SIZE;
 use resource_spec::sizes::LEVELS_PLACE;
 use resource_spec::sizes::TERMINAL_SIZE;
-use revocation_spec::sizes::REVOCATION_SIZE;
+use time::Seconds;
 ghost use mathlib.Core.Path.{_≡_};
 ghost use mathlib.Core.Bool.{true};
-ghost use Prim.Native.Nat.{_+_, _≤_, min};
+ghost use mathlib.Core.List.{[]};
+ghost use Prim.Native.Nat.{_+_, _≤_};
 ghost use lib.ListN.{length};
 ghost use Rattle.resource_spec.specs.Identifier.{terminalSize};
 ghost use Rattle.resource_spec.specs.Text.{resourceOk};
 ghost use Rattle.descriptor_spec.specs.Modes.{highestMode};
-ghost use Rattle.request_spec.specs.Request.{requestOf, wellFormed};
+ghost use Rattle.lease_spec.specs.Lease.{clockOk};
+ghost use Rattle.request_spec.specs.Request.{requestOf};
 ghost use Rattle.request_spec.specs.Decision.{matchedOn, decidedOn};
-ghost use Rattle.request.specs.Code.{BodyFits, applicabilityOf, signedBy};
+ghost use Rattle.request.specs.Code.{BodyFits, FoundFits, leaseIn, applicabilityOf, signedBy};
 
 // What the steps 9 to 13 answer: the grant that is picked, with its mask, or the refusal of the first step that fails.
 pub(crate) enum Applicability {
     Applies { grant: u64, mask: u64 },
     Refused(Decision),
-}
-
-// Whether the arguments are well formed.
-pub(crate) fn well_formed(
-    id: &[u8],
-    fay: &[u8],
-    terminal: &[u8],
-    resource: &[u8],
-    mode: u64,
-    revoked: &[u8],
-    environment: Environment,
-) -> bool
-    ensures { λ r. ⌜ r ≡ wellFormed
-        (requestOf (now (id .entry)) (now (fay .entry)) (now (terminal .entry)) (now (resource .entry)) mode (environment .clock)
-        (environment .session) (now (revoked .entry)) (environment .verdict) (environment .window)) ⌝ }
-{
-    if 2 < environment.verdict {
-        return false;
-    }
-    if HIGHEST_MODE < mode {
-        return false;
-    }
-    if id.len() != ID_SIZE {
-        return false;
-    }
-    if !resource::is_fay(fay) {
-        return false;
-    }
-    if !resource::is_terminal(terminal) {
-        return false;
-    }
-    if !resource::is_resource(resource) {
-        return false;
-    }
-    revoked.len() % REVOCATION_SIZE == 0
-}
-
-// The smaller of not_after and the clock and the session length together, which may be more than a number holds.
-fn session_end(not_after: u64, clock: u64, session: u64) -> u64
-    ensures { λ r. ⌜ r ≡ min «not_after» (clock + session) ⌝ }
-{
-    if not_after <= clock {
-        return not_after;
-    }
-    if session < not_after - clock {
-        return clock + session;
-    }
-    not_after
 }
 
 // The grant of the body that is picked; none where the resource is another terminal's.
@@ -101,16 +54,18 @@ fn check_descriptor(
     terminal: &[u8],
     resource: &[u8],
     mode: u64,
-    clock: u64,
+    clock: Seconds,
 ) -> Applicability
     requires { ⌜ (resourceOk (now resource) ≡ true) × (mode ≤ highestMode) × BodyFits (now body) fields ⌝ }
     ensures { λ r.
-        ⌜ r ≡ applicabilityOf (now (body .entry)) fields (now (fay .entry)) (now (terminal .entry)) (now (resource .entry)) mode clock ⌝ }
+        ⌜ r ≡ applicabilityOf (now (body .entry)) fields (now (fay .entry)) (now (terminal .entry)) (now (resource .entry)) mode (clock .0) ⌝ }
 {
-    if clock < fields.not_before {
+    let begin = fields.not_before;
+    if clock.is_before(begin) {
         return Applicability::Refused(Decision::NotYetValid);
     }
-    if fields.not_after <= clock {
+    let end = fields.not_after;
+    if !clock.is_before(end) {
         return Applicability::Refused(Decision::Expired);
     }
     let f = fields.fay;
@@ -131,11 +86,19 @@ fn check_descriptor(
     }
 }
 
-// The steps 14 and 4, where a grant serves.
-fn signed(grant: u64, mask: u64, not_after: u64, environment: Environment) -> Decision
-    ensures { λ r. ⌜ r ≡ signedBy grant mask «not_after» environment ⌝ }
+// The steps 14 and 4, where a grant serves, and then those of the lease.
+fn signed(
+    grant: u64,
+    mask: u64,
+    not_after: Seconds,
+    found: LeaseFound,
+    environment: Environment,
+) -> Decision
+    requires { ⌜ FoundFits found × (clockOk (environment .clock .0) ≡ true) ⌝ }
+    ensures { λ r. ⌜ r ≡ signedBy grant mask «not_after» found environment ⌝ }
 {
-    let clock = environment.clock;
+    let now = environment.clock;
+    let clock = now.to_seconds();
     let verdict = environment.verdict;
     if verdict == 2 {
         return Decision::KeyInvalid;
@@ -146,14 +109,12 @@ fn signed(grant: u64, mask: u64, not_after: u64, environment: Environment) -> De
     if verdict == 1 {
         return Decision::BadSignature;
     }
-    Decision::Granted {
-        grant,
-        mask,
-        end: session_end(not_after, clock, environment.session),
-    }
+    let end = clock.plus_at_most(environment.session, not_after);
+    crate::leased::leased(found, now, grant, mask, end)
 }
 
-// The steps on a body that was found and of which the fields were read.
+// The steps on a body that was found and of which the fields were read. The lease table was looked at before: what it has under the id is
+// `found`.
 pub(crate) fn on_body(
     body: &[u8],
     fields: Fields,
@@ -163,29 +124,27 @@ pub(crate) fn on_body(
     resource: &[u8],
     mode: u64,
     revoked: &[u8],
+    found: LeaseFound,
     environment: Environment,
 ) -> Decision
-    requires { ⌜ (resourceOk (now resource) ≡ true) × (mode ≤ highestMode) × BodyFits (now body) fields ⌝ }
+    requires { ⌜ (resourceOk (now resource) ≡ true) × (mode ≤ highestMode) × BodyFits (now body) fields
+        × FoundFits found × (clockOk (environment .clock .0) ≡ true) ⌝ }
     ensures { λ r. ⌜ r ≡ decidedOn
         (requestOf (now (id .entry)) (now (fay .entry)) (now (terminal .entry)) (now (resource .entry)) mode (environment .clock)
-        (environment .session) (now (revoked .entry)) (environment .verdict) (environment .window)) (now (body .entry)) fields ⌝ }
+        (environment .session) (now (revoked .entry)) [] (environment .verdict) (environment .window)) (leaseIn found)
+        (now (body .entry)) fields ⌝ }
 {
-    if revocation::is_revoked(revoked, id, environment.clock) {
+    let now = environment.clock;
+    let clock = now.to_seconds();
+    if revocation::is_revoked(revoked, id, clock) {
         return Decision::Revoked;
     }
-    match check_descriptor(
-        body,
-        fields,
-        fay,
-        terminal,
-        resource,
-        mode,
-        environment.clock,
-    ) {
+    match check_descriptor(body, fields, fay, terminal, resource, mode, clock) {
         Applicability::Applies { grant, mask } => signed(
             grant,
             mask,
             fields.not_after,
+            found,
             environment,
         ),
         Applicability::Refused(refusal) => refusal,

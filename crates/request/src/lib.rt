@@ -1,5 +1,7 @@
 // The functions that decide a request. What a decision is and what is promised of it is in `request_spec`.
+mod arguments;
 mod decide;
+mod leased;
 mod search;
 
 use descriptor::Fields;
@@ -8,16 +10,18 @@ use image::ImageCheck;
 pub use request_spec::Decision;
 pub use request_spec::DecisionNumbers;
 use steps::Window;
+use time::Milliseconds;
+use time::Seconds;
 ghost use mathlib.Core.Path.{_≡_};
 ghost use Prim.Native.Nat.{_+_};
 ghost use Rattle.request_spec.specs.Request.{requestOf};
 ghost use Rattle.request_spec.specs.Decision.{decisionOf};
 
-// What the host says beside the request itself: the clock and the session length, in seconds; its verdict on the signature, and the
-// window in which the key is valid.
+// What the host says beside the request itself: the clock and the session length; its verdict on the signature, and the window in which
+// the key is valid.
 pub struct Environment {
-    pub clock: u64,
-    pub session: u64,
+    pub clock: Milliseconds,
+    pub session: Seconds,
     pub verdict: u64,
     pub window: Window,
 }
@@ -31,13 +35,24 @@ pub fn request(
     resource: &[u8],
     mode: u64,
     revoked: &[u8],
+    leases: &[u8],
     environment: Environment,
 ) -> Decision
     ensures { λ r. ⌜ r ≡ decisionOf (now (image .entry))
         (requestOf (now (id .entry)) (now (fay .entry)) (now (terminal .entry)) (now (resource .entry)) mode (environment .clock)
-        (environment .session) (now (revoked .entry)) (environment .verdict) (environment .window)) ⌝ }
+        (environment .session) (now (revoked .entry)) (now (leases .entry)) (environment .verdict) (environment .window)) ⌝ }
 {
-    if !decide::well_formed(id, fay, terminal, resource, mode, revoked, environment) {
+    let found = arguments::check(
+        id,
+        fay,
+        terminal,
+        resource,
+        mode,
+        revoked,
+        leases,
+        environment,
+    );
+    if arguments::is_malformed(found) {
         return Decision::Malformed;
     }
     match image::check(image, id) {
@@ -57,6 +72,7 @@ pub fn request(
                     resource,
                     mode,
                     revoked,
+                    found,
                     environment,
                 )
             }

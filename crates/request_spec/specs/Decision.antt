@@ -14,6 +14,7 @@ use Rattle.resource_spec.specs.Text.{levelsMatch, levelsNamed}
 use Rattle.descriptor_spec.specs.declared.Fields.{Fields}
 use Rattle.descriptor_spec.specs.Reader.{hasMode, GrantSeen, grantAt}
 use Rattle.time.specs.declared.Margin.{Margin}
+use Rattle.time.specs.declared.Seconds.{Seconds}
 use Rattle.time.specs.Time.{seconds}
 use Rattle.steps.specs.declared.Window.{Window}
 use Rattle.steps.specs.Order.{Step, step, inOrder}
@@ -190,10 +191,13 @@ refusal n = record { answer = n; grant = 0; mask = 0; «session_end» = 0; margi
 abbrev pub staleWith : Margin → DecisionNumbers
 staleWith m = record { answer = 24; grant = 0; mask = 0; «session_end» = 0; margin = m .0 }
 
--- the answer, and what is granted
+-- 0: what is granted
+abbrev pub grantedNumbers : ℕ → ℕ → Seconds → Margin → DecisionNumbers
+grantedNumbers grant mask end m = record { answer = 0; grant = grant; mask = mask; «session_end» = end .0; margin = m .0 }
+
+-- the answer, and its numbers
 abbrev pub numbersOf : Decision → DecisionNumbers
-numbersOf (answers.Granted grant mask end m) =
-    record { answer = 0; grant = grant; mask = mask; «session_end» = end .0; margin = m .0 }
+numbersOf (answers.Granted grant mask end m) = grantedNumbers grant mask end m
 numbersOf answers.Malformed = refusal 15
 numbersOf answers.BadImage = refusal 16
 numbersOf answers.NotFound = refusal 7

@@ -1,10 +1,9 @@
 -- `request` meets its contract. Assumes nothing.
 use mathlib.Core.Path.{_≡_, sym, ap, _∙_}
-use mathlib.Core.Bool.{true}
+use mathlib.Core.Bool.{true, false}
 use Prim.Native.Nat.{_+_, _^_, _≤_, _<_}
 use native.Mathlib.Omega.{arith}
 use lib.ListN.{length}
-use borrow.Author.Tests.{not-true, not-false}
 use borrow.Author.Needs.{needs}
 use Rattle.octets.specs.Bytes.{AreBytes}
 use Rattle.octets.proofs.BytesLaws.{are-bytes}
@@ -13,6 +12,8 @@ use Rattle.image_spec.specs.declared.ImageCheck.the-variants.{Sound}
 use Rattle.image_spec.specs.Edition1.{checkOf}
 use Rattle.request_spec.specs.Request.{Request, requestOf, wellFormed}
 use Rattle.request_spec.proofs.Laws.{formed-arguments}
+use Rattle.request.specs.Code.{isMalformed}
+use Rattle.request.proofs.ArgumentCode.{malformed-not, formed-is, formed-clock, lease-found, lease-fits}
 use Rattle.request.proofs.DecideCode.{decide-malformed, decide-unsound, decide-missing, decide-body}
 use Rattle.request.proofs.BodyCode.{held-inside, held-fits}
 use Rattle.request.proofs.request.Statement.{statement}
@@ -20,7 +21,7 @@ use Rattle.request.proofs.request.Tie as tie
 
 -- the way back to where the image is known, and to the start
 abbrev at2 : tie.Else1 → tie.After-shared-slice-known
-at2 c = c .before .before .before .before .before .before .before
+at2 c = c .before .before .before .before .before .before .before .before .before
 
 abbrev at1 : tie.Else1 → tie.Start
 at1 c = at2 c .before
@@ -30,7 +31,7 @@ abbrev asked : tie.Start → Request
 asked s =
     let a = s .args in
     requestOf (a .id .now) (a .fay .now) (a .terminal .now) (a .resource .now) (a .mode) (a .environment .clock)
-    (a .environment .session) (a .revoked .now) (a .environment .verdict) (a .environment .window)
+    (a .environment .session) (a .revoked .now) (a .leases .now) (a .environment .verdict) (a .environment .window)
 
 -- the image is no longer than a number holds
 small : (k : tie.After-shared-slice-known) → length (k .before .args .image .now) < 2 ^ 64
@@ -40,9 +41,13 @@ small k = omega arith
 bytes : (k : tie.After-shared-slice-known) → AreBytes (k .before .args .image .now)
 bytes k = are-bytes (k .before .args .image .now) (k .shared-slice-known .given)
 
+-- what was found in the lease table is not malformed
+unspoilt : (c : tie.Else1) → isMalformed (c .before .before .check .result) ≡ false
+unspoilt c = sym (c .before .is-malformed .ensures) ∙ c .if1 .left
+
 -- the arguments are well formed
 formed : (c : tie.Else1) → wellFormed (asked (at1 c)) ≡ true
-formed c = sym (c .before .well-formed .ensures) ∙ not-false _ (c .if1 .left)
+formed c = formed-is (asked (at1 c)) (c .before .before .check .ensures) (unspoilt c)
 
 -- what the check found
 abbrev before-match : tie.After-held2 → tie.After-held
@@ -57,7 +62,7 @@ checkAnswer : (c : tie.After-held2)
 checkAnswer c =
     let h = before-match c in
     sym (h .held .given .1 ∙ ap (Sound (h .held .given .0 .0) (h .held .given .0 .1 .0)) (c .held2 .given .1))
-    ∙ h .before .before .check .ensures
+    ∙ h .before .before .check2 .ensures
 
 -- the body lies in the image
 inside : (c : tie.After-held2)
@@ -65,7 +70,9 @@ inside : (c : tie.After-held2)
 inside c = held-inside _ _ _ _ _ _ _ (bytes (at2 (before-match c .before .before .before))) (checkAnswer c)
 
 returns : tie.Need-returns
-returns c = decide-malformed _ _ (sym (c .before .well-formed .ensures) ∙ not-true _ (c .if1 .taken))
+returns c =
+    let k = c .before .before in
+    decide-malformed _ _ (malformed-not _ (k .check .ensures) (sym (c .before .is-malformed .ensures) ∙ c .if1 .taken))
 
 add-body : tie.Need-add-body
 add-body c =
@@ -79,28 +86,34 @@ on-body-requires : tie.Need-on-body-requires
 on-body-requires c κs =
     let h = c .before .before in
     let e = before-match h .before .before .before in
-    let w = formed e in
-    (formed-arguments _ w .1, formed-arguments _ w .0, held-fits _ _ _ _ _ _ _ (bytes (at2 e)) (checkAnswer h))
+    let w = formed e in (
+      formed-arguments _ w .1,
+      formed-arguments _ w .0,
+      held-fits _ _ _ _ _ _ _ (bytes (at2 e)) (checkAnswer h),
+      lease-fits (asked (at1 e)) (e .before .before .check .ensures) (unspoilt e),
+      formed-clock (asked (at1 e)) (e .before .before .check .ensures) (unspoilt e),
+    )
 
 returns-2 : tie.Need-returns-2
 returns-2 c =
     let h = c .before .before .before in
     let e = before-match h .before .before .before in
-    decide-body (at1 e .args .image .now) (asked (at1 e)) (formed e) (checkAnswer h) (c .on-body .ensures)
+    decide-body (at1 e .args .image .now) (asked (at1 e)) (formed e) (checkAnswer h)
+    (lease-found (asked (at1 e)) (e .before .before .check .ensures) (unspoilt e)) (c .on-body .ensures)
 
 returns-3 : tie.Need-returns-3
 returns-3 c =
     let h = c .before .before .before in
     let k = h .before .before in
     decide-missing _ _ (formed (k .before))
-    (sym (h .held .given .1 ∙ ap (Sound (h .held .given .0 .0) (h .held .given .0 .1 .0)) (c .enum-told .given .1)) ∙ k .check .ensures)
+    (sym (h .held .given .1 ∙ ap (Sound (h .held .given .0 .0) (h .held .given .0 .1 .0)) (c .enum-told .given .1)) ∙ k .check2 .ensures)
 
 returns-4 : tie.Need-returns-4
-returns-4 c = let k = c .before .before in decide-unsound _ _ (formed (k .before)) (sym (c .enum-told2 .given .1) ∙ k .check .ensures)
+returns-4 c = let k = c .before .before in decide-unsound _ _ (formed (k .before)) (sym (c .enum-told2 .given .1) ∙ k .check2 .ensures)
 
 pub request-spec : {M : Type 1} → statement M
 request-spec =
     tie.close
-    (tie.spec (λ c κs. search needs) returns (λ c κs. search needs) (λ c. search needs) (λ c. search needs) add-body
+    (tie.spec (λ c κs. search needs) (λ c κs. search needs) returns (λ c κs. search needs) (λ c. search needs) (λ c. search needs) add-body
     (λ c. search needs) (λ c. search needs) part-body-end on-body-requires (λ c. search needs) (λ c. search needs)
     returns-2 returns-3 returns-4)

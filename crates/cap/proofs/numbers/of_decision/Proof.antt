@@ -6,7 +6,7 @@ use Rattle.cap.proofs.numbers.of_decision.Statement.{statement}
 use Rattle.cap.proofs.numbers.of_decision.Tie as tie
 
 returns : tie.Need-returns
-returns c = sym (ap numbersOf (c .before .decision .given .1))
+returns c = c .granted .ensures ∙ sym (ap numbersOf (c .before .before .decision .given .1))
 
 returns-2 : tie.Need-returns-2
 returns-2 c = c .refused .ensures ∙ sym (ap numbersOf (c .before .enum-told .given .1))
@@ -41,12 +41,26 @@ returns-11 c = c .refused10 .ensures ∙ sym (ap numbersOf (c .before .enum-told
 returns-12 : tie.Need-returns-12
 returns-12 c = c .refused11 .ensures ∙ sym (ap numbersOf (c .before .enum-told11 .given .1))
 
+returns-13 : tie.Need-returns-13
+returns-13 c = c .refused12 .ensures ∙ sym (ap numbersOf (c .before .enum-told12 .given .1))
+
+returns-14 : tie.Need-returns-14
+returns-14 c = c .refused13 .ensures ∙ sym (ap numbersOf (c .before .enum-told13 .given .1))
+
+returns-15 : tie.Need-returns-15
+returns-15 c = c .stale .ensures ∙ sym (ap numbersOf (c .before .before .decision2 .given .1))
+
+returns-16 : tie.Need-returns-16
+returns-16 c = c .refused14 .ensures ∙ sym (ap numbersOf (c .before .enum-told14 .given .1))
+
 pub of-decision-spec : {M : Type 1} → statement M
 of-decision-spec =
     tie.close
-    (tie.spec (λ c. search needs) (λ c. search needs) (λ c κs. search needs) (λ c. search needs) (λ c κs. search needs)
+    (tie.spec (λ c. search needs) (λ c κs. search needs) (λ c. search needs) (λ c κs. search needs) (λ c. search needs)
+    (λ c κs. search needs) (λ c. search needs) (λ c κs. search needs) (λ c. search needs) (λ c κs. search needs)
     (λ c. search needs) (λ c κs. search needs) (λ c. search needs) (λ c κs. search needs) (λ c. search needs)
     (λ c κs. search needs) (λ c. search needs) (λ c κs. search needs) (λ c. search needs) (λ c κs. search needs)
     (λ c. search needs) (λ c κs. search needs) (λ c. search needs) (λ c κs. search needs) (λ c. search needs)
-    (λ c κs. search needs) (λ c. search needs) (λ c κs. search needs) returns returns-2 returns-3 returns-4 returns-5
-    returns-6 returns-7 returns-8 returns-9 returns-10 returns-11 returns-12)
+    (λ c κs. search needs) (λ c. search needs) (λ c κs. search needs) (λ c. search needs) (λ c κs. search needs)
+    (λ c. search needs) (λ c κs. search needs) returns returns-2 returns-3 returns-4 returns-5 returns-6 returns-7
+    returns-8 returns-9 returns-10 returns-11 returns-12 returns-13 returns-14 returns-15 returns-16)

@@ -5,8 +5,8 @@ use borrow.Author.Tests.{not-true, not-false}
 use borrow.Author.Needs.{needs}
 use Rattle.resource_spec.specs.Identifier.{isFay, isTerminal}
 use Rattle.request.proofs.ArgumentCode.{no-verdict, no-mode, no-id, no-fay, no-terminal, no-resource, list-left}
-use Rattle.request.proofs.decide.well_formed.Statement.{statement}
-use Rattle.request.proofs.decide.well_formed.Tie as tie
+use Rattle.request.proofs.arguments.well_formed.Statement.{statement}
+use Rattle.request.proofs.arguments.well_formed.Tie as tie
 
 -- what the tests on the way say
 well-fay : (e : tie.Else4)

@@ -1,0 +1,3 @@
+pub mod StateCode
+pub mod RowCode
+pub mod IdCode

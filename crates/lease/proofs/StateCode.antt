@@ -1,0 +1,278 @@
+-- Laws of the state of a lease (specs/Lease.antt of `lease_spec`), in the code's own form. Assumes nothing.
+use mathlib.Core.Path.{_≡_, refl, sym, ap, ap₂, _∙_, subst}
+use mathlib.Core.Bool.{Bool, true, false, not, _&&_}
+use Prim.Native.Nat.{ℕ, zero, suc, _+_, _*_, _^_, _≤_, _<_}
+use native.Mathlib.Omega.{arith}
+use lib.IntN.{ℤ, pos, _-ℤ_}
+use lib.Dec.{leb, ltb}
+use mir.Syntax.{w64}
+use mir.Val.{Fits, SFits, toZ, ofZ}
+use mir.ValLaws.{toZ-ofZ}
+use borrow.Author.Tests.{not-true, not-false, ltb-true, ltb-false, leb-true, le-leb, lt-leb}
+use Rattle.octets.proofs.Tests.{by-cond, and-left, and-right}
+use Rattle.time.specs.declared.Margin.{Margin}
+use Rattle.time.specs.declared.Seconds.{Seconds}
+use Rattle.time.specs.declared.Milliseconds.{Milliseconds}
+use Rattle.time.specs.Time.{milliseconds, perSecond, inMilliseconds}
+use Rattle.time.proofs.Promises.{small-scaled}
+use Rattle.lease_spec.specs.declared.Lease.{Lease}
+use Rattle.lease_spec.specs.declared.LeaseState.{LeaseState}
+use Rattle.lease_spec.specs.declared.LeaseState.the-variants as states
+use Rattle.lease_spec.specs.Lease.{latest, lengthEnd, longestSkew, leaseOk, clockOk, lastActive, lastStale, isFuture, marginOf}
+use Rattle.lease_spec.specs.Lease.{stateWithin, stateOf}
+use Rattle.lease_spec.specs.Promises.{Within}
+
+-- ---- tests
+
+-- a number that another is before is not at most that one
+before-leb : (a b : ℕ) {t : Bool} → t ≡ ltb a b → t ≡ true → leb b a ≡ false
+before-leb a b e f = lt-leb b a (ltb-true a b (sym e ∙ f))
+
+-- a number that another is not before is at most that one
+not-before-leb : (a b : ℕ) {t : Bool} → t ≡ ltb a b → t ≡ false → leb b a ≡ true
+not-before-leb a b e f = le-leb b a (ltb-false a b (sym e ∙ f))
+
+-- ---- the limits
+
+module _ (l : Lease) {a : Bool} (ea : a ≡ ltb latest (l .«last_sync» .0)) where
+  -- a lease whose last sync is too late is outside them
+  pub late-sync : a ≡ true → false ≡ leaseOk l
+  unfolding leaseOk
+  late-sync h = rw (before-leb latest (l .«last_sync» .0) ea h)
+
+  module _ (fa : a ≡ false) {b : Bool} (eb : b ≡ ltb (l .ttl .0) lengthEnd) where
+    -- so is one with too long a ttl
+    pub long-ttl : not b ≡ true → false ≡ leaseOk l
+    unfolding leaseOk
+    long-ttl h = rw (not-before-leb latest (l .«last_sync» .0) ea fa, sym eb ∙ not-true b h)
+
+    module _ (fb : not b ≡ false) {c : Bool} (ec : c ≡ ltb (l .grace .0) lengthEnd) where
+      -- and one with too long a grace
+      pub long-grace : not c ≡ true → false ≡ leaseOk l
+      unfolding leaseOk
+      long-grace h = rw (not-before-leb latest (l .«last_sync» .0) ea fa, sym eb ∙ not-false b fb, sym ec ∙ not-true c h)
+
+      module _ (fc : not c ≡ false) {d : Bool} (ed : d ≡ ltb longestSkew (l .skew .0)) where
+        -- and one with too long a skew
+        pub long-skew : d ≡ true → false ≡ leaseOk l
+        unfolding leaseOk
+        long-skew h =
+            rw (
+              not-before-leb latest (l .«last_sync» .0) ea fa,
+              sym eb ∙ not-false b fb,
+              sym ec ∙ not-false c fc,
+              before-leb longestSkew (l .skew .0) ed h,
+            )
+
+        -- of another one the tolerance tells
+        pub tolerance-tells : d ≡ false → {t : Bool} → t ≡ ltb longestSkew (l .tolerance .0) → not t ≡ leaseOk l
+        unfolding leaseOk
+        tolerance-tells fd {t} et =
+            rw (
+              not-before-leb latest (l .«last_sync» .0) ea fa,
+              sym eb ∙ not-false b fb,
+              sym ec ∙ not-false c fc,
+              not-before-leb longestSkew (l .skew .0) ed fd,
+            )
+            (go t refl)
+          where
+            go : (u : Bool) → t ≡ u → not u ≡ leb (l .tolerance .0) longestSkew
+            go true f = sym (before-leb longestSkew (l .tolerance .0) et f)
+            go false f = sym (not-before-leb longestSkew (l .tolerance .0) et f)
+
+-- a lease within the limits has its five numbers within them
+limits : (l : Lease) → leaseOk l ≡ true → Within l
+unfolding leaseOk
+limits l e =
+    let sync = leb (l .«last_sync» .0) latest in
+    let ttl = ltb (l .ttl .0) lengthEnd in
+    let grace = ltb (l .grace .0) lengthEnd in
+    let skew = leb (l .skew .0) longestSkew in
+    let tolerance = leb (l .tolerance .0) longestSkew in
+    let past-sync = and-right sync (ttl && (grace && (skew && tolerance))) e in
+    let past-ttl = and-right ttl (grace && (skew && tolerance)) past-sync in
+    let past-grace = and-right grace (skew && tolerance) past-ttl in
+    record {
+      sync = leb-true (l .«last_sync» .0) latest (and-left sync (ttl && (grace && (skew && tolerance))) e);
+      ttl = ltb-true (l .ttl .0) lengthEnd (and-left ttl (grace && (skew && tolerance)) past-sync);
+      grace = ltb-true (l .grace .0) lengthEnd (and-left grace (skew && tolerance) past-ttl);
+      skew = leb-true (l .skew .0) longestSkew (and-left skew tolerance past-grace);
+      tolerance = leb-true (l .tolerance .0) longestSkew (and-right skew tolerance past-grace);
+    }
+
+-- a clock within its limit is at most the latest moment
+clock-limit : (n : ℕ) → clockOk n ≡ true → n ≤ latest
+unfolding clockOk
+clock-limit n e = leb-true n latest e
+
+-- ---- the moments at which the state changes
+
+-- the clock and the skew have a sum
+pub clock-sum : (l : Lease) (n : ℕ) → leaseOk l ≡ true → clockOk n ≡ true → Fits w64 (n + l .skew .0)
+clock-sum l n ok at = omega (arith, limits l ok, clock-limit n at)
+
+-- a length of time below 2^32 s has 1,000 times as many milliseconds
+scaled : (s : Seconds) (t : Milliseconds) → s .0 < 2 ^ 32 → t ≡ inMilliseconds s → t .0 ≡ s .0 * perSecond
+scaled s t h e = let f : t .0 ≡ inMilliseconds s .0 = ap (λ (x : Milliseconds). x .0) e in omega (arith, small-scaled s h)
+
+module _ (l : Lease) (ok : leaseOk l ≡ true) {t : Milliseconds} (et : t ≡ inMilliseconds (l .ttl)) where
+  -- the last sync and the ttl have a sum
+  pub sync-sum : Fits w64 (l .«last_sync» .0 + t .0)
+  sync-sum = omega (arith, limits l ok, scaled (l .ttl) t (limits l ok .ttl) et)
+
+  -- so have these two and the tolerance
+  pub active-sum : Fits w64 (l .«last_sync» .0 + t .0 + l .tolerance .0)
+  active-sum = omega (arith, limits l ok, scaled (l .ttl) t (limits l ok .ttl) et)
+
+  -- their sum is the last active millisecond
+  pub active-is : milliseconds (l .«last_sync» .0 + t .0 + l .tolerance .0) ≡ milliseconds (lastActive l)
+  unfolding lastActive
+  active-is =
+      ap (λ (n : ℕ). milliseconds (l .«last_sync» .0 + n + l .tolerance .0)) (scaled (l .ttl) t (limits l ok .ttl) et)
+
+  module _ {g : Milliseconds} (eg : g ≡ inMilliseconds (l .grace)) where
+    -- the last sync, the ttl and the grace have a sum
+    pub grace-sum : Fits w64 (l .«last_sync» .0 + t .0 + g .0)
+    grace-sum = omega (arith, limits l ok, scaled (l .ttl) t (limits l ok .ttl) et, scaled (l .grace) g (limits l ok .grace) eg)
+
+    -- so have these three and the tolerance
+    pub stale-sum : Fits w64 (l .«last_sync» .0 + t .0 + g .0 + l .tolerance .0)
+    stale-sum = omega (arith, limits l ok, scaled (l .ttl) t (limits l ok .ttl) et, scaled (l .grace) g (limits l ok .grace) eg)
+
+    -- their sum is the last stale millisecond
+    pub stale-is : milliseconds (l .«last_sync» .0 + t .0 + g .0 + l .tolerance .0) ≡ milliseconds (lastStale l)
+    unfolding lastStale
+    stale-is =
+        ap₂ (λ (m n : ℕ). milliseconds (l .«last_sync» .0 + m + n + l .tolerance .0)) (scaled (l .ttl) t (limits l ok .ttl) et)
+        (scaled (l .grace) g (limits l ok .grace) eg)
+
+-- ---- the margin
+
+-- a number below 2^62 is a signed one of 64 bits
+pos-fits : (n : ℕ) → n < 2 ^ 62 → SFits w64 (pos n)
+pos-fits n h = record { sfits = omega arith }
+
+-- so is the difference of two
+apart-fits : (a b : ℕ) → a < 2 ^ 62 → b < 2 ^ 62 → SFits w64 (pos a -ℤ pos b)
+apart-fits a zero h k = record { sfits = omega arith }
+apart-fits a (suc b) h k =
+    by-cond (SFits w64) (ltb a (suc b)) (λ e. record { sfits = omega arith }) (λ e. record { sfits = omega arith })
+
+-- the number of 64 bits is read back as that number
+read-back : (n : ℕ) → n < 2 ^ 62 → toZ w64 n ≡ pos n
+read-back n h = toZ-ofZ w64 (pos n) (pos-fits n h)
+
+-- what is subtracted are the two numbers
+apart-is : (a b : ℕ) → a < 2 ^ 62 → b < 2 ^ 62 → toZ w64 a -ℤ toZ w64 b ≡ pos a -ℤ pos b
+apart-is a b h k = ap₂ (λ (x y : ℤ). x -ℤ y) (read-back a h) (read-back b k)
+
+-- a margin of so many milliseconds
+abbrev pub marginOfNumber : ℤ → Margin
+marginOfNumber z = record { 0 = z }
+
+module _ (l : Lease) (n : ℕ) (end : Milliseconds) (ok : leaseOk l ≡ true) (at : clockOk n ≡ true)
+    (e : end ≡ milliseconds (lastActive l)) where
+  -- the last active millisecond is below 2^62
+  end-small : end .0 < 2 ^ 62
+  unfolding lastActive
+  end-small = let f : end .0 ≡ lastActive l = ap (λ (x : Milliseconds). x .0) e in omega (arith, limits l ok)
+
+  -- so is the clock
+  clock-small : n < 2 ^ 62
+  clock-small = omega (arith, clock-limit n at)
+
+  -- the last active millisecond is a signed number of 64 bits
+  pub end-fits : SFits w64 (pos (end .0))
+  end-fits = pos-fits (end .0) end-small
+
+  -- so is the clock
+  pub clock-fits : SFits w64 (pos n)
+  clock-fits = pos-fits n clock-small
+
+  -- and their difference
+  pub margin-fits : SFits w64 (toZ w64 (end .0) -ℤ toZ w64 n)
+  margin-fits = subst (SFits w64) (sym (apart-is (end .0) n end-small clock-small)) (apart-fits (end .0) n end-small clock-small)
+
+  -- which is the margin
+  pub margin-is : marginOfNumber (toZ w64 (ofZ w64 (toZ w64 (end .0) -ℤ toZ w64 n))) ≡ marginOf l n
+  unfolding marginOf
+  margin-is =
+      ap marginOfNumber
+      (toZ-ofZ w64 (toZ w64 (end .0) -ℤ toZ w64 n) margin-fits
+      ∙ apart-is (end .0) n end-small clock-small
+      ∙ ap (λ (x : Milliseconds). pos (x .0) -ℤ pos n) e)
+
+-- ---- the state
+
+module _ (l : Lease) (n : ℕ) where
+  -- a lease whose flag says so is revoked
+  pub state-revoked : l .revoked ≡ true → states.Revoked ≡ stateWithin l n
+  unfolding stateWithin
+  state-revoked h = rw h
+
+  module _ (fr : l .revoked ≡ false) {a : Bool} (ea : a ≡ isFuture l n) where
+    -- one whose last sync lies too far after the clock is future
+    pub state-future : a ≡ true → states.Future ≡ stateWithin l n
+    unfolding stateWithin isFuture
+    state-future h = rw (fr, sym ea ∙ h)
+
+    module _ (fa : a ≡ false) {end : Milliseconds} (ee : end ≡ milliseconds (lastActive l)) {b : Bool} (eb : b ≡ ltb (end .0) n) where
+      -- what was answered for the last active millisecond
+      active-test : b ≡ ltb (lastActive l) n
+      active-test = eb ∙ ap (λ (x : Milliseconds). ltb (x .0) n) ee
+
+      -- one is active up to the last active millisecond
+      pub state-active : not b ≡ true → {m : Margin} → m ≡ marginOf l n → states.Active m ≡ stateWithin l n
+      unfolding stateWithin marginOf isFuture lastActive
+      state-active h e = ap states.Active e ∙ rw (fr, sym ea ∙ fa, not-before-leb (lastActive l) n active-test (not-true b h))
+
+      module _ (fb : not b ≡ false) {last : Milliseconds} (el : last ≡ milliseconds (lastStale l)) {c : Bool}
+          (ec : c ≡ ltb (last .0) n) where
+        -- what was answered for the last stale millisecond
+        stale-test : c ≡ ltb (lastStale l) n
+        stale-test = ec ∙ ap (λ (x : Milliseconds). ltb (x .0) n) el
+
+        -- it is stale up to the last stale millisecond
+        pub state-stale : not c ≡ true → {m : Margin} → m ≡ marginOf l n → states.Stale m ≡ stateWithin l n
+        unfolding stateWithin marginOf isFuture lastActive lastStale
+        state-stale h e =
+            ap states.Stale e
+            ∙ rw (
+              fr,
+              sym ea ∙ fa,
+              before-leb (lastActive l) n active-test (not-false b fb),
+              not-before-leb (lastStale l) n stale-test (not-true c h),
+            )
+
+        -- and expired after that
+        pub state-expired : not c ≡ false → states.Expired ≡ stateWithin l n
+        unfolding stateWithin isFuture lastActive lastStale
+        state-expired h =
+            rw (
+              fr,
+              sym ea ∙ fa,
+              before-leb (lastActive l) n active-test (not-false b fb),
+              before-leb (lastStale l) n stale-test (not-false c h),
+            )
+
+  module _ {a : Bool} (ea : a ≡ leaseOk l) where
+    -- a lease outside the limits
+    pub lease-outside : not a ≡ true → states.Outside ≡ stateOf l n
+    unfolding stateOf
+    lease-outside h = rw (sym ea ∙ not-true a h)
+
+    module _ (fa : not a ≡ false) {b : Bool} (eb : b ≡ ltb latest n) where
+      -- a clock outside its limit
+      pub clock-outside : b ≡ true → states.Outside ≡ stateOf l n
+      unfolding stateOf clockOk
+      clock-outside h = rw (sym ea ∙ not-false a fa, before-leb latest n eb h)
+
+      -- both are within the limits
+      pub both-within : b ≡ false → (leaseOk l ≡ true) × (clockOk n ≡ true)
+      unfolding clockOk
+      both-within h = (sym ea ∙ not-false a fa, not-before-leb latest n eb h)
+
+      -- then the state within the limits is the state
+      pub state-is : b ≡ false → {s : LeaseState} → s ≡ stateWithin l n → s ≡ stateOf l n
+      unfolding stateOf
+      state-is h e = e ∙ rw (both-within h .0, both-within h .1)

@@ -4,7 +4,9 @@
  * A slice is a pointer and a length. An empty slice is passed with any pointer that is not null, as CAP_EMPTY: a slice of the library is a reference, which the
  * compiler may take to be no null pointer, whatever its length. Where one slice of a call is mutable, no other slice of that call overlaps it: copy a body out of
  * an image before submitting it again.
- * A refusal changes no byte, and its other numbers are 0, except narrowing's for CAP_GRANT_NOT_COVERED.
+ * A refusal changes no byte, and its other numbers are 0, except narrowing's for CAP_GRANT_NOT_COVERED and a request's margin for CAP_LEASE_STALE.
+ * Times are seconds since 1970, and lengths of time seconds. A parameter whose name ends in _ms has milliseconds; so have the margin of a decision, and
+ * those numbers of a lease of which it is said.
  * A place or a length counts bytes of the slice that was passed; `grant` and `index` count grants from 0. `has_...` is 0 for absent, anything
  * else for present; what it marks as absent is not looked at.
  */
@@ -44,7 +46,11 @@ enum cap_answer {
     CAP_PERIOD_NOT_INSIDE = 18,          /* period not inside the parent's */
     CAP_CONSTRAINT_PRESENT = 19,         /* constraint present in parent or child */
     CAP_GRANT_NOT_COVERED = 20,          /* grant not covered by the parent */
-    CAP_PARENT_UNREAD = 21               /* parent doesn't read */
+    CAP_PARENT_UNREAD = 21,              /* parent doesn't read */
+    CAP_LEASE_FUTURE = 23,               /* lease future: the clock is before the last sync by more than the skew; check the clock */
+    CAP_LEASE_STALE = 24,                /* lease stale: sync and ask again; the ttl is over, the grace is not */
+    CAP_LEASE_EXPIRED = 25,              /* lease expired: the grace is over too; a new descriptor is needed */
+    CAP_LEASE_REVOKED = 26               /* lease revoked: the flag of the lease is 1 */
 };
 
 /* The modes by their numbers, which never change; in a mask they are 1, 2, 4 and 8. */
@@ -58,6 +64,9 @@ enum cap_kind { CAP_UNSIGNED = 0, CAP_BYTE_STRING = 2, CAP_TEXT = 3, CAP_ARRAY =
 
 /* The signature algorithms. */
 enum cap_algorithm { CAP_ED25519 = 0, CAP_ECDSA_P256_SHA256 = 1 };
+
+/* The length of a row of the lease table, in bytes. */
+#define CAP_LEASE_ROW 64
 
 /* An item. */
 typedef struct cap_item {
@@ -126,7 +135,9 @@ typedef struct cap_decision {
     uint64_t answer;      /* 0, or the number of the first step that fails */
     uint64_t grant;       /* of the grants that serve the one with most levels matched by equal names, the first of those */
     uint64_t mask;        /* its modes */
-    uint64_t session_end; /* seconds: the smaller of not_after and now + session_length */
+    uint64_t session_end; /* seconds: the smaller of not_after and now + session_length, now being now_ms / 1000 rounded down */
+    int64_t margin;       /* milliseconds that are left of the lease, 0 at the last active one: with answer 0 where the lease table has a row with the id;
+                           * with 24, where it is negative. Else 0 */
 } cap_decision;
 
 /* What narrowing answers. */
@@ -160,13 +171,27 @@ uint64_t cap_submit(uint8_t *image, size_t image_len, const uint8_t *descriptor,
                     uint64_t valid_from, uint64_t has_valid_until, uint64_t valid_until);
 
 /* Decides a request for the stored descriptor with the id. A grant serves where it has the mode, a pattern that matches the resource id and no constraint pair;
- * of those that serve the decision has the one with most `names` (cap_matching), the first of them on a tie. `revoked` is the revocation list: rows of 24 bytes
- * in any order, each a descriptor id (16), then the moment from which on it is revoked, in seconds, big-endian (8). An id may recur. A length that is no multiple
- * of 24 is answered 15; a list without rows is passed as any empty slice, as CAP_EMPTY. */
+ * of those that serve the decision has the one with most `names` (cap_matching), the first of them on a tie.
+ * `now_ms` is the clock in milliseconds, at most 2^53. All steps but those of the lease go by the clock in seconds, now = now_ms / 1000, rounded down.
+ * `revoked` is the revocation list: rows of 24 bytes in any order, each a descriptor id (16), then the moment from which on it is revoked, in seconds,
+ * big-endian (8). An id may recur. A length that is no multiple of 24 is answered 15.
+ * `leases` is the lease table: rows of CAP_LEASE_ROW bytes, whose numbers are big-endian:
+ *     at 0    descriptor id, 16 bytes
+ *     at 16   1 where the lease is revoked, else 0; then seven bytes 0
+ *     at 24   L, last sync, in milliseconds, at most 2^53
+ *     at 32   T, ttl, in seconds, below 2^32
+ *     at 40   G, grace, in seconds, below 2^32
+ *     at 48   D, future skew, in milliseconds, at most 86,400,000
+ *     at 56   E, tolerance, in milliseconds, at most 86,400,000
+ * A table with another length, a row of any id that is not so, or two rows with one id is answered 15; so is a now_ms above 2^53, with any table. Rows in
+ * ascending order of id (bytewise) are checked fastest; any order is allowed and gets the same answer.
+ * The steps of the lease come last, for the row with the id that is asked for. With N = now_ms: 26 where it is revoked; 23 where N < L - D; granted where
+ * N <= L + 1000 T + E; 24 where N <= L + 1000 T + 1000 G + E; else 25. The margin is L + 1000 T + E - N. An id without a row is decided without these steps.
+ * A list or a table without rows is passed as any empty slice, as CAP_EMPTY. */
 cap_decision cap_request(const uint8_t *image, size_t image_len, const uint8_t *id, size_t id_len, const uint8_t *fay, size_t fay_len,
-                         const uint8_t *terminal, size_t terminal_len, const uint8_t *resource, size_t resource_len, uint64_t mode, uint64_t now,
-                         uint64_t session_length, const uint8_t *revoked, size_t revoked_len, uint64_t verdict, uint64_t valid_from,
-                         uint64_t has_valid_until, uint64_t valid_until);
+                         const uint8_t *terminal, size_t terminal_len, const uint8_t *resource, size_t resource_len, uint64_t mode, uint64_t now_ms,
+                         uint64_t session_length, const uint8_t *revoked, size_t revoked_len, const uint8_t *leases, size_t leases_len, uint64_t verdict,
+                         uint64_t valid_from, uint64_t has_valid_until, uint64_t valid_until);
 
 /* Narrows the child descriptor under the parent. */
 cap_narrowing cap_narrow(const uint8_t *parent, size_t parent_len, const uint8_t *child, size_t child_len);

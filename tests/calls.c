@@ -21,6 +21,14 @@ static void same(const char *field, uint64_t found, uint64_t expected) {
 
 #define SAME(answer, field, expected) same(#field, (answer).field, expected)
 
+static void same_margin(int64_t found, int64_t expected) {
+    compared++;
+    if (found != expected) {
+        different++;
+        printf("%s: margin is %lld, expected %lld\n", what, (long long)found, (long long)expected);
+    }
+}
+
 /* ---- the calls */
 
 static void item(const char *name, const char *s, size_t n, uint64_t place, cap_item expected) {
@@ -244,7 +252,7 @@ typedef struct asked {
     const char *name;
     uint8_t id;
     const char *fay, *terminal, *resource;
-    uint64_t mode, now;
+    uint64_t mode, now_ms;
     size_t revoked_len;
     uint64_t verdict, valid_from, has_valid_until, valid_until;
     cap_decision expected;
@@ -257,17 +265,18 @@ static const uint8_t revoked[] = {
     7, 7, 7, 7, 7, 7, 7, 7, 7, 7, 7, 7, 7, 7, 7, 7, 0, 0, 0, 0, 0, 0, 2500 / 256, 2500 % 256,
 };
 
-static void decided(const uint8_t *image, size_t n, const asked *q) {
+static void decided(const uint8_t *image, size_t n, const asked *q, const uint8_t *leases, size_t leases_len) {
     uint8_t id[16];
     memset(id, q->id, 16);
     what = q->name;
     cap_decision d = cap_request(image, n, id, 16, (const uint8_t *)q->fay, strlen(q->fay), (const uint8_t *)q->terminal, strlen(q->terminal),
-                                 (const uint8_t *)q->resource, strlen(q->resource), q->mode, q->now, 77, revoked, q->revoked_len, q->verdict, q->valid_from,
-                                 q->has_valid_until, q->valid_until);
+                                 (const uint8_t *)q->resource, strlen(q->resource), q->mode, q->now_ms, 77, revoked, q->revoked_len, leases, leases_len,
+                                 q->verdict, q->valid_from, q->has_valid_until, q->valid_until);
     SAME(d, answer, q->expected.answer);
     SAME(d, grant, q->expected.grant);
     SAME(d, mask, q->expected.mask);
     SAME(d, session_end, q->expected.session_end);
+    same_margin(d.margin, q->expected.margin);
 }
 
 static void requests(void) {
@@ -277,30 +286,84 @@ static void requests(void) {
     cap_image_new(image, sizeof image);
     submitted("stored for requests", image, sizeof image, &b, 2500, 0, 0, 0, 0, 0);
     const asked all[] = {
-        {"granted", 7, FAY, T, T "/a/b", 2, 2500, 24, 0, 2500, 0, 0, {.answer = 0, .grant = 1, .mask = 6, .session_end = 2577}},
-        {"revoked from the next second on", 7, FAY, T, T "/a/b", 2, 2500, 48, 0, 0, 0, 0, {.answer = 0, .grant = 1, .mask = 6, .session_end = 2577}},
-        {"granted up to not_after", 7, FAY, T, T "/door", 0, 2999, 0, 0, 0, 1, 2999, {.answer = 0, .grant = 0, .mask = 1, .session_end = 3000}},
-        {"mode 4", 7, FAY, T, T "/a/b", 4, 2500, 0, 0, 0, 0, 0, {.answer = 15}},
-        {"a list of 25 bytes", 7, FAY, T, T "/a/b", 2, 2500, 25, 0, 0, 0, 0, {.answer = 15}},
-        {"not held", 8, FAY, T, T "/a/b", 2, 2500, 0, 0, 0, 0, 0, {.answer = 7}},
-        {"revoked from now on", 7, FAY, T, T "/a/b", 2, 2500, 72, 0, 0, 0, 0, {.answer = 8}},
-        {"revoked and expired", 7, FAY, T, T "/a/b", 2, 3000, 48, 0, 0, 0, 0, {.answer = 8}},
-        {"not yet valid", 7, FAY, T, T "/a/b", 2, 1999, 0, 0, 0, 0, 0, {.answer = 9}},
-        {"expired", 7, OTHER_FAY, T, T "/a/b", 2, 3000, 0, 0, 0, 0, 0, {.answer = 10}},
-        {"another subject", 7, OTHER_FAY, OTHER_T, T "/a/b", 2, 2500, 0, 0, 0, 0, 0, {.answer = 11}},
-        {"another terminal", 7, FAY, OTHER_T, T "/b", 2, 2500, 0, 0, 0, 0, 0, {.answer = 12}},
-        {"no grant of the mode", 7, FAY, T, T "/a/b", 3, 2500, 0, 2, 0, 0, 0, {.answer = 13}},
-        {"no such key", 7, FAY, T, T "/a/b", 2, 2500, 0, 2, 0, 0, 0, {.answer = 14}},
-        {"the key is over", 7, FAY, T, T "/a/b", 2, 2500, 0, 1, 0, 1, 2499, {.answer = 14}},
-        {"bad signature", 7, FAY, T, T "/a/b", 2, 2500, 0, 1, 0, 1, 2500, {.answer = 4}},
+        {"granted", 7, FAY, T, T "/a/b", 2, 2500999, 24, 0, 2500, 0, 0, {.answer = 0, .grant = 1, .mask = 6, .session_end = 2577}},
+        {"revoked from the next second on", 7, FAY, T, T "/a/b", 2, 2500999, 48, 0, 0, 0, 0, {.answer = 0, .grant = 1, .mask = 6, .session_end = 2577}},
+        {"granted up to not_after", 7, FAY, T, T "/door", 0, 2999999, 0, 0, 0, 1, 2999, {.answer = 0, .grant = 0, .mask = 1, .session_end = 3000}},
+        {"mode 4", 7, FAY, T, T "/a/b", 4, 2500000, 0, 0, 0, 0, 0, {.answer = 15}},
+        {"a clock above 2^53", 7, FAY, T, T "/a/b", 2, ((uint64_t)1 << 53) + 1, 0, 0, 0, 0, 0, {.answer = 15}},
+        {"a list of 25 bytes", 7, FAY, T, T "/a/b", 2, 2500000, 25, 0, 0, 0, 0, {.answer = 15}},
+        {"not held", 8, FAY, T, T "/a/b", 2, 2500000, 0, 0, 0, 0, 0, {.answer = 7}},
+        {"revoked from now on", 7, FAY, T, T "/a/b", 2, 2500000, 72, 0, 0, 0, 0, {.answer = 8}},
+        {"revoked and expired", 7, FAY, T, T "/a/b", 2, 3000000, 48, 0, 0, 0, 0, {.answer = 8}},
+        {"not yet valid", 7, FAY, T, T "/a/b", 2, 1999999, 0, 0, 0, 0, 0, {.answer = 9}},
+        {"expired", 7, OTHER_FAY, T, T "/a/b", 2, 3000000, 0, 0, 0, 0, 0, {.answer = 10}},
+        {"another subject", 7, OTHER_FAY, OTHER_T, T "/a/b", 2, 2500000, 0, 0, 0, 0, 0, {.answer = 11}},
+        {"another terminal", 7, FAY, OTHER_T, T "/b", 2, 2500000, 0, 0, 0, 0, 0, {.answer = 12}},
+        {"no grant of the mode", 7, FAY, T, T "/a/b", 3, 2500000, 0, 2, 0, 0, 0, {.answer = 13}},
+        {"no such key", 7, FAY, T, T "/a/b", 2, 2500000, 0, 2, 0, 0, 0, {.answer = 14}},
+        {"the key is over", 7, FAY, T, T "/a/b", 2, 2500000, 0, 1, 0, 1, 2499, {.answer = 14}},
+        {"bad signature", 7, FAY, T, T "/a/b", 2, 2500000, 0, 1, 0, 1, 2500, {.answer = 4}},
     };
     for (size_t i = 0; i < sizeof all / sizeof all[0]; i++) {
-        decided(image, sizeof image, &all[i]);
+        decided(image, sizeof image, &all[i], CAP_EMPTY, 0);
     }
     asked q = all[0];
     q.name = "bad image";
     q.expected = (cap_decision){.answer = 16};
-    decided(image, 8 + 31, &q);
+    decided(image, 8 + 31, &q, CAP_EMPTY, 0);
+}
+
+/* A request at a clock with a table of two rows: another id, then this lease. */
+typedef struct leased {
+    const char *name;
+    lease row;
+    uint64_t now_ms, verdict;
+    cap_decision expected;
+} leased;
+
+static void check_leased(const uint8_t *image, size_t n, const leased *q) {
+    static bytes table;
+    const lease other = {9, 1, 1, 2, 3, 4, 5};
+    asked a = {q->name, 7, FAY, T, T "/a/b", 2, q->now_ms, 0, q->verdict, 0, 0, 0, q->expected};
+    table.len = 0;
+    put_lease(&table, &other);
+    put_lease(&table, &q->row);
+    what = "two rows";
+    same("length", table.len, 2 * CAP_LEASE_ROW);
+    decided(image, n, &a, table.at, table.len);
+    a.name = "the same with a byte more";
+    a.expected = (cap_decision){.answer = 15};
+    decided(image, n, &a, table.at, table.len + 1);
+}
+
+/* The lease: not too early from 2299989 ms on, active up to 2400013, stale up to 2450013. Each number is another, so that none can be exchanged unnoticed. */
+#define LEASE 2300000, 100, 50, 11, 13
+
+static void leases(void) {
+    static uint8_t image[4096];
+    static bytes b;
+    make(&b, &stored);
+    cap_image_new(image, sizeof image);
+    submitted("stored for leases", image, sizeof image, &b, 2500, 0, 0, 0, 0, 0);
+    const leased all[] = {
+        {"a lease with a margin", {7, 0, LEASE}, 2300001, 0, {.answer = 0, .grant = 1, .mask = 6, .session_end = 2377, .margin = 100012}},
+        {"the earliest millisecond", {7, 0, LEASE}, 2299989, 0, {.answer = 0, .grant = 1, .mask = 6, .session_end = 2376, .margin = 100024}},
+        {"too early: future", {7, 0, LEASE}, 2299988, 0, {.answer = 23}},
+        {"the last active millisecond", {7, 0, LEASE}, 2400013, 0, {.answer = 0, .grant = 1, .mask = 6, .session_end = 2477, .margin = 0}},
+        {"one more: stale", {7, 0, LEASE}, 2400014, 0, {.answer = 24, .margin = -1}},
+        {"the last stale millisecond", {7, 0, LEASE}, 2450013, 0, {.answer = 24, .margin = -50000}},
+        {"one more: expired", {7, 0, LEASE}, 2450014, 0, {.answer = 25}},
+        {"a lease that is revoked", {7, 1, LEASE}, 2300001, 0, {.answer = 26}},
+        {"revoked and too early", {7, 1, LEASE}, 2299988, 0, {.answer = 26}},
+        {"stale, and a bad signature", {7, 0, LEASE}, 2400014, 1, {.answer = 4}},
+        {"a flag of 2", {7, 2, LEASE}, 2300001, 0, {.answer = 15}},
+        {"a ttl of 2^32", {7, 0, 2300000, (uint64_t)1 << 32, 50, 11, 13}, 2300001, 0, {.answer = 15}},
+        {"another id", {8, 1, LEASE}, 2300001, 0, {.answer = 0, .grant = 1, .mask = 6, .session_end = 2377, .margin = 0}},
+        {"the other id twice", {9, 0, LEASE}, 2300001, 0, {.answer = 15}},
+    };
+    for (size_t i = 0; i < sizeof all / sizeof all[0]; i++) {
+        check_leased(image, sizeof image, &all[i]);
+    }
 }
 
 /* Grants of which several serve: a broad one, two that name two levels, and between them one that names three and has a constraint pair. */
@@ -315,8 +378,8 @@ typedef struct named {
 } named;
 
 static void check_named(const uint8_t *image, size_t n, const named *q) {
-    asked a = {q->name, q->id, FAY, T, q->resource, q->mode, 2500, 0, 0, 0, 0, 0, {.answer = 0, .grant = q->grant, .mask = q->mask, .session_end = 2577}};
-    decided(image, n, &a);
+    asked a = {q->name, q->id, FAY, T, q->resource, q->mode, 2500000, 0, 0, 0, 0, 0, {.answer = 0, .grant = q->grant, .mask = q->mask, .session_end = 2577}};
+    decided(image, n, &a, CAP_EMPTY, 0);
 }
 
 /* Of the grants that serve the one with most levels matched by equal names is named, and the first of those. */
@@ -390,6 +453,7 @@ int main(void) {
     matchings();
     images();
     requests();
+    leases();
     named_grants();
     narrowings();
     printf("calls: %u values of the header's calls compared, %u differ\n", compared, different);

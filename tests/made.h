@@ -1,4 +1,4 @@
-/* Descriptors for the test of the calls, made byte by byte. */
+/* Descriptors and lease tables for the test of the calls, made byte by byte. */
 #ifndef TESTS_MADE_H
 #define TESTS_MADE_H
 
@@ -168,6 +168,33 @@ static places make(bytes *b, const fields *f) {
     text(b, "signature_value");
     at.signature = string(b, 2, signature, f->signature_len);
     return at;
+}
+
+/* ---- lease tables */
+
+/* A row of the lease table. */
+typedef struct lease {
+    uint8_t id, revoked;
+    uint64_t last_sync_ms, ttl, grace, skew_ms, tolerance_ms;
+} lease;
+
+static void put_number(bytes *b, uint64_t n) {
+    for (int shift = 56; shift >= 0; shift -= 8) {
+        uint8_t byte = (uint8_t)(n >> shift);
+        put(b, &byte, 1);
+    }
+}
+
+static void put_lease(bytes *b, const lease *l) {
+    uint8_t start[24] = {0};
+    memset(start, l->id, 16);
+    start[16] = l->revoked;
+    put(b, start, sizeof start);
+    put_number(b, l->last_sync_ms);
+    put_number(b, l->ttl);
+    put_number(b, l->grace);
+    put_number(b, l->skew_ms);
+    put_number(b, l->tolerance_ms);
 }
 
 #endif

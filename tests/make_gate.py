@@ -5,10 +5,12 @@ submission and request of ordinary_gate.py.
 """
 from make_descriptors import FAY, MODES, encode, grant, payload
 from make_matching import T, U
-from ordinary_gate import DAY, find, image_of, number, request, submit
+from ordinary_gate import DAY, LAST_MOMENT, find, image_of, number, request, submit
 from records import FIND, LEND, NEW, REQUEST, SUBMIT, summed
 
 LAST = 2**64 - 1
+# the second of the last millisecond that a request's clock may have
+LAST_SECOND = LAST_MOMENT // 1000
 
 
 # ---- records
@@ -47,12 +49,13 @@ class Run:
     def find(self, name, ident):
         self.v.add(FIND, name, find(self.image, ident), [], [ident])
 
-    def request(self, name, **more):
-        q = dict(id=bytes(range(16)), fay=FAY, terminal=T, resource=T + "/a/b", mode=0, now=2000, session=100)
-        q.update(revoked=b"", verdict=0, valid=(0, 0, 0))
+    def request(self, name, now=2000, ms=0, **more):
+        """A request so many milliseconds after a second, or at now_ms."""
+        q = dict(id=bytes(range(16)), fay=FAY, terminal=T, resource=T + "/a/b", mode=0, now_ms=1000 * now + ms, session=100)
+        q.update(revoked=b"", leases=b"", verdict=0, valid=(0, 0, 0))
         q.update(more)
-        numbers = [q["mode"], q["now"], q["session"], q["verdict"], *q["valid"]]
-        strings = [q["id"], q["fay"].encode(), q["terminal"].encode(), q["resource"].encode(), q["revoked"]]
+        numbers = [q["mode"], q["now_ms"], q["session"], q["verdict"], *q["valid"]]
+        strings = [q["id"], q["fay"].encode(), q["terminal"].encode(), q["resource"].encode(), q["revoked"], q["leases"]]
         self.v.add(REQUEST, name, request(self.image, q), numbers, strings)
 
 
@@ -251,7 +254,7 @@ def requests(r):
     r.request("revocation list of 23 bytes", revoked=bytes(23))
     r.request("id not held", id=ident(3))
     r.request("revoked", revoked=revocation(0))
-    r.request("not yet valid", now=1999)
+    r.request("not yet valid, a millisecond before", now=1999, ms=999)
     r.request("expired", now=3000)
     r.request("another subject", fay=FAY.replace("7e21", "7e22"))
     r.request("the subject's id in other letters", fay=FAY.replace("ab", "AB"))
@@ -261,7 +264,7 @@ def requests(r):
     r.request("no grant matches", resource=T + "/a/b/c")
     r.request("only a prefix of a name matches", resource=T + "/ab/b")
     r.request("no such key", verdict=2)
-    r.request("key not valid yet", valid=(2001, 0, 0))
+    r.request("key not valid yet, a millisecond before", ms=999, valid=(2001, 0, 0))
     r.request("key no longer valid", valid=(0, 1, 1999))
     r.request("signature bad", verdict=1)
     # each adjacent pair
@@ -277,27 +280,33 @@ def requests(r):
     r.request("key not valid, and signature bad", valid=(2001, 0, 0), verdict=1)
     # both sides of each line
     r.request("now = not_before", now=2000)
-    r.request("now = not_after - 1", now=2999)
+    r.request("now = not_after - 1, its last millisecond", now=2999, ms=999)
     r.request("now = not_after", now=3000)
     r.request("key valid from now on", valid=(2000, 0, 0))
-    r.request("key valid until now", valid=(0, 1, 2000))
+    r.request("key valid until now, the last millisecond", ms=999, valid=(0, 1, 2000))
     r.request("no valid_until, whatever stands for it", valid=(0, 0, 1))
     long = T + "/" + "n" * 200 + "/"
     r.request("resource of 256 bytes", resource=long + "m" * (256 - len(long)), mode=2)
     r.request("resource of 257 bytes", resource=long + "m" * (257 - len(long)), mode=2)
     # the session's end
     r.request("session of 0", session=0)
+    r.request("session of 0, from the last millisecond of a second", ms=999, session=0)
     r.request("session one second before not_after", session=999)
     r.request("session up to not_after", session=1000)
     r.request("session one second past not_after", session=1001)
     r.request("session of 2^64 - 1", session=LAST)
     r.load("4,000 bytes", b"\xaa" * 4000)
     r.new("new image")
-    r.submit("stored, up to 2^64 - 1", encode(payload(issued_at=0, not_before=LAST - 10, not_after=LAST)), now=LAST - 10)
-    r.request("clock 2^64 - 2, session of 1", now=LAST - 1, session=1)
-    r.request("clock 2^64 - 2, session of 2^64 - 1", now=LAST - 1, session=LAST)
-    r.request("clock 2^64 - 3, session of 1", now=LAST - 2, session=1)
-    r.request("clock 2^64 - 1", now=LAST, session=0)
+    around = dict(issued_at=0, not_before=LAST_SECOND - 10, not_after=LAST_SECOND + 10)
+    r.submit("stored, valid around the last second of the clock", encode(payload(**around)), now=LAST_SECOND)
+    r.request("clock 2^53 ms, session of 1", now_ms=LAST_MOMENT, session=1)
+    r.request("clock 2^53 ms, session of 2^64 - 1", now_ms=LAST_MOMENT, session=LAST)
+    r.request("clock 2^53 ms, a session up to 2^64 - 1", now_ms=LAST_MOMENT, session=LAST - LAST_SECOND)
+    r.request("clock 2^53 ms, a session up to 2^64", now_ms=LAST_MOMENT, session=LAST - LAST_SECOND + 1)
+    r.request("clock 2^53 - 1 ms, session of 0", now_ms=LAST_MOMENT - 1, session=0)
+    r.request("clock 2^53 + 1 ms", now_ms=LAST_MOMENT + 1, session=0)
+    r.request("clock 2^63 ms", now_ms=1 << 63, session=0)
+    r.request("clock 2^64 - 1 ms", now_ms=LAST, session=0)
     # order in the image
     r.load("no image", b"\x00" * 100)
     r.request("no image, malformed", mode=4)
@@ -310,12 +319,13 @@ def revocation_lists(r):
     r.load("4,000 bytes", b"\xaa" * 4000)
     r.new("new image")
     r.submit("stored, valid from 2,000 to 3,000", encode())
-    r.submit("stored, valid up to 2^64 - 1", made(2, issued_at=0, not_before=LAST - 10, not_after=LAST), now=LAST - 10)
+    around = dict(issued_at=0, not_before=LAST_SECOND - 10, not_after=LAST_SECOND + 10)
+    r.submit("stored, valid around the last second of the clock", made(2, **around), now=LAST_SECOND)
     # one row, at clock 2,000
     r.request("no row")
     r.request("moment = now - 1", revoked=revocation(1999))
     r.request("moment = now", revoked=revocation(2000))
-    r.request("moment = now + 1", revoked=revocation(2001))
+    r.request("moment = now + 1, a millisecond before it", ms=999, revoked=revocation(2001))
     r.request("moment 0", revoked=revocation(0))
     r.request("moment 2^64 - 1", revoked=revocation(LAST))
     r.request("moment 1, which is 2^56 in the other byte order", revoked=revocation(1))
@@ -324,9 +334,9 @@ def revocation_lists(r):
     # the clock at its ends
     r.request("clock 0, moment 0", now=0, revoked=revocation(0))
     r.request("clock 0, moment 1", now=0, revoked=revocation(1))
-    r.request("clock 2^64 - 2, moment 2^64 - 2", id=ident(2), now=LAST - 1, revoked=revocation(LAST - 1, ident(2)))
-    r.request("clock 2^64 - 2, moment 2^64 - 1", id=ident(2), now=LAST - 1, revoked=revocation(LAST, ident(2)))
-    r.request("clock 2^64 - 1, moment 2^64 - 1", id=ident(2), now=LAST, revoked=revocation(LAST, ident(2)))
+    r.request("clock 2^53 ms, moment in its second", id=ident(2), now_ms=LAST_MOMENT, revoked=revocation(LAST_SECOND, ident(2)))
+    r.request("clock 2^53 ms, moment in the next second", id=ident(2), now_ms=LAST_MOMENT, revoked=revocation(LAST_SECOND + 1, ident(2)))
+    r.request("clock 2^53 ms, moment 2^64 - 1", id=ident(2), now_ms=LAST_MOMENT, revoked=revocation(LAST, ident(2)))
     # an id that recurs
     r.request("one row in the future, then one past", revoked=revocation(2001) + revocation(1999))
     r.request("one row past, then one in the future", revoked=revocation(1999) + revocation(2001))

@@ -9,12 +9,21 @@ import sys
 from make_descriptors import descriptors
 from make_gate import gate
 from make_items import items
+from make_leases import leases
 from make_matching import matching
 from make_narrowing import narrowing
 from records import Vectors
 
 v = Vectors()
-for name, group in (("Items", items), ("Matching", matching), ("Descriptors", descriptors), ("Narrowing", narrowing), ("The gate", gate)):
+GROUPS = (
+    ("Items", items),
+    ("Matching", matching),
+    ("Descriptors", descriptors),
+    ("Narrowing", narrowing),
+    ("The gate", gate),
+    ("Leases", leases),
+)
+for name, group in GROUPS:
     v.heading("# " + name)
     before = v.cases
     group(v)

@@ -8,6 +8,12 @@ from make_matching import UUID, equal_names, is_resource, matches
 from records import answered
 
 DAY = 86400
+# of a lease table: the length of a row; the last moment of a last sync and of the clock, in ms; the end of ttl and grace, in s; the most of
+# skew and tolerance, in ms
+LEASE_ROW = 64
+LAST_MOMENT = 2**53
+LENGTHS_END = 2**32
+MOST_ALLOWED = 1000 * DAY
 
 
 def number(s, at, w):
@@ -109,6 +115,42 @@ def is_revoked(rows, ident, now):
     return any(rows[at : at + 16] == ident and number(rows, at + 16, 8) <= now for at in range(0, len(rows), 24))
 
 
+def lease_rows(table):
+    """The rows of a lease table as (id, flag, the seven bytes after it, last sync, ttl, grace, skew, tolerance)."""
+    rows = [table[at : at + LEASE_ROW] for at in range(0, len(table), LEASE_ROW)]
+    return [(row[:16], row[16], row[17:24], *(number(row, at, 8) for at in range(24, LEASE_ROW, 8))) for row in rows]
+
+
+def is_lease_table(table):
+    """Whether a table has whole rows, each of its form, and no two with one id."""
+    if len(table) % LEASE_ROW:
+        return False
+    rows = lease_rows(table)
+    for _, flag, zero, last_sync, ttl, grace, skew, tolerance in rows:
+        if flag > 1 or zero != bytes(7) or last_sync > LAST_MOMENT:
+            return False
+        if max(ttl, grace) >= LENGTHS_END or max(skew, tolerance) > MOST_ALLOWED:
+            return False
+    return len({row[0] for row in rows}) == len(rows)
+
+
+def lease(table, ident, now_ms):
+    """The answer of the lease steps, and the margin: L + 1,000 T + E - N. An id without a row passes, with margin 0."""
+    for row, flag, _, last_sync, ttl, grace, skew, tolerance in lease_rows(table):
+        if row == ident:
+            end = last_sync + 1000 * ttl + tolerance
+            if flag == 1:
+                return 26, 0
+            if now_ms < last_sync - skew:
+                return 23, 0
+            if now_ms <= end:
+                return 0, end - now_ms
+            if now_ms <= end + 1000 * grace:
+                return 24, end - now_ms
+            return 25, 0
+    return 0, 0
+
+
 def serving(f, q):
     """The grants with the mode, a matching pattern and no constraint pair: how many levels each matches by equal names, its place, its mask."""
     for i, g in enumerate(f["grants"]):
@@ -123,14 +165,17 @@ def most_exact(grants):
 
 
 def request(s, q):
+    now = q["now_ms"] // 1000
     if (
         q["verdict"] > 2
+        or q["now_ms"] > LAST_MOMENT
         or q["mode"] > 3
         or len(q["id"]) != 16
         or not re.match(rf"fay:{UUID}\Z", q["fay"])
         or not re.match(rf"terminal:{UUID}\Z", q["terminal"])
         or not is_resource(q["resource"].encode())
         or len(q["revoked"]) % 24
+        or not is_lease_table(q["leases"])
     ):
         return answered(15)
     held = sound(s)
@@ -140,11 +185,11 @@ def request(s, q):
     if body is None:
         return answered(7)
     f = read(body)[1]
-    if is_revoked(q["revoked"], q["id"], q["now"]):
+    if is_revoked(q["revoked"], q["id"], now):
         return answered(8)
-    if q["now"] < f["not_before"]:
+    if now < f["not_before"]:
         return answered(9)
-    if q["now"] >= f["not_after"]:
+    if now >= f["not_after"]:
         return answered(10)
     if body[f["fay"] : f["fay"] + 40].decode() != q["fay"]:
         return answered(11)
@@ -153,9 +198,12 @@ def request(s, q):
     grants = list(serving(f, q))
     if not grants:
         return answered(13)
-    if q["verdict"] == 2 or not key_open(q["now"], q["valid"]):
+    if q["verdict"] == 2 or not key_open(now, q["valid"]):
         return answered(14)
     if q["verdict"] == 1:
         return answered(4)
+    answer, margin = lease(q["leases"], q["id"], q["now_ms"])
+    if answer:
+        return answered(answer, grant=0, mask=0, session_end=0, margin=margin)
     _, place, mask = most_exact(grants)
-    return answered(0, grant=place, mask=mask, session_end=min(f["not_after"], q["now"] + q["session"]))
+    return answered(0, grant=place, mask=mask, session_end=min(f["not_after"], now + q["session"]), margin=margin)

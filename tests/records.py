@@ -1,6 +1,6 @@
 """The records of the stored vectors, and how an answer is written.
 
-A record has seven parts: a name, numbers of eight bytes, of which the first says which call is made, and five byte strings. A part is
+A record has eight parts: a name, numbers of eight bytes, of which the first says which call is made, and six byte strings. A part is
 four bytes with its length and so many bytes; numbers and lengths have their highest byte first. The calls are those of include/cap.h,
 with their arguments in its order:
   0 no call: the name is a heading
@@ -16,7 +16,7 @@ with their arguments in its order:
   9 cap_submit
   10 cap_request
 The image stays from record to record. An answer is written behind the name, with every number by its name in include/cap.h, a part as its
-length (a map's as its pairs) and its place; where all numbers but the first are 0 it says so.
+length (a map's as its pairs) and its place, and a margin with its sign; where all numbers but the first are 0 it says so.
 """
 HEADING, ITEM, DESCRIPTOR, GRANT, MATCH, NARROW, LEND, NEW, FIND, SUBMIT, REQUEST = range(11)
 
@@ -29,7 +29,7 @@ class Vectors:
 
     def add(self, call, name, expected, numbers=(), strings=()):
         numbers = b"".join(n.to_bytes(8, "big") for n in (call, *numbers))
-        strings = [*strings, *[b""] * (5 - len(strings))]
+        strings = [*strings, *[b""] * (6 - len(strings))]
         self.into += [len(part).to_bytes(4, "big") + part for part in (name.encode(), numbers, *strings)]
         self.out.append(name + expected + "\n")
         self.cases += call != HEADING

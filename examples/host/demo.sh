@@ -113,7 +113,7 @@ unchanged not-image keys.txt
 must 0 'new image: 256 bytes, no descriptor' -- new small 256
 must 1 'refused: E_STORAGE_FULL (6)' '  step: 4, storage' -- submit small keys.txt student.cbor $start
 
-# ask STATUS LINE... -- ID-END FAY TERMINAL RESOURCE MODE NOW [REVOKED-FILE]: a request to the image for a session of at most an hour.
+# ask STATUS LINE... -- ID-END FAY TERMINAL RESOURCE MODE NOW [REVOKED-FILE [LEASE-FILE]]: a request to the image for a session of at most an hour.
 ask() {
     local expected=()
     while [ "$1" != -- ]; do
@@ -185,6 +185,47 @@ ask 0 "granted: read of \"$device/camera/front\"" \
 ask 1 'refused: E_DESCRIPTOR_REVOKED (8)' "  now: $((start + 2 * hour)) (2026-01-01 02:00:00 UTC)" \
     -- 01 "$student" "$terminal" "$device/camera/front" read $((start + 2 * hour)) revoked-later.txt
 
+heading 'Leases: a descriptor that has to be synced every day, with a grace of 5 minutes; skew and tolerance 5 seconds'
+# lease FILE ID-END STATUS LAST-SYNC: adds a line to a lease file, for a last sync in seconds.
+lease() {
+    printf '%s %s %s000 %s 300 5000 5000\n' "$id$2" "$3" "$4" $day >>"$1"
+}
+# ask_leased STATUS LINE... -- ID-END NOW LEASE-FILE: a request to read the front camera.
+ask_leased() {
+    local lines=()
+    while [ "$1" != -- ]; do
+        lines+=("$1")
+        shift
+    done
+    ask "${lines[@]}" -- "$2" "$student" "$terminal" "$device/camera/front" read "$3" - "$4"
+}
+printf '# ID STATUS LAST-SYNC TTL GRACE SKEW TOLERANCE\n' >leases.txt
+lease leases.txt 04 live $((start + hour))
+lease leases.txt 01 live $start
+cat leases.txt
+ask_leased 0 "granted: read of \"$device/camera/front\"" '  lease: active for another 19 h 0 min 5.000 s' -- 01 $((start + 5 * hour)) leases.txt
+ask_leased 0 '  lease: active for another 0.000 s' -- 01 $((start + day + 5)).000 leases.txt
+ask_leased 1 'refused: lease stale (24)' '  step: 8, lease state' '  lease: stale for 0.001 s; sync within 4 min 59.999 s and ask again' \
+    "  now: $((start + day + 5)).001 (2026-01-02 00:00:05.001 UTC)" -- 01 $((start + day + 5)).001 leases.txt
+ask_leased 1 'refused: lease stale (24)' '  lease: stale for 2 min 0.000 s; sync within 3 min 0.000 s and ask again' \
+    -- 01 $((start + day + 125)) leases.txt
+lease synced.txt 01 live $((start + day + 125))
+ask_leased 0 '  lease: active for another 1 d 0 h 0 min 5.000 s' -- 01 $((start + day + 125)) synced.txt
+ask_leased 1 'refused: lease expired (25)' '  lease: expired 4 min 55.000 s ago; a new descriptor is needed' \
+    -- 01 $((start + day + 600)) leases.txt
+lease ahead.txt 01 live $((start + hour))
+ask_leased 1 'refused: lease future (23)' '  lease: the last sync is 1 h 0 min 0.000 s ahead of the clock, and 5.000 s are allowed; check the clock' \
+    -- 01 $start ahead.txt
+ask_leased 0 '  lease: active for another 1 d 0 h 0 min 10.000 s' -- 01 $((start + hour - 5)) ahead.txt
+lease revoked-lease.txt 01 revoked $start
+ask_leased 1 'refused: lease revoked (26)' '  step: 8, lease state' '  lease: revoked' -- 01 $((start + hour)) revoked-lease.txt
+lease other-lease.txt 02 revoked $start
+ask_leased 0 '  lease: none' -- 01 $((start + hour)) other-lease.txt
+cat leases.txt synced.txt >twice-leased.txt
+ask_leased 1 'refused: malformed arguments (15)' -- 01 $((start + hour)) twice-leased.txt
+ask 1 'refused: E_DESCRIPTOR_REVOKED (8)' \
+    -- 01 "$student" "$terminal" "$device/camera/front" read $((start + hour)) revoked.txt revoked-lease.txt
+
 heading 'A stored descriptor that someone has changed on the disk'
 must 0 'new image: 2048 bytes, no descriptor' -- new changed 2048
 must 0 "stored: descriptor ${id}01" -- submit changed keys.txt student.cbor $start
@@ -213,5 +254,12 @@ ask 2 "error: bad-moment.txt: line 2: the moment isn't a number of seconds" \
 printf '%s\n' "${id}01 $start $hour" >three-fields.txt
 ask 2 'error: three-fields.txt: line 1: a revocation has 1 or 2 fields' \
     -- 01 "$student" "$terminal" "$device/camera/front" read $start three-fields.txt
+ask 2 "error: bad argument: NOW: $start.5" -- 01 "$student" "$terminal" "$device/camera/front" read $start.5
+printf '%s\n' "${id}01 live $start" >few-fields.txt
+ask_leased 2 'error: few-fields.txt: line 1: a lease has 7 fields' -- 01 $start few-fields.txt
+printf '%s\n' "${id}01 stale 0 0 0 0 0" >bad-status.txt
+ask_leased 2 'error: bad-status.txt: line 1: the status is neither live nor revoked' -- 01 $start bad-status.txt
+printf '%s\n' "${id}01 live 0 1d 0 0 0" >bad-ttl.txt
+ask_leased 2 "error: bad-ttl.txt: line 1: the ttl isn't a number of seconds" -- 01 $start bad-ttl.txt
 
 printf '\n%s answers, each as it must be.\n' "$checked"

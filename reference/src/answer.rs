@@ -1,4 +1,4 @@
-//! The numbers of document 01's table that this implementation answers with, and the host's verdicts.
+//! The numbers of document 01's table, with those of document 02, that this implementation answers with, and the host's verdicts.
 
 /// Done, granted, accepted.
 pub(crate) const DONE: u64 = 0;
@@ -44,6 +44,14 @@ pub(crate) const CONSTRAINT_PRESENT: u64 = 19;
 pub(crate) const GRANT_NOT_COVERED: u64 = 20;
 /// The parent doesn't read.
 pub(crate) const PARENT_UNREAD: u64 = 21;
+/// The clock is before the lease's last sync by more than its future skew.
+pub(crate) const LEASE_FUTURE: u64 = 23;
+/// The lease's ttl is over, and its grace is not: sync, and ask again.
+pub(crate) const LEASE_STALE: u64 = 24;
+/// The lease's grace is over.
+pub(crate) const LEASE_EXPIRED: u64 = 25;
+/// The lease is revoked.
+pub(crate) const LEASE_REVOKED: u64 = 26;
 
 /// The verdict of a host that found the signature bad.
 pub(crate) const VERDICT_BAD: u64 = 1;

@@ -8,6 +8,7 @@ mod cursor;
 mod descriptor;
 mod image;
 mod item;
+mod lease;
 mod narrowing;
 mod request;
 mod resource;

@@ -4,12 +4,14 @@ use std::cmp::Reverse;
 
 use crate::answer::{
     AUTHORIZATION_INSUFFICIENT, BAD_IMAGE, DESCRIPTOR_EXPIRED, DESCRIPTOR_NOT_FOUND,
-    DESCRIPTOR_NOT_YET_VALID, DESCRIPTOR_REVOKED, DONE, INVALID_SIGNATURE, MALFORMED_ARGUMENTS,
-    SUBJECT_MISMATCH, TERMINAL_MISMATCH, VERDICT_BAD, VERDICT_NO_KEY, VERIFICATION_KEY_INVALID,
+    DESCRIPTOR_NOT_YET_VALID, DESCRIPTOR_REVOKED, DONE, INVALID_SIGNATURE, LEASE_EXPIRED,
+    LEASE_FUTURE, LEASE_REVOKED, LEASE_STALE, MALFORMED_ARGUMENTS, SUBJECT_MISMATCH,
+    TERMINAL_MISMATCH, VERDICT_BAD, VERDICT_NO_KEY, VERIFICATION_KEY_INVALID,
 };
 use crate::descriptor::{Grant, Reading};
 use crate::image::Image;
 use crate::item::big_endian;
+use crate::lease::{is_clock, seconds_clock, State, Table};
 use crate::resource::{is_fay_id, is_resource_id, is_terminal_id, names_matched};
 use crate::submission::key_is_open;
 
@@ -29,13 +31,16 @@ pub struct Request<'a> {
     pub resource: &'a [u8],
     /// The mode's number.
     pub mode: u64,
-    /// The clock, in seconds.
-    pub now: u64,
+    /// The clock, in milliseconds; the steps on seconds go by it divided by 1,000, rounded down.
+    pub now_ms: u64,
     /// The longest session that the host allows, in seconds.
     pub session_length: u64,
     /// The revocation list: rows of 24 bytes, a descriptor id (16) and the moment from which on it is revoked, in seconds,
     /// big-endian (8).
     pub revoked: &'a [u8],
+    /// The lease table: rows of 64 bytes, a descriptor id (16), a flag that is 1 where the lease is revoked (1), zero (7), then
+    /// last sync in milliseconds, ttl and grace in seconds, future skew and tolerance in milliseconds, big-endian (8 each).
+    pub leases: &'a [u8],
     /// The host's verdict: 0 signature good, 1 bad, 2 no such key.
     pub verdict: u64,
     /// The first moment of the key's window.
@@ -55,39 +60,66 @@ pub struct Decision {
     pub grant: u64,
     /// The modes of that grant.
     pub mask: u64,
-    /// The smaller of not_after and now + session_length.
+    /// The smaller of not_after and the clock in seconds + session_length.
     pub session_end: u64,
+    /// Last sync + ttl + tolerance - the clock, in milliseconds: with 0 where the id has a lease, and with 24. Else 0.
+    pub margin: i64,
+}
+
+/// The number of the step that fails, and its margin.
+struct Refusal {
+    answer: u64,
+    margin: i64,
+}
+
+impl From<u64> for Refusal {
+    /// A refusal without a margin, as all but one are.
+    fn from(answer: u64) -> Refusal {
+        Refusal { answer, margin: 0 }
+    }
+}
+
+impl Request<'_> {
+    /// The clock in seconds.
+    fn now(&self) -> u64 {
+        seconds_clock(self.now_ms)
+    }
 }
 
 /// Decides a request for the stored descriptor with the id.
 pub fn request(image: &[u8], with: &Request) -> Decision {
-    decide(image, with).unwrap_or_else(|answer| Decision {
+    decide(image, with).unwrap_or_else(|Refusal { answer, margin }| Decision {
         answer,
+        margin,
         ..Decision::default()
     })
 }
 
-/// The decision that grants the request, or the number of the first step that fails.
-fn decide(image: &[u8], with: &Request) -> Result<Decision, u64> {
+/// The decision that grants the request, or the refusal of the first step that fails.
+fn decide(image: &[u8], with: &Request) -> Result<Decision, Refusal> {
+    let leases = Table::of(with.leases).ok_or(MALFORMED_ARGUMENTS)?;
     if !is_well_formed(with) {
-        return Err(MALFORMED_ARGUMENTS);
+        return Err(MALFORMED_ARGUMENTS.into());
     }
     let image = Image::of(image).ok_or(BAD_IMAGE)?;
     let held = image.find(with.id).ok_or(DESCRIPTOR_NOT_FOUND)?.reading;
     check_descriptor(&held, with)?;
     let (place, grant) = most_exact_grant(&held, with).ok_or(AUTHORIZATION_INSUFFICIENT)?;
     check_key(with)?;
+    let margin = check_lease(&leases, with)?;
     Ok(Decision {
         answer: DONE,
         grant: place as u64,
         mask: grant.mask,
         session_end: session_end(held.numbers.not_after, with),
+        margin,
     })
 }
 
-/// Whether each argument has its form.
+/// Whether each argument but the lease table has its form.
 fn is_well_formed(with: &Request) -> bool {
     with.verdict <= VERDICT_NO_KEY
+        && is_clock(with.now_ms)
         && with.mode <= 3
         && with.id.len() == 16
         && is_fay_id(with.fay)
@@ -100,9 +132,9 @@ fn is_well_formed(with: &Request) -> bool {
 fn check_descriptor(held: &Reading, with: &Request) -> Result<(), u64> {
     if is_revoked(with) {
         Err(DESCRIPTOR_REVOKED)
-    } else if with.now < held.numbers.not_before {
+    } else if with.now() < held.numbers.not_before {
         Err(DESCRIPTOR_NOT_YET_VALID)
-    } else if with.now >= held.numbers.not_after {
+    } else if with.now() >= held.numbers.not_after {
         Err(DESCRIPTOR_EXPIRED)
     } else if held.fay() != with.fay {
         Err(SUBJECT_MISMATCH)
@@ -117,7 +149,7 @@ fn check_descriptor(held: &Reading, with: &Request) -> Result<(), u64> {
 fn is_revoked(with: &Request) -> bool {
     with.revoked.chunks(LIST_ROW).any(|row| {
         let (id, moment) = row.split_at(16);
-        id == with.id && big_endian(moment) <= with.now
+        id == with.id && big_endian(moment) <= with.now()
     })
 }
 
@@ -144,7 +176,7 @@ fn names_served(held: &Reading, grant: &Grant, with: &Request) -> Option<u64> {
 /// The steps on the key and the signature.
 fn check_key(with: &Request) -> Result<(), u64> {
     let open = key_is_open(
-        with.now,
+        with.now(),
         with.valid_from,
         with.has_valid_until,
         with.valid_until,
@@ -158,9 +190,24 @@ fn check_key(with: &Request) -> Result<(), u64> {
     }
 }
 
-/// The smaller of not_after and now + session_length, as whole numbers: a sum past 2^64 - 1 is never the smaller.
+/// The steps on the lease of the id, which come last: the margin with which it is active, and 0 where the id has none.
+fn check_lease(leases: &Table, with: &Request) -> Result<i64, Refusal> {
+    match leases.state(with.id, with.now_ms) {
+        None => Ok(0),
+        Some(State::Active(margin)) => Ok(margin),
+        Some(State::Stale(margin)) => Err(Refusal {
+            answer: LEASE_STALE,
+            margin,
+        }),
+        Some(State::Revoked) => Err(LEASE_REVOKED.into()),
+        Some(State::Future) => Err(LEASE_FUTURE.into()),
+        Some(State::Expired) => Err(LEASE_EXPIRED.into()),
+    }
+}
+
+/// The smaller of not_after and the clock in seconds + session_length, as whole numbers: a sum past 2^64 - 1 is never the smaller.
 fn session_end(not_after: u64, with: &Request) -> u64 {
-    with.now
+    with.now()
         .checked_add(with.session_length)
         .map_or(not_after, |end| end.min(not_after))
 }

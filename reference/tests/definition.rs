@@ -2,24 +2,16 @@
 
 use std::collections::HashSet;
 
-use reference::{image_new, matching, narrow, request, submit, Decision, Request, Submission};
+use descriptor::{encode, image_of, Rule, FAY, ID, T};
+use reference::{matching, narrow, request, Decision, Request};
 
-const T: &str = "terminal:00000000-0000-7000-8000-000000000001";
-const FAY: &str = "fay:01927b34-7e21-7c4d-a89f-1234567890ab";
-const ID: &[u8; 16] = b"0123456789abcdef";
-const MODES: [&str; 4] = ["read", "write", "execute", "configure"];
+#[path = "support/descriptor.rs"]
+mod descriptor;
+
 /// The names of the patterns, and one that no pattern has.
 const NAMES: [&str; 3] = ["a", "b", "fresh"];
 /// Drawn patterns have at most 3 levels, so that paths of 5 names show all that longer ones do.
 const DEEPEST: usize = 5;
-
-/// A grant: its pattern, the mask of its modes, and how many constraint pairs it has, if it has constraints.
-#[derive(Debug)]
-struct Rule {
-    pattern: String,
-    mask: u64,
-    constraints: Option<u8>,
-}
 
 #[test]
 fn names_are_counted_as_defined() {
@@ -60,6 +52,7 @@ fn the_most_exact_grant_is_named() {
             grant: place as u64,
             mask: rules[place].mask,
             session_end: 5,
+            margin: 0,
         });
         assert_eq!(decided(&rules, path, mode), expected, "{rules:?} {path}");
         let first = served.iter().position(Option::is_some);
@@ -142,25 +135,17 @@ fn most_exact(served: &[Option<u64>]) -> Option<usize> {
 
 /// The decision on a request for a descriptor with the rules as its grants.
 fn decided(rules: &[Rule], path: &str, mode: u64) -> Decision {
-    let body = encode(rules);
-    let mut image = vec![0; 8 + 32 + body.len()];
-    let with = Submission {
-        now: 2,
-        ..Submission::default()
-    };
-    assert_eq!(image_new(&mut image), 0);
-    assert_eq!(submit(&mut image, &body, &with), 0);
     let asked = Request {
         id: ID,
         fay: FAY.as_bytes(),
         terminal: T.as_bytes(),
         resource: path.as_bytes(),
         mode,
-        now: 2,
+        now_ms: 2000,
         session_length: 100,
         ..Request::default()
     };
-    request(&image, &asked)
+    request(&image_of(rules), &asked)
 }
 
 /// A refusal.
@@ -262,51 +247,4 @@ impl Draw {
             constraints: None,
         }
     }
-}
-
-/// The bytes of a descriptor with the rules as its grants, valid from 2 to 5.
-fn encode(rules: &[Rule]) -> Vec<u8> {
-    let mut out = b"\xa3\x67payload\xa8\x66grants".to_vec();
-    out.push(0x80 + rules.len() as u8);
-    for rule in rules {
-        grant(&mut out, rule);
-    }
-    out.extend(
-        b"\x69issued_at\x01\x69issuer_id\x61i\x69not_after\x05\x6anot_before\x02\x6bterminal_id",
-    );
-    text(&mut out, T);
-    out.extend(b"\x6ddescriptor_id\x50");
-    out.extend(ID);
-    text(&mut out, "subject_fay_id");
-    text(&mut out, FAY);
-    out.extend(b"\x67version\x01\x69signature\xa3\x66key_id\x61k\x69algorithm\x71ecdsa-p256-sha256\x6fsignature_value\x41s");
-    out
-}
-
-fn grant(out: &mut Vec<u8>, rule: &Rule) {
-    let modes: Vec<&str> = (0..4)
-        .filter(|mode| rule.mask >> mode & 1 == 1)
-        .map(|mode| MODES[mode])
-        .collect();
-    out.push(0xa2 + u8::from(rule.constraints.is_some()));
-    text(out, "modes");
-    out.push(0x80 + modes.len() as u8);
-    for mode in modes {
-        text(out, mode);
-    }
-    if let Some(pairs) = rule.constraints {
-        text(out, "constraints");
-        out.push(0xa0 + pairs);
-        (0..pairs).for_each(|_| out.extend(b"\x61k\x61v"));
-    }
-    text(out, "resource_pattern");
-    text(out, &rule.pattern);
-}
-
-fn text(out: &mut Vec<u8>, text: &str) {
-    match text.len() as u8 {
-        short @ 0..24 => out.push(0x60 + short),
-        length => out.extend([0x78, length]),
-    }
-    out.extend(text.as_bytes());
 }

@@ -24,11 +24,11 @@ fn assert_lines(name: &str, written: &str) {
     assert_eq!(written, expected);
 }
 
-/// A record: a name, numbers of which the first says which call is made, and five byte strings.
+/// A record: a name, numbers of which the first says which call is made, and six byte strings.
 struct Record {
     name: String,
     numbers: Vec<u64>,
-    strings: [Vec<u8>; 5],
+    strings: [Vec<u8>; 6],
 }
 
 /// The part that the bytes begin with, 4 bytes of length and so many bytes, cut off from them.
@@ -165,7 +165,7 @@ struct Gate {
 impl Gate {
     /// Makes the call of a record and says what it answers.
     fn call(&mut self, record: &Record) -> String {
-        let [a, b, c, d, e] = &record.strings;
+        let [a, b, c, d, e, f] = &record.strings;
         match *record.numbers {
             [0] => String::new(),
             [1, place] => item(a, place),
@@ -190,16 +190,17 @@ impl Gate {
                 };
                 format!(": {}{}", submit(self.image(), a, &with), self.shown())
             }
-            [10, mode, now, session_length, verdict, valid_from, has_valid_until, valid_until] => {
+            [10, mode, now_ms, session_length, verdict, valid_from, has_valid_until, valid_until] => {
                 self.decision(&Request {
                     id: a,
                     fay: b,
                     terminal: c,
                     resource: d,
                     mode,
-                    now,
+                    now_ms,
                     session_length,
                     revoked: e,
+                    leases: f,
                     verdict,
                     valid_from,
                     has_valid_until,
@@ -222,8 +223,10 @@ impl Gate {
 
     fn decision(&mut self, with: &Request) -> String {
         let d = request(self.image(), with);
-        let numbers = [d.grant, d.mask, d.session_end];
-        answered(d.answer, ", grant #, mask #, session_end #", &numbers)
+        let numbers = [d.grant, d.mask, d.session_end, d.margin.unsigned_abs()];
+        let sign = if d.margin < 0 { "-" } else { "" };
+        let line = format!(", grant #, mask #, session_end #, margin {sign}#");
+        answered(d.answer, &line, &numbers)
     }
 
     /// The length, the number of rows and a sum of the image.

@@ -6,12 +6,21 @@
 use std::hint::black_box;
 use std::time::{Duration, Instant};
 
+use cap::{Milliseconds, Seconds};
 use encoder::{grant, image, revocation, Model, Row, FAY, TERMINAL};
+use lease_row::{lease_table, LeaseRow};
+use random::Random;
 use reference::{Request, Submission};
 
 #[allow(dead_code)]
 #[path = "../tests/support/encoder.rs"]
 mod encoder;
+#[allow(dead_code)]
+#[path = "../tests/support/lease_row.rs"]
+mod lease_row;
+#[allow(dead_code)]
+#[path = "../tests/support/random.rs"]
+mod random;
 
 /// How many rounds there are.
 const ROUNDS: usize = 60;
@@ -27,6 +36,7 @@ fn main() {
     for (rows, revoked) in [(1, 0), (64, 0), (1, 1000)] {
         request(rows, revoked);
     }
+    requests_with_leases();
     requests_of_256();
     matching();
     for grants in [1, 16, 256] {
@@ -73,13 +83,33 @@ fn request(rows: u64, revoked: u64) {
     let others = (rows..rows + revoked).map(|number| revocation(&rooms(1).numbered(number).id, 0));
     let list = others.collect::<Vec<_>>().concat();
     let case = format!("request, rows {rows}, revoked {revoked}");
-    race_requests(&case, &models, "lab/room-000/camera/front", &list);
+    race_requests(&case, &models, "lab/room-000/camera/front", &list, &[]);
+}
+
+/// Requests for the last of 64 rows: without a lease table, and with its lease among 64 or 1,024, in ascending order of ids and in
+/// a random one.
+fn requests_with_leases() {
+    let models: Vec<Model> = (0..64).map(|number| rooms(1).numbered(number)).collect();
+    let ask = |order: &str, leases: &[LeaseRow]| {
+        let case = format!("request, rows 64, leases {}{order}", leases.len());
+        let table = lease_table(leases);
+        race_requests(&case, &models, "lab/room-000/camera/front", &[], &table);
+    };
+    let id = |number| rooms(1).numbered(number).id;
+    let ascending = (0..1024).map(|number| LeaseRow::synced(&id(number), 2_450_000));
+    let mut leases: Vec<LeaseRow> = ascending.collect();
+    for count in [0, 64, 1024] {
+        ask("", &leases[..count]);
+    }
+    let mut random = Random::new(1);
+    (1..leases.len()).for_each(|at| leases.swap(at, random.below(at + 1)));
+    ask(", random", &leases);
 }
 
 /// Requests for a row of 256 grants: where the first alone serves, where the last alone does, and where all do, the most exact
 /// first and the most exact last.
 fn requests_of_256() {
-    let ask = |case: &str, model, levels: &str| race_requests(case, &[model], levels, &[]);
+    let ask = |case: &str, model, levels: &str| race_requests(case, &[model], levels, &[], &[]);
     let path = |room: &str| format!("lab/room-{room}/camera/front");
     ask("request, 256, the first serves", rooms(256), &path("000"));
     ask("request, 256, the last serves", rooms(256), &path("255"));
@@ -91,7 +121,7 @@ fn requests_of_256() {
 }
 
 /// A request for the last of the descriptors, which are the rows of an image.
-fn race_requests(case: &str, models: &[Model], levels: &str, revoked: &[u8]) {
+fn race_requests(case: &str, models: &[Model], levels: &str, revoked: &[u8], leases: &[u8]) {
     let held = image(&models.iter().map(Row::of).collect::<Vec<_>>());
     let resource = format!("{TERMINAL}/{levels}");
     let asked = Request {
@@ -99,9 +129,10 @@ fn race_requests(case: &str, models: &[Model], levels: &str, revoked: &[u8]) {
         fay: FAY.as_bytes(),
         terminal: TERMINAL.as_bytes(),
         resource: resource.as_bytes(),
-        now: 2500,
+        now_ms: 2_500_000,
         session_length: 100,
         revoked,
+        leases,
         ..Request::default()
     };
     race_and_print(
@@ -115,13 +146,14 @@ fn race_requests(case: &str, models: &[Model], levels: &str, revoked: &[u8]) {
                 a.terminal,
                 a.resource,
                 a.mode,
-                a.now,
-                a.session_length,
+                Milliseconds(a.now_ms),
+                Seconds(a.session_length),
                 a.revoked,
+                a.leases,
                 a.verdict,
-                a.valid_from,
+                Seconds(a.valid_from),
                 a.has_valid_until,
-                a.valid_until,
+                Seconds(a.valid_until),
             )
             .answer
         },
@@ -198,7 +230,16 @@ fn submission(rows: u64) {
         &format!("submission, rows {rows}"),
         || {
             copy.copy_from_slice(&before);
-            cap::numbers::submit(black_box(&mut copy), black_box(&body), with.now, 0, 0, 0, 0)
+            let (now, from, until) = (Seconds(with.now), Seconds(0), Seconds(0));
+            cap::numbers::submit(
+                black_box(&mut copy),
+                black_box(&body),
+                now,
+                0,
+                from,
+                0,
+                until,
+            )
         },
         || {
             other.copy_from_slice(&before);

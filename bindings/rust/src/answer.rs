@@ -51,10 +51,18 @@ pub enum Answer {
     GrantNotCovered = 20,
     /// The parent doesn't read.
     ParentUnread = 21,
+    /// The clock is before the lease's last sync by more than its skew.
+    LeaseFuture = 23,
+    /// The lease's ttl is over, and its grace is not: sync and ask again.
+    LeaseStale = 24,
+    /// The lease's grace is over too: a new descriptor is needed.
+    LeaseExpired = 25,
+    /// The lease is revoked.
+    LeaseRevoked = 26,
 }
 
-/// All answers with their published names, each at its number.
-const TABLE: [(Answer, &str); 22] = [
+/// All answers with their published names.
+const TABLE: [(Answer, &str); 26] = [
     (Answer::Done, "done"),
     (Answer::InvalidStructure, "E_INVALID_STRUCTURE"),
     (Answer::ValidityOutOfRange, "E_VALIDITY_OUT_OF_RANGE"),
@@ -80,6 +88,10 @@ const TABLE: [(Answer, &str); 22] = [
     (Answer::ConstraintPresent, "constraint present"),
     (Answer::GrantNotCovered, "grant not covered"),
     (Answer::ParentUnread, "parent doesn't read"),
+    (Answer::LeaseFuture, "lease future"),
+    (Answer::LeaseStale, "lease stale"),
+    (Answer::LeaseExpired, "lease expired"),
+    (Answer::LeaseRevoked, "lease revoked"),
 ];
 
 impl Answer {
@@ -90,13 +102,14 @@ impl Answer {
 
     /// The answer with the number, if it is in the table.
     pub fn of(number: u64) -> Option<Answer> {
-        let row = TABLE.get(usize::try_from(number).ok()?)?;
-        Some(row.0)
+        let mut answers = TABLE.into_iter().map(|(answer, _)| answer);
+        answers.find(|answer| answer.number() == number)
     }
 
     /// The published name.
     pub fn name(self) -> &'static str {
-        TABLE[self as usize].1
+        let row = TABLE.into_iter().find(|&(answer, _)| answer == self);
+        row.expect("the table has every answer").1
     }
 }
 

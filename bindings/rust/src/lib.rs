@@ -3,16 +3,23 @@
 //! The functions here are the calls of `include/cap.h` with slices in and `Result` or `Option` out: numbers that an answer
 //! doesn't have can't be looked at. [`numbers`] has the same calls with the numbers as the library gives them.
 //! What a caller in C has to see to, that no pointer is null and that a mutable slice overlaps no other, holds of every
-//! Rust slice. The library keeps nothing between calls.
+//! Rust slice. Times are [`Seconds`] or [`Milliseconds`], so that one is not passed for the other. The library keeps nothing
+//! between calls.
 
 mod answer;
+mod lease;
 pub mod numbers;
 mod revocation;
+mod time;
 
+use std::error::Error;
+use std::fmt;
 use std::iter::FusedIterator;
 
 pub use answer::Answer;
+pub use lease::{Lease, LeaseTable};
 pub use revocation::Revocation;
+pub use time::{Margin, Milliseconds, Seconds};
 
 /// The modes, by their numbers.
 #[derive(Clone, Copy, Debug, PartialEq, Eq)]
@@ -43,10 +50,10 @@ pub enum Verdict {
 pub struct Key {
     /// The verdict on the signature over the payload part.
     pub verdict: Verdict,
-    /// The first moment at which the key is valid, in seconds.
-    pub valid_from: u64,
+    /// The first moment at which the key is valid.
+    pub valid_from: Seconds,
     /// The last moment at which the key is valid, if there is one.
-    pub valid_until: Option<u64>,
+    pub valid_until: Option<Seconds>,
 }
 
 /// A request for a resource.
@@ -62,14 +69,29 @@ pub struct Request<'a> {
     pub resource: &'a [u8],
     /// The mode that is asked for.
     pub mode: Mode,
-    /// The clock, in seconds.
-    pub now: u64,
-    /// The longest session that the host allows, in seconds.
-    pub session_length: u64,
+    /// The clock, at most 2^53. The steps of the lease alone look at its milliseconds; all others go by the seconds, rounded
+    /// down.
+    pub now: Milliseconds,
+    /// The longest session that the host allows.
+    pub session_length: Seconds,
     /// The revocation list, its rows in any order; an id may recur.
     pub revoked: &'a [Revocation],
+    /// The lease table; an id without a lease is decided without one.
+    pub leases: &'a LeaseTable,
     /// The key and the signature.
     pub key: Key,
+}
+
+/// Why a request is refused.
+#[derive(Clone, Copy, Debug, PartialEq, Eq)]
+pub enum RequestRefusal {
+    /// The lease is stale, and all other steps pass: sync and ask again.
+    Stale {
+        /// For how long it has been stale, as a negative number.
+        margin: Margin,
+    },
+    /// Another step fails.
+    Other(Answer),
 }
 
 /// Why a child is not accepted under a parent.
@@ -129,7 +151,7 @@ pub fn image_find<'a>(image: &'a [u8], id: &[u8; 16]) -> Result<&'a [u8], Answer
 }
 
 /// Submits a descriptor to the image, which then holds it.
-pub fn submit(image: &mut [u8], descriptor: &[u8], now: u64, key: &Key) -> Result<(), Answer> {
+pub fn submit(image: &mut [u8], descriptor: &[u8], now: Seconds, key: &Key) -> Result<(), Answer> {
     done(numbers::submit(
         image,
         descriptor,
@@ -137,13 +159,13 @@ pub fn submit(image: &mut [u8], descriptor: &[u8], now: u64, key: &Key) -> Resul
         key.verdict as u64,
         key.valid_from,
         u64::from(key.valid_until.is_some()),
-        key.valid_until.unwrap_or(0),
+        key.valid_until.unwrap_or_default(),
     ))
 }
 
 /// Decides a request for the stored descriptor with the id. Of the grants that serve the decision has the one with most levels
-/// matched by equal names, the first of those.
-pub fn request(image: &[u8], with: &Request) -> Result<numbers::Decision, Answer> {
+/// matched by equal names, the first of those; and what is left of the lease, 0 where the id has none.
+pub fn request(image: &[u8], with: &Request) -> Result<numbers::Decision, RequestRefusal> {
     let decision = numbers::request(
         image,
         with.id,
@@ -154,12 +176,20 @@ pub fn request(image: &[u8], with: &Request) -> Result<numbers::Decision, Answer
         with.now,
         with.session_length,
         revocation::bytes_of(with.revoked),
+        with.leases.bytes(),
         with.key.verdict as u64,
         with.key.valid_from,
         u64::from(with.key.valid_until.is_some()),
-        with.key.valid_until.unwrap_or(0),
+        with.key.valid_until.unwrap_or_default(),
     );
-    done(decision.answer).map(|()| decision)
+    done(decision.answer)
+        .map(|()| decision)
+        .map_err(|answer| match answer {
+            Answer::LeaseStale => RequestRefusal::Stale {
+                margin: decision.margin,
+            },
+            _ => RequestRefusal::Other(answer),
+        })
 }
 
 /// Narrows the child descriptor under the parent.
@@ -202,6 +232,30 @@ impl Iterator for Grants<'_> {
 }
 
 impl FusedIterator for Grants<'_> {}
+
+impl RequestRefusal {
+    /// The answer of the table.
+    pub fn answer(self) -> Answer {
+        match self {
+            RequestRefusal::Stale { .. } => Answer::LeaseStale,
+            RequestRefusal::Other(answer) => answer,
+        }
+    }
+}
+
+impl fmt::Display for RequestRefusal {
+    fn fmt(&self, out: &mut fmt::Formatter) -> fmt::Result {
+        match self {
+            RequestRefusal::Stale { margin } => {
+                let past = margin.0.unsigned_abs();
+                write!(out, "{}, for {past} ms", self.answer())
+            }
+            RequestRefusal::Other(answer) => answer.fmt(out),
+        }
+    }
+}
+
+impl Error for RequestRefusal {}
 
 impl Mode {
     /// The mode with the number.

@@ -1,7 +1,10 @@
-//! The calls of `include/cap.h` with slices in and the numbers out as the library gives them.
+//! The calls of `include/cap.h` with slices in and the numbers out as the library gives them; a time has the type of its unit.
 //!
 //! The safety of each call: a Rust slice passes as its pointer, which is never null, and its length, and the library touches no
-//! byte outside them; `&mut` overlaps no other slice; and the library keeps no pointer when a call has ended.
+//! byte outside them; `&mut` overlaps no other slice; and the library keeps no pointer when a call has ended. A time passes as the
+//! number that it holds.
+
+use crate::{Margin, Milliseconds, Seconds};
 
 /// What reading an item answers.
 #[derive(Clone, Copy, Debug, PartialEq, Eq)]
@@ -31,12 +34,12 @@ pub struct Descriptor {
     pub payload_at: u64,
     /// How many bytes the payload has.
     pub payload_len: u64,
-    /// When the descriptor was issued, in seconds.
-    pub issued_at: u64,
-    /// The first moment of validity, in seconds.
-    pub not_before: u64,
-    /// The moment at which validity has ended, in seconds.
-    pub not_after: u64,
+    /// When the descriptor was issued.
+    pub issued_at: Seconds,
+    /// The first moment of validity.
+    pub not_before: Seconds,
+    /// The moment at which validity has ended.
+    pub not_after: Seconds,
     /// Where the descriptor id starts, 16 bytes.
     pub id_at: u64,
     /// Where the issuer id starts.
@@ -127,8 +130,10 @@ pub struct Decision {
     pub grant: u64,
     /// The modes of that grant.
     pub mask: u64,
-    /// The smaller of not_after and now + session_length, in seconds.
-    pub session_end: u64,
+    /// The smaller of not_after and now + session_length, now being the clock in seconds, rounded down.
+    pub session_end: Seconds,
+    /// What is left of the lease: with 0 where the lease table has a row with the id, and with 24. Else 0.
+    pub margin: Margin,
 }
 
 /// What narrowing answers.
@@ -162,11 +167,11 @@ extern "C" {
         image_len: usize,
         descriptor: *const u8,
         descriptor_len: usize,
-        now: u64,
+        now: Seconds,
         verdict: u64,
-        valid_from: u64,
+        valid_from: Seconds,
         has_valid_until: u64,
-        valid_until: u64,
+        valid_until: Seconds,
     ) -> u64;
     fn cap_request(
         image: *const u8,
@@ -180,14 +185,16 @@ extern "C" {
         resource: *const u8,
         resource_len: usize,
         mode: u64,
-        now: u64,
-        session_length: u64,
+        now_ms: Milliseconds,
+        session_length: Seconds,
         revoked: *const u8,
         revoked_len: usize,
+        leases: *const u8,
+        leases_len: usize,
         verdict: u64,
-        valid_from: u64,
+        valid_from: Seconds,
         has_valid_until: u64,
-        valid_until: u64,
+        valid_until: Seconds,
     ) -> Decision;
     fn cap_narrow(
         parent: *const u8,
@@ -244,11 +251,11 @@ pub fn image_find(image: &[u8], id: &[u8]) -> Stored {
 pub fn submit(
     image: &mut [u8],
     descriptor: &[u8],
-    now: u64,
+    now: Seconds,
     verdict: u64,
-    valid_from: u64,
+    valid_from: Seconds,
     has_valid_until: u64,
-    valid_until: u64,
+    valid_until: Seconds,
 ) -> u64 {
     // SAFETY: as said at the top.
     unsafe {
@@ -270,6 +277,10 @@ pub fn submit(
 /// resource id and no constraint pair; of those that serve the decision has the one with most `names` ([`Matching`]), the first
 /// of them on a tie. `revoked` is the revocation list: rows of 24 bytes in any order, each a descriptor id (16), then the moment
 /// from which on it is revoked, in seconds, big-endian (8). An id may recur. A length that is no multiple of 24 is answered 15.
+/// `leases` is the lease table: rows of 64 bytes, each a descriptor id (16), 1 where the lease is revoked and else 0 (1), zero (7),
+/// then last sync in milliseconds, ttl and grace in seconds, future skew and tolerance in milliseconds, big-endian (8 each), with
+/// different ids. Rows in ascending order of id are checked fastest. The steps of the lease come last, and only they look at the
+/// milliseconds of `now_ms`.
 #[allow(clippy::too_many_arguments)]
 pub fn request(
     image: &[u8],
@@ -278,13 +289,14 @@ pub fn request(
     terminal: &[u8],
     resource: &[u8],
     mode: u64,
-    now: u64,
-    session_length: u64,
+    now_ms: Milliseconds,
+    session_length: Seconds,
     revoked: &[u8],
+    leases: &[u8],
     verdict: u64,
-    valid_from: u64,
+    valid_from: Seconds,
     has_valid_until: u64,
-    valid_until: u64,
+    valid_until: Seconds,
 ) -> Decision {
     // SAFETY: as said at the top.
     unsafe {
@@ -300,10 +312,12 @@ pub fn request(
             resource.as_ptr(),
             resource.len(),
             mode,
-            now,
+            now_ms,
             session_length,
             revoked.as_ptr(),
             revoked.len(),
+            leases.as_ptr(),
+            leases.len(),
             verdict,
             valid_from,
             has_valid_until,

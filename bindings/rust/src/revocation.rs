@@ -3,6 +3,8 @@
 use std::fmt;
 use std::slice;
 
+use crate::Seconds;
+
 /// A row of the revocation list: the descriptor with the id is revoked from the moment on.
 #[derive(Clone, Copy, PartialEq, Eq, Hash)]
 #[repr(C)]
@@ -12,11 +14,11 @@ pub struct Revocation {
 }
 
 impl Revocation {
-    /// The row of a descriptor id and a moment in seconds.
-    pub const fn new(id: [u8; 16], moment: u64) -> Revocation {
+    /// The row of a descriptor id and a moment.
+    pub const fn new(id: [u8; 16], moment: Seconds) -> Revocation {
         Revocation {
             id,
-            moment: moment.to_be_bytes(),
+            moment: moment.0.to_be_bytes(),
         }
     }
 
@@ -25,9 +27,9 @@ impl Revocation {
         &self.id
     }
 
-    /// The moment from which on the descriptor is revoked, in seconds.
-    pub const fn moment(&self) -> u64 {
-        u64::from_be_bytes(self.moment)
+    /// The moment from which on the descriptor is revoked.
+    pub const fn moment(&self) -> Seconds {
+        Seconds(u64::from_be_bytes(self.moment))
     }
 }
 

@@ -10,6 +10,10 @@ mod compare;
 mod encoder;
 #[path = "support/gate.rs"]
 mod gate;
+#[path = "support/lease_row.rs"]
+mod lease_row;
+#[path = "support/lease_slips.rs"]
+mod lease_slips;
 #[path = "support/random.rs"]
 mod random;
 #[path = "support/slips.rs"]
@@ -17,6 +21,7 @@ mod slips;
 
 use compare::Compare;
 use gate::{Library, Ordinary};
+use lease_slips::LEASE_SLIPS;
 use random::Random;
 use slips::{Slip, Wrong, SLIPS};
 
@@ -84,8 +89,14 @@ fn submissions() {
 
 #[test]
 fn requests() {
-    let answers = [0, 4, 7, 8, 9, 10, 11, 12, 13, 14, 15, 16];
+    let answers = [0, 4, 7, 8, 9, 10, 11, 12, 13, 14, 15, 16, 23, 24, 25, 26];
     agree("requests", cases::requests::run, "request", &answers);
+}
+
+#[test]
+fn leases() {
+    let answers = [0, 4, 9, 10, 15, 23, 24, 25, 26];
+    agree("leases", cases::leases::run, "request", &answers);
 }
 
 #[test]
@@ -119,16 +130,29 @@ fn cases_for(slip: Slip) -> Cases {
         Slip::FirstNamed | Slip::LastOfTieNamed | Slip::StarPreferred => cases::named::run,
         Slip::OtherModeNamed | Slip::ConstrainedNamed | Slip::MaskOfFirst => cases::named::run,
         Slip::HighestMode | Slip::LevelsAlwaysOne => cases::narrowing::run,
+        Slip::Lease(_) => cases::leases::run,
     }
 }
 
 #[test]
 fn slips_are_noticed() {
-    for slip in SLIPS {
+    let leases = LEASE_SLIPS.map(|slip| Slip::Lease(Some(slip)));
+    for slip in SLIPS.into_iter().chain(leases) {
         let wrong = Wrong(slip);
         let mut compare = Compare::new(&Library, &wrong);
         cases_for(slip)(&mut compare, &mut Random::new(setting("CAP_SEED", 1)), 50);
         println!("{slip:?}: {} differences", compare.differences());
         assert!(compare.differences() > 0, "{slip:?} was not noticed");
     }
+}
+
+/// What the slips in the lease steps are slips of agrees with the ordinary implementation, so that each is noticed for itself.
+#[test]
+fn lease_steps_without_a_slip_agree() {
+    let right = Wrong(Slip::Lease(None));
+    let mut compare = Compare::new(&Ordinary, &right);
+    for cases in [cases::leases::run, cases::requests::run] {
+        cases(&mut compare, &mut Random::new(setting("CAP_SEED", 1)), 50);
+    }
+    assert_eq!(compare.differences(), 0, "{}", compare.notes());
 }

@@ -4,16 +4,19 @@
 #[path = "support/encoder.rs"]
 mod encoder;
 
-use cap::{numbers, Answer, Key, Mode, Refusal, Request, Revocation, Verdict};
+use cap::{
+    numbers, Answer, Key, Lease, LeaseTable, Margin, Milliseconds, Mode, Refusal, Request,
+    RequestRefusal, Revocation, Seconds, Verdict,
+};
 use encoder::{grant, image, Model, Row, FAY, MODES, TERMINAL};
 
 const GOOD: Key = Key {
     verdict: Verdict::Good,
-    valid_from: 0,
+    valid_from: Seconds(0),
     valid_until: None,
 };
 
-/// A request to read at 2,500.
+/// A request to read at 2,500 seconds.
 fn asked<'a>(id: &'a [u8; 16], resource: &'a str) -> Request<'a> {
     Request {
         id,
@@ -21,21 +24,26 @@ fn asked<'a>(id: &'a [u8; 16], resource: &'a str) -> Request<'a> {
         terminal: TERMINAL.as_bytes(),
         resource: resource.as_bytes(),
         mode: Mode::Read,
-        now: 2500,
-        session_length: 1000,
+        now: Milliseconds(2_500_000),
+        session_length: Seconds(1000),
         revoked: &[],
+        leases: LeaseTable::EMPTY,
         key: GOOD,
     }
 }
 
 #[test]
 fn answers_have_the_numbers_of_the_table() {
-    for number in 0..22 {
-        assert_eq!(Answer::of(number).map(Answer::number), Some(number));
+    for number in (0..22).chain(23..27) {
+        let answer = Answer::of(number).expect("an answer");
+        assert_eq!(answer.number(), number);
+        assert!(!answer.name().is_empty());
     }
     assert_eq!(Answer::of(22), None);
+    assert_eq!(Answer::of(27), None);
     assert_eq!(Answer::of(u64::MAX), None);
     assert_eq!(Answer::ParentUnread.number(), 21);
+    assert_eq!(Answer::LeaseStale.to_string(), "lease stale (24)");
     assert_eq!(
         Answer::InvalidStructure.to_string(),
         "E_INVALID_STRUCTURE (1)"
@@ -112,7 +120,7 @@ fn a_body_is_stored_found_and_asked_for() {
     );
     let mut image = vec![0; 1000];
     assert_eq!(
-        cap::submit(&mut image, &body, 2000, &GOOD),
+        cap::submit(&mut image, &body, Seconds(2000), &GOOD),
         Err(Answer::BadImage)
     );
     assert_eq!(cap::image_new(&mut image[..7]), Err(Answer::OutputTooShort));
@@ -122,11 +130,11 @@ fn a_body_is_stored_found_and_asked_for() {
         Err(Answer::DescriptorNotFound)
     );
     let late = Key {
-        valid_until: Some(1999),
+        valid_until: Some(Seconds(1999)),
         ..GOOD
     };
     assert_eq!(
-        cap::submit(&mut image, &body, 2000, &late),
+        cap::submit(&mut image, &body, Seconds(2000), &late),
         Err(Answer::VerificationKeyInvalid)
     );
     let unknown = Key {
@@ -134,10 +142,10 @@ fn a_body_is_stored_found_and_asked_for() {
         ..GOOD
     };
     assert_eq!(
-        cap::submit(&mut image, &body, 2000, &unknown),
+        cap::submit(&mut image, &body, Seconds(2000), &unknown),
         Err(Answer::UnknownIssuer)
     );
-    assert_eq!(cap::submit(&mut image, &body, 2000, &GOOD), Ok(()));
+    assert_eq!(cap::submit(&mut image, &body, Seconds(2000), &GOOD), Ok(()));
     assert_eq!(cap::image_find(&image, &id), Ok(&body[..]));
     let resource = format!("{TERMINAL}/a/b");
     let asked = asked(&id, &resource);
@@ -145,7 +153,8 @@ fn a_body_is_stored_found_and_asked_for() {
         answer: 0,
         grant: 0,
         mask: 1,
-        session_end: 3000,
+        session_end: Seconds(3000),
+        margin: Margin(0),
     };
     assert_eq!(cap::request(&image, &asked), Ok(granted));
     let write = Request {
@@ -154,21 +163,24 @@ fn a_body_is_stored_found_and_asked_for() {
     };
     assert_eq!(
         cap::request(&image, &write),
-        Err(Answer::AuthorizationInsufficient)
+        Err(RequestRefusal::Other(Answer::AuthorizationInsufficient))
     );
-    let later = [Revocation::new([9; 16], 0), Revocation::new(id, 2501)];
+    let later = [
+        Revocation::new([9; 16], Seconds(0)),
+        Revocation::new(id, Seconds(2501)),
+    ];
     let not_yet_revoked = Request {
         revoked: &later,
         ..asked
     };
     assert_eq!(cap::request(&image, &not_yet_revoked), Ok(granted));
     let revoked = Request {
-        now: 2501,
+        now: Milliseconds(2_501_000),
         ..not_yet_revoked
     };
     assert_eq!(
         cap::request(&image, &revoked),
-        Err(Answer::DescriptorRevoked)
+        Err(RequestRefusal::Other(Answer::DescriptorRevoked))
     );
     let forged = Request {
         key: Key {
@@ -177,7 +189,10 @@ fn a_body_is_stored_found_and_asked_for() {
         },
         ..asked
     };
-    assert_eq!(cap::request(&image, &forged), Err(Answer::InvalidSignature));
+    assert_eq!(
+        cap::request(&image, &forged),
+        Err(RequestRefusal::Other(Answer::InvalidSignature))
+    );
 }
 
 #[test]
@@ -198,15 +213,118 @@ fn the_most_exact_grant_is_named() {
     };
     assert_eq!(named(Mode::Read), Ok((1, 3)));
     assert_eq!(named(Mode::Write), Ok((2, 2)));
-    assert_eq!(named(Mode::Execute), Err(Answer::AuthorizationInsufficient));
+    assert_eq!(
+        named(Mode::Execute).map_err(RequestRefusal::answer),
+        Err(Answer::AuthorizationInsufficient)
+    );
+}
+
+/// A lease that is not too early from 2,299,000 ms on, active up to 2,402,000 and stale up to 2,462,000.
+const LEASE: Lease = Lease {
+    id: [0; 16],
+    revoked: false,
+    last_sync: Milliseconds(2_300_000),
+    ttl: Seconds(100),
+    grace: Seconds(60),
+    skew: Milliseconds(1000),
+    tolerance: Milliseconds(2000),
+};
+
+#[test]
+fn a_lease_is_active_stale_or_refused() {
+    let model = Model::plain();
+    let id = model.id.clone().try_into().expect("16 bytes");
+    let (image, resource) = (image(&[Row::of(&model)]), format!("{TERMINAL}/a/b"));
+    let answer = |lease: Lease, now| {
+        let other = Lease {
+            revoked: true,
+            ..LEASE
+        };
+        let with = Request {
+            now: Milliseconds(now),
+            leases: &LeaseTable::from_iter([Lease { id, ..lease }, other]),
+            ..asked(&id, &resource)
+        };
+        cap::request(&image, &with).map(|decision| decision.margin)
+    };
+    let refused = |answer| Err(RequestRefusal::Other(answer));
+    let stale = |margin| {
+        Err(RequestRefusal::Stale {
+            margin: Margin(margin),
+        })
+    };
+    assert_eq!(answer(LEASE, 2_298_999), refused(Answer::LeaseFuture));
+    assert_eq!(answer(LEASE, 2_299_000), Ok(Margin(103_000)));
+    assert_eq!(answer(LEASE, 2_402_000), Ok(Margin(0)));
+    assert_eq!(answer(LEASE, 2_402_001), stale(-1));
+    assert_eq!(answer(LEASE, 2_462_000), stale(-60_000));
+    assert_eq!(answer(LEASE, 2_462_001), refused(Answer::LeaseExpired));
+    let revoked = Lease {
+        revoked: true,
+        ..LEASE
+    };
+    assert_eq!(answer(revoked, 2_350_000), refused(Answer::LeaseRevoked));
+    let endless = Lease {
+        ttl: Seconds(1 << 32),
+        ..LEASE
+    };
+    let malformed = refused(Answer::MalformedArguments);
+    assert_eq!(answer(endless, 2_350_000), malformed);
+    assert_eq!(answer(LEASE, (1 << 53) + 1), malformed);
+}
+
+#[test]
+fn a_refusal_of_a_request_is_shown() {
+    let stale = RequestRefusal::Stale {
+        margin: Margin(-1500),
+    };
+    assert_eq!(stale.answer(), Answer::LeaseStale);
+    assert_eq!(stale.to_string(), "lease stale (24), for 1500 ms");
+    let other = RequestRefusal::Other(Answer::LeaseExpired);
+    assert_eq!(other.answer(), Answer::LeaseExpired);
+    assert_eq!(other.to_string(), "lease expired (25)");
+}
+
+#[test]
+fn a_lease_table_has_one_lease_for_an_id() {
+    let lease = |number, grace| Lease {
+        id: [number; 16],
+        grace: Seconds(grace),
+        ..LEASE
+    };
+    let mut table = LeaseTable::new();
+    for number in [5, 3, 9, 4, 1] {
+        assert_eq!(table.insert(lease(number, 60)), None);
+    }
+    assert_eq!(table.insert(lease(4, 61)), Some(lease(4, 60)));
+    assert_eq!(table.get(&[4; 16]), Some(lease(4, 61)));
+    assert_eq!(table.get(&[2; 16]), None);
+    assert_eq!(table.remove(&[3; 16]), Some(lease(3, 60)));
+    assert_eq!(table.remove(&[3; 16]), None);
+    let ids: Vec<u8> = table.iter().map(|lease| lease.id[0]).collect();
+    assert_eq!((ids, table.len()), (vec![1, 4, 5, 9], 4));
+    assert!(LeaseTable::EMPTY.is_empty() && !table.is_empty());
+    assert_eq!(table.iter().collect::<LeaseTable>(), table);
+    assert!(format!("{table:?}").starts_with("[Lease { id: [1, 1,"));
+}
+
+#[test]
+fn seconds_and_milliseconds_are_converted_by_name() {
+    let last = Seconds(u64::MAX / 1000);
+    assert_eq!(Seconds(2).to_milliseconds(), Some(Milliseconds(2000)));
+    assert_eq!(last.to_milliseconds(), Some(Milliseconds(last.0 * 1000)));
+    assert_eq!(Seconds(last.0 + 1).to_milliseconds(), None);
+    let rounded = |n| Milliseconds(n).to_seconds_rounded_down();
+    assert_eq!([1999, 2000, 2999].map(rounded), [1, 2, 2].map(Seconds));
+    assert_eq!(rounded(u64::MAX), last);
 }
 
 #[test]
 fn a_row_of_the_revocation_list_has_24_bytes() {
-    const ROW: Revocation = Revocation::new([9; 16], 2501);
+    const ROW: Revocation = Revocation::new([9; 16], Seconds(2501));
     assert_eq!((size_of_val(&ROW), align_of_val(&ROW)), (24, 1));
-    assert_eq!((ROW.id(), ROW.moment()), (&[9; 16], 2501));
-    assert!(format!("{ROW:?}").ends_with("moment: 2501 }"));
+    assert_eq!((ROW.id(), ROW.moment()), (&[9; 16], Seconds(2501)));
+    assert!(format!("{ROW:?}").ends_with("moment: Seconds(2501) }"));
 }
 
 #[test]

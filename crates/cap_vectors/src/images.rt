@@ -34,6 +34,7 @@ fn request(s: &[u8], at: usize, image: &[u8]) {
         number(s, at, 2),
         number(s, at, 3),
         part(s, at, 6),
+        part(s, at, 7),
         number(s, at, 4),
         number(s, at, 5),
         number(s, at, 6),

@@ -29,7 +29,7 @@ fn all(s: &[u8], image: &mut [u8]) {
     let mut len: usize = 0;
     while at < s.len() {
         len = one(s, at, image, len);
-        let next = record::place(s, at, 7);
+        let next = record::place(s, at, 8);
         if next <= at {
             return;
         }

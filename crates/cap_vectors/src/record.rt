@@ -1,4 +1,4 @@
-// Records of seven parts: a name, numbers of eight bytes, and five byte strings. A part is four bytes with its length, the highest
+// Records of eight parts: a name, numbers of eight bytes, and six byte strings. A part is four bytes with its length, the highest
 // first, and so many bytes.
 
 // The place after so many parts, or past the end.
@@ -15,7 +15,7 @@ pub(crate) fn place(s: &[u8], at: usize, parts: usize) -> usize {
     place
 }
 
-// The part with the index, of the record at the place: 0 is its name, 1 its numbers, 2 to 6 its byte strings. Nothing where it is not
+// The part with the index, of the record at the place: 0 is its name, 1 its numbers, 2 to 7 its byte strings. Nothing where it is not
 // whole.
 pub(crate) fn part(s: &[u8], at: usize, i: usize) -> &[u8] {
     let start = place(s, at, i);

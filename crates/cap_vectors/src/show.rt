@@ -133,12 +133,29 @@ pub(crate) fn stored(f: StoredNumbers) {
     answer(f.answer, b", body # at #", &[f.body_len, f.body_at]);
 }
 
-pub(crate) fn decision(d: DecisionNumbers) {
+// A margin without its sign: its negation less one, which every negative i64 has, and one after the cast.
+fn size(margin: i64) -> u64 {
+    if margin < 0 {
+        return (-1 - margin) as u64 + 1;
+    }
+    margin as u64
+}
+
+// A decision's numbers, with the line that has the margin's sign.
+fn signed(d: DecisionNumbers, s: &[u8]) {
     answer(
         d.answer,
-        b", grant #, mask #, session_end #",
-        &[d.grant, d.mask, d.session_end],
+        s,
+        &[d.grant, d.mask, d.session_end, size(d.margin)],
     );
+}
+
+pub(crate) fn decision(d: DecisionNumbers) {
+    if d.margin < 0 {
+        signed(d, b", grant #, mask #, session_end #, margin -#");
+        return;
+    }
+    signed(d, b", grant #, mask #, session_end #, margin #");
 }
 
 // A sum over all the bytes, which changes with each of them and with their order.

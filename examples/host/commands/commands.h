@@ -13,7 +13,7 @@ int command_new(char **arguments, int count);
 /* IMAGE KEYS DESCRIPTOR [NOW]: submits a descriptor file to the image file. */
 int command_submit(char **arguments, int count);
 
-/* IMAGE KEYS ID FAY TERMINAL RESOURCE MODE NOW SESSION [REVOKED-FILE]: decides a request for a stored descriptor. */
+/* IMAGE KEYS ID FAY TERMINAL RESOURCE MODE NOW SESSION [REVOKED-FILE [LEASE-FILE]]: decides a request for a stored descriptor. */
 int command_request(char **arguments, int count);
 
 /* PARENT CHILD: narrows a child's descriptor file under a parent's. */

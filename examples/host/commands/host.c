@@ -18,7 +18,7 @@ typedef struct command {
 static const command commands[] = {
     {"new", 2, 2, command_new, "IMAGE SIZE"},
     {"submit", 3, 4, command_submit, "IMAGE KEYS DESCRIPTOR [NOW]"},
-    {"request", 9, 10, command_request, "IMAGE KEYS ID FAY TERMINAL RESOURCE MODE NOW SESSION [REVOKED-FILE]"},
+    {"request", 9, 11, command_request, "IMAGE KEYS ID FAY TERMINAL RESOURCE MODE NOW SESSION [REVOKED-FILE [LEASE-FILE]]"},
     {"narrow", 2, 2, command_narrow, "PARENT CHILD"},
     {"show", 1, 1, command_show, "DESCRIPTOR"},
 };
@@ -32,8 +32,9 @@ static int tell_usage(void) {
     for (int place = 0; place < COMMAND_COUNT; place++) {
         fprintf(stderr, "  host %s %s\n", commands[place].name, commands[place].arguments);
     }
-    fputs("ID is a UUID text; MODE is read, write, execute or configure; NOW is seconds since 1970, or the word now;\n"
-          "SESSION is the longest session in seconds. Ends with 0: done or granted; 1: refused; 2: an error of files or arguments.\n",
+    fputs("ID is a UUID text; MODE is read, write, execute or configure; NOW is seconds since 1970, or the word now; that of a\n"
+          "request may have milliseconds, as 1767225600.250. SESSION is the longest session in seconds. A - stands for no\n"
+          "REVOKED-FILE. Ends with 0: done or granted; 1: refused; 2: an error of files or arguments.\n",
           stderr);
     return ENDED_WITH_ERROR;
 }

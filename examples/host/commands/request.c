@@ -9,6 +9,9 @@
 #include "files.h"
 #include "judgement.h"
 #include "keys.h"
+#include "leases.h"
+#include "leasing.h"
+#include "numbers.h"
 #include "revocations.h"
 #include "serving.h"
 #include "show.h"
@@ -19,12 +22,13 @@ typedef struct request {
     file_bytes image;
     key_list keys;
     revocation_list revoked;
+    lease_table leases;
     uint8_t id[ID_LEN];
     const char *fay;
     const char *terminal;
     const char *resource;
     uint64_t mode;
-    uint64_t now;
+    uint64_t now_ms;
     uint64_t session_length;
     const uint8_t *body; /* the stored descriptor, a part of the image; empty where none is found */
     size_t body_len;
@@ -40,11 +44,12 @@ static void find_body(request *r) {
 /* Asks the gate to decide the request with the host's judgement of the signature. */
 static cap_decision ask_gate(const request *r, const judgement *judged) {
     return cap_request(r->image.bytes, r->image.len, r->id, ID_LEN, (const uint8_t *)r->fay, strlen(r->fay), (const uint8_t *)r->terminal,
-                       strlen(r->terminal), (const uint8_t *)r->resource, strlen(r->resource), r->mode, r->now, r->session_length,
-                       r->revoked.bytes, r->revoked.len, judged->verdict, judged->valid_from, judged->has_valid_until, judged->valid_until);
+                       strlen(r->terminal), (const uint8_t *)r->resource, strlen(r->resource), r->mode, r->now_ms, r->session_length,
+                       r->revoked.bytes, r->revoked.len, r->leases.bytes, r->leases.len, judged->verdict, judged->valid_from, judged->has_valid_until,
+                       judged->valid_until);
 }
 
-/* Prints a granted request: the grant that the gate names, its pattern and modes, why it is this one, and the session's end. */
+/* Prints a granted request: the grant that the gate names, its pattern and modes, why it is this one, the session's end, and what is left of the lease. */
 static void print_granted(const request *r, cap_decision decision) {
     printf("granted: %s of ", mode_name(r->mode));
     print_text((const uint8_t *)r->resource, strlen(r->resource));
@@ -52,6 +57,7 @@ static void print_granted(const request *r, cap_decision decision) {
     show_grant(r->body, r->body_len, decision.grant);
     print_why_named(r->body, r->body_len, r->resource, r->mode, decision.grant);
     print_labelled_moment("session end", decision.session_end);
+    print_lease(&r->leases, r->id, decision, r->now_ms);
 }
 
 /* Prints what the stored descriptor and its key say to the step that failed. */
@@ -68,18 +74,27 @@ static void print_reason(const request *r, uint64_t answer, const judgement *jud
     }
 }
 
-/* Says whether a refusal of a request came from the clock. */
-static bool clock_decided(uint64_t answer) {
+/* Says whether a refusal of a request came from the clock in seconds. */
+static bool seconds_decided(uint64_t answer) {
     return answer == CAP_DESCRIPTOR_REVOKED || answer == CAP_DESCRIPTOR_NOT_YET_VALID || answer == CAP_DESCRIPTOR_EXPIRED ||
            answer == CAP_VERIFICATION_KEY_INVALID;
 }
 
+/* Says whether it came from the clock in milliseconds. */
+static bool milliseconds_decided(uint64_t answer) {
+    return answer == CAP_LEASE_FUTURE || answer == CAP_LEASE_STALE || answer == CAP_LEASE_EXPIRED;
+}
+
 /* Prints a refused request, with what was compared in the step that failed. */
-static void print_request_refusal(const request *r, uint64_t answer, const judgement *judged) {
-    print_refusal(ASKED_REQUEST, answer);
-    print_reason(r, answer, judged);
-    if (clock_decided(answer)) {
-        print_labelled_moment("now", r->now);
+static void print_request_refusal(const request *r, cap_decision decision, const judgement *judged) {
+    print_refusal(ASKED_REQUEST, decision.answer);
+    print_reason(r, decision.answer, judged);
+    print_lease(&r->leases, r->id, decision, r->now_ms);
+    if (seconds_decided(decision.answer)) {
+        print_labelled_moment("now", r->now_ms / SECOND_MS);
+    }
+    if (milliseconds_decided(decision.answer)) {
+        print_labelled_moment_ms("now", r->now_ms);
     }
 }
 
@@ -89,7 +104,7 @@ static int decide_request(request *r) {
     judgement judged = judge_signature(&r->keys, r->body, r->body_len);
     cap_decision decision = ask_gate(r, &judged);
     if (decision.answer != CAP_DONE) {
-        print_request_refusal(r, decision.answer, &judged);
+        print_request_refusal(r, decision, &judged);
         return ENDED_REFUSED;
     }
     print_granted(r, decision);
@@ -108,10 +123,15 @@ static bool read_request_arguments(char **arguments, request *r) {
     if (!parse_mode(arguments[6], &r->mode)) {
         return tell_bad_argument("MODE", arguments[6]);
     }
-    if (!parse_clock(arguments[7], &r->now)) {
+    if (!parse_clock_ms(arguments[7], &r->now_ms)) {
         return tell_bad_argument("NOW", arguments[7]);
     }
     return parse_number(arguments[8], &r->session_length) || tell_bad_argument("SESSION", arguments[8]);
+}
+
+/* The path of a file that may be left out, or null: there are fewer arguments, or it is a hyphen. */
+static const char *optional_path(char **arguments, int count, int place) {
+    return count > place && strcmp(arguments[place], "-") != 0 ? arguments[place] : NULL;
 }
 
 /* Decides a request for a stored descriptor; the image is read once, so that all steps see the same bytes. */
@@ -119,9 +139,10 @@ int command_request(char **arguments, int count) {
     request r = {0};
     int ended = ENDED_WITH_ERROR;
     if (read_request_arguments(arguments, &r) && file_read(arguments[0], &r.image) && keys_read(arguments[1], &r.keys) &&
-        revocations_read(count > 9 ? arguments[9] : NULL, &r.revoked)) {
+        revocations_read(optional_path(arguments, count, 9), &r.revoked) && leases_read(optional_path(arguments, count, 10), &r.leases)) {
         ended = decide_request(&r);
     }
+    leases_free(&r.leases);
     revocations_free(&r.revoked);
     keys_free(&r.keys);
     file_free(&r.image);

@@ -1,10 +1,13 @@
 /* Texts to values: numbers, clocks, hex, descriptor ids and modes. */
+#define _POSIX_C_SOURCE 200809L
+
 #include "arguments.h"
 
 #include <string.h>
 #include <time.h>
 
 #include "files.h"
+#include "numbers.h"
 #include "words.h"
 
 /* Tells an argument that isn't of its form. */
@@ -13,17 +16,20 @@ bool tell_bad_argument(const char *name, const char *text) {
     return false;
 }
 
-/* Reads a whole number of decimal digits below 2^64. */
-bool parse_number(const char *text, uint64_t *number) {
+/* How many digits the milliseconds of a second are written with. */
+enum { MS_DIGITS = 3 };
+
+/* Reads so many decimal digits as a number below 2^64. */
+static bool parse_digits(const char *text, size_t len, uint64_t *number) {
     uint64_t value = 0;
-    if (*text == '\0') {
+    if (len == 0) {
         return false;
     }
-    for (; *text != '\0'; text++) {
-        if (*text < '0' || *text > '9') {
+    for (size_t place = 0; place < len; place++) {
+        if (text[place] < '0' || text[place] > '9') {
             return false;
         }
-        uint64_t digit = (uint64_t)(*text - '0');
+        uint64_t digit = (uint64_t)(text[place] - '0');
         if (value > (UINT64_MAX - digit) / 10) {
             return false;
         }
@@ -33,16 +39,51 @@ bool parse_number(const char *text, uint64_t *number) {
     return true;
 }
 
-/* Reads a clock: seconds since 1970, or the word "now". */
+/* Reads a whole number of decimal digits below 2^64. */
+bool parse_number(const char *text, uint64_t *number) {
+    return parse_digits(text, strlen(text), number);
+}
+
+/* Reads the system's clock in milliseconds. */
+static bool system_clock_ms(uint64_t *milliseconds) {
+    struct timespec moment;
+    if (clock_gettime(CLOCK_REALTIME, &moment) != 0 || moment.tv_sec < 0) {
+        return false;
+    }
+    *milliseconds = (uint64_t)moment.tv_sec * SECOND_MS + (uint64_t)moment.tv_nsec / 1000000;
+    return true;
+}
+
+/* Reads a clock in seconds: seconds since 1970, or the word "now". */
 bool parse_clock(const char *text, uint64_t *seconds) {
     if (strcmp(text, "now") != 0) {
         return parse_number(text, seconds);
     }
-    time_t moment = time(NULL);
-    if (moment < 0) {
+    uint64_t milliseconds;
+    if (!system_clock_ms(&milliseconds)) {
         return false;
     }
-    *seconds = (uint64_t)moment;
+    *seconds = milliseconds / SECOND_MS;
+    return true;
+}
+
+/* Reads a clock in milliseconds: seconds since 1970, which a point and three digits may follow, or the word "now". */
+bool parse_clock_ms(const char *text, uint64_t *milliseconds) {
+    uint64_t seconds, rest = 0;
+    if (strcmp(text, "now") == 0) {
+        return system_clock_ms(milliseconds);
+    }
+    size_t len = strcspn(text, ".");
+    if (!parse_digits(text, len, &seconds)) {
+        return false;
+    }
+    if (text[len] == '.' && (strlen(text + len + 1) != MS_DIGITS || !parse_number(text + len + 1, &rest))) {
+        return false;
+    }
+    if (seconds > (UINT64_MAX - rest) / SECOND_MS) {
+        return false;
+    }
+    *milliseconds = seconds * SECOND_MS + rest;
     return true;
 }
 

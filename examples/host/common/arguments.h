@@ -1,4 +1,4 @@
-/* Texts to values: numbers, clocks, hex, descriptor ids and modes, as arguments, key files and revocation files spell them.
+/* Texts to values: numbers, clocks, hex, descriptor ids and modes, as arguments and the host's text files spell them.
  *
  * Each parse function answers false, and tells nothing, where the text isn't a spelling of such a value.
  */
@@ -18,8 +18,12 @@ bool tell_bad_argument(const char *name, const char *text);
 /* Reads a whole number of decimal digits below 2^64. */
 bool parse_number(const char *text, uint64_t *number);
 
-/* Reads a clock: seconds since 1970, or the word "now" for the system's clock. */
+/* Reads a clock in seconds: seconds since 1970, or the word "now" for the system's clock. */
 bool parse_clock(const char *text, uint64_t *seconds);
+
+/* Reads a clock in milliseconds: seconds since 1970, which a point and three digits of milliseconds may follow, or the word "now" for the system's
+ * clock. */
+bool parse_clock_ms(const char *text, uint64_t *milliseconds);
 
 /* Reads an even number of hex digits into at most `room` bytes. */
 bool parse_hex(const char *text, uint8_t *bytes, size_t room, size_t *len);

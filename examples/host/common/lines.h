@@ -1,4 +1,4 @@
-/* Text files that have one entry a line: key files and revocation files. */
+/* Text files that have one entry a line: key files, revocation files and lease files. */
 #ifndef HOST_LINES_H
 #define HOST_LINES_H
 

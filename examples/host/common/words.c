@@ -4,14 +4,19 @@
 #include "words.h"
 
 #include <inttypes.h>
+#include <stdbool.h>
 #include <stdio.h>
 #include <time.h>
 
 #include "arguments.h"
 #include "cap.h"
+#include "numbers.h"
 
 /* The last second of the year 9999. */
 #define LAST_DATE UINT64_C(253402300799)
+
+/* How many seconds the larger units have. */
+enum { MINUTE = 60, HOUR = 60 * MINUTE, DAY = 24 * HOUR };
 
 /* An answer in words. */
 typedef struct answer_words {
@@ -19,7 +24,7 @@ typedef struct answer_words {
     const char *meaning;
 } answer_words;
 
-/* Every answer, at the place of its number. */
+/* Every answer, at the place of its number; places of no answer are empty. */
 static const answer_words answers[] = {
     [CAP_DONE] = {"done", "done"},
     [CAP_INVALID_STRUCTURE] = {"E_INVALID_STRUCTURE", "the bytes aren't the deterministic encoding of an allowed descriptor"},
@@ -36,13 +41,17 @@ static const answer_words answers[] = {
     [CAP_TERMINAL_MISMATCH] = {"E_TERMINAL_MISMATCH", "the descriptor is for another terminal"},
     [CAP_AUTHORIZATION_INSUFFICIENT] = {"E_AUTHORIZATION_INSUFFICIENT", "no grant has the mode, a matching pattern and no constraint"},
     [CAP_VERIFICATION_KEY_INVALID] = {"E_VERIFICATION_KEY_INVALID", "no key is known, or the clock is outside the key's window"},
-    [CAP_MALFORMED_ARGUMENTS] = {"malformed arguments", "an id, the resource or a number isn't of the form that the gate asks for"},
+    [CAP_MALFORMED_ARGUMENTS] = {"malformed arguments", "an id, the resource, a number or the lease table isn't of the form that the gate asks for"},
     [CAP_BAD_IMAGE] = {"bad image", "the file isn't a sound image"},
     [CAP_OUTPUT_TOO_SHORT] = {"output too short", "the image has no room for its header of 8 bytes"},
     [CAP_PERIOD_NOT_INSIDE] = {"period not inside", "the child is valid at a moment at which the parent isn't"},
     [CAP_CONSTRAINT_PRESENT] = {"constraint present", "a grant of the parent or of the child has a constraint"},
     [CAP_GRANT_NOT_COVERED] = {"grant not covered", "a grant of the child admits a path that the parent doesn't admit"},
     [CAP_PARENT_UNREAD] = {"parent doesn't read", "the parent isn't an allowed descriptor"},
+    [CAP_LEASE_FUTURE] = {"lease future", "the clock is before the last sync by more than the skew"},
+    [CAP_LEASE_STALE] = {"lease stale", "the ttl is over, and the grace is not: sync and ask again"},
+    [CAP_LEASE_EXPIRED] = {"lease expired", "the grace is over too"},
+    [CAP_LEASE_REVOKED] = {"lease revoked", "the lease of the descriptor is revoked"},
 };
 
 /* The names of the modes, at the places of their numbers. */
@@ -70,7 +79,8 @@ const char *algorithm_name(uint64_t algorithm) {
 /* The words of an answer; no answer of the gate is outside the table. */
 static answer_words words_of(uint64_t answer) {
     static const answer_words unknown = {"unknown answer", "the gate gave a number that isn't in its table"};
-    return answer < sizeof answers / sizeof answers[0] ? answers[answer] : unknown;
+    bool known = answer < sizeof answers / sizeof answers[0] && answers[answer].name != NULL;
+    return known ? answers[answer] : unknown;
 }
 
 /* The published name of an answer. */
@@ -108,6 +118,10 @@ static const char *request_step(uint64_t answer) {
     case CAP_AUTHORIZATION_INSUFFICIENT: return "6, resource and mode match";
     case CAP_VERIFICATION_KEY_INVALID:
     case CAP_INVALID_SIGNATURE: return "7, signature validation";
+    case CAP_LEASE_REVOKED:
+    case CAP_LEASE_FUTURE:
+    case CAP_LEASE_STALE:
+    case CAP_LEASE_EXPIRED: return "8, lease state";
     default: return "no step of a request";
     }
 }
@@ -154,15 +168,45 @@ void print_modes(uint64_t mask) {
     }
 }
 
+/* Writes a moment as a date and a time of day; answers false where its year has more than four digits. */
+static bool date_text(uint64_t seconds, char text[32]) {
+    struct tm date;
+    time_t moment = (time_t)seconds;
+    return seconds <= LAST_DATE && gmtime_r(&moment, &date) != NULL && strftime(text, 32, "%Y-%m-%d %H:%M:%S", &date) > 0;
+}
+
 /* Prints a moment in seconds, and as a date where it has one of four digits. */
 void print_moment(uint64_t seconds) {
-    struct tm date;
     char text[32];
-    time_t moment = (time_t)seconds;
     printf("%" PRIu64, seconds);
-    if (seconds <= LAST_DATE && gmtime_r(&moment, &date) != NULL && strftime(text, sizeof text, "%Y-%m-%d %H:%M:%S", &date) > 0) {
+    if (date_text(seconds, text)) {
         printf(" (%s UTC)", text);
     }
+}
+
+/* Prints a moment in milliseconds, and as a date where it has one of four digits. */
+void print_moment_ms(uint64_t milliseconds) {
+    uint64_t seconds = milliseconds / SECOND_MS, rest = milliseconds % SECOND_MS;
+    char text[32];
+    printf("%" PRIu64 ".%03" PRIu64, seconds, rest);
+    if (date_text(seconds, text)) {
+        printf(" (%s.%03" PRIu64 " UTC)", text, rest);
+    }
+}
+
+/* Prints a length of time, from its largest unit that isn't 0 on. */
+void print_duration(uint64_t milliseconds) {
+    uint64_t seconds = milliseconds / SECOND_MS;
+    if (seconds >= DAY) {
+        printf("%" PRIu64 " d ", seconds / DAY);
+    }
+    if (seconds >= HOUR) {
+        printf("%" PRIu64 " h ", seconds % DAY / HOUR);
+    }
+    if (seconds >= MINUTE) {
+        printf("%" PRIu64 " min ", seconds % HOUR / MINUTE);
+    }
+    printf("%" PRIu64 ".%03" PRIu64 " s", seconds % MINUTE, milliseconds % SECOND_MS);
 }
 
 /* Prints 16 bytes as a UUID text. */
@@ -191,6 +235,13 @@ void print_text(const uint8_t *text, size_t len) {
 void print_labelled_moment(const char *label, uint64_t seconds) {
     printf("  %s: ", label);
     print_moment(seconds);
+    putchar('\n');
+}
+
+/* Prints a line with a label and a moment in milliseconds. */
+void print_labelled_moment_ms(const char *label, uint64_t milliseconds) {
+    printf("  %s: ", label);
+    print_moment_ms(milliseconds);
     putchar('\n');
 }
 

@@ -29,6 +29,12 @@ void print_modes(uint64_t mask);
 /* Prints a moment in seconds, and as a date where it has one of four digits. */
 void print_moment(uint64_t seconds);
 
+/* Prints a moment in milliseconds, as seconds with three digits more, and as a date where it has one of four digits. */
+void print_moment_ms(uint64_t milliseconds);
+
+/* Prints a length of time, from its largest unit that isn't 0 on: days, hours, minutes, and seconds with three digits more. */
+void print_duration(uint64_t milliseconds);
+
 /* Prints 16 bytes as a UUID text. */
 void print_id(const uint8_t *id);
 
@@ -37,6 +43,9 @@ void print_text(const uint8_t *text, size_t len);
 
 /* Prints a line of its own, two blanks in, with a label and a moment. */
 void print_labelled_moment(const char *label, uint64_t seconds);
+
+/* Prints a line of its own, two blanks in, with a label and a moment in milliseconds. */
+void print_labelled_moment_ms(const char *label, uint64_t milliseconds);
 
 /* Prints a line of its own, two blanks in, with a label and a text. */
 void print_labelled_text(const char *label, const uint8_t *text, size_t len);

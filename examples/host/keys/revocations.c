@@ -7,17 +7,10 @@
 #include "arguments.h"
 #include "files.h"
 #include "lines.h"
+#include "numbers.h"
 
 /* The most fields of a line, and the length of a row: a descriptor id and a moment. */
-enum { FIELDS_MAX = 2, MOMENT_LEN = 8, ROW_LEN = ID_LEN + MOMENT_LEN };
-
-/* Writes a moment, big-endian. */
-static void put_moment(uint8_t bytes[MOMENT_LEN], uint64_t moment) {
-    for (size_t place = MOMENT_LEN; place > 0; place--) {
-        bytes[place - 1] = (uint8_t)(moment & 0xff);
-        moment >>= 8;
-    }
-}
+enum { FIELDS_MAX = 2, ROW_LEN = ID_LEN + NUMBER_LEN };
 
 /* Makes a row from the fields of a line; answers what is wrong, or null. */
 static const char *row_from_fields(char *const fields[], size_t count, uint8_t row[ROW_LEN]) {
@@ -31,7 +24,7 @@ static const char *row_from_fields(char *const fields[], size_t count, uint8_t r
     if (count == FIELDS_MAX && !parse_number(fields[1], &moment)) {
         return "the moment isn't a number of seconds";
     }
-    put_moment(row + ID_LEN, moment);
+    put_number(row + ID_LEN, moment);
     return NULL;
 }
 

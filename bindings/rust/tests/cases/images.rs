@@ -77,7 +77,7 @@ fn all_calls(compare: &mut Compare, bytes: &[u8]) {
         fay: FAY.as_bytes(),
         terminal: TERMINAL.as_bytes(),
         resource: resource.as_bytes(),
-        now: 2500,
+        now_ms: 2_500_000,
         session_length: 100,
         ..Request::default()
     };

@@ -4,6 +4,7 @@ pub mod changes;
 pub mod descriptors;
 pub mod images;
 pub mod items;
+pub mod leases;
 pub mod named;
 pub mod narrowing;
 pub mod paths;

@@ -1,4 +1,5 @@
-//! Requests: each step failing alone and in pairs and threes, each limit, revocation lists, and random patterns and paths.
+//! Requests: each step failing alone and in pairs and threes, each limit, revocation lists, and random patterns and paths. Leases
+//! have cases of their own.
 
 use reference::Request;
 
@@ -9,7 +10,11 @@ use crate::compare::Compare;
 use crate::encoder::{
     grant, image, modes_of, revocation, Grant, Model, Row, FAY, MODES, OTHER_TERMINAL, TERMINAL,
 };
+use crate::lease_row::{LeaseRow, LAST_MOMENT};
 use crate::random::Random;
+
+/// The second of the last moment that the clock may have.
+const LAST_SECOND: u64 = LAST_MOMENT / 1000;
 
 /// All cases of requests.
 pub fn run(compare: &mut Compare, random: &mut Random, rounds: usize) {
@@ -46,15 +51,16 @@ pub fn run(compare: &mut Compare, random: &mut Random, rounds: usize) {
 #[derive(Clone)]
 pub struct Asked {
     image: Vec<u8>,
-    id: Vec<u8>,
+    pub id: Vec<u8>,
     fay: Vec<u8>,
     terminal: Vec<u8>,
     pub resource: Vec<u8>,
     revoked: Vec<u8>,
+    pub leases: Vec<u8>,
     pub mode: u64,
-    now: u64,
+    pub now_ms: u64,
     session_length: u64,
-    verdict: u64,
+    pub verdict: u64,
     valid_from: u64,
     has_valid_until: u64,
     valid_until: u64,
@@ -92,8 +98,9 @@ impl Asked {
             terminal: model.terminal.clone().into(),
             resource: format!("{}/a/b", model.terminal).into(),
             revoked: vec![0xee; 48],
+            leases: Vec::new(),
             mode: 0,
-            now: model.not_before,
+            now_ms: model.not_before.saturating_mul(1000),
             session_length: 100,
             verdict: 0,
             valid_from: 0,
@@ -102,10 +109,29 @@ impl Asked {
         }
     }
 
+    /// A row of the id that was synced right now.
+    fn lease(&self) -> Vec<u8> {
+        LeaseRow::synced(&self.id, self.now_ms).bytes()
+    }
+
+    /// The same, revoked.
+    fn revoked_lease(&self) -> Vec<u8> {
+        LeaseRow {
+            flag: 1,
+            ..LeaseRow::synced(&self.id, self.now_ms)
+        }
+        .bytes()
+    }
+
+    /// The clock in seconds.
+    fn now(&self) -> u64 {
+        self.now_ms / 1000
+    }
+
     pub fn run(&self, compare: &mut Compare) {
         let Asked {
             mode,
-            now,
+            now_ms,
             session_length,
             verdict,
             valid_from,
@@ -119,8 +145,9 @@ impl Asked {
             terminal: &self.terminal,
             resource: &self.resource,
             revoked: &self.revoked,
+            leases: &self.leases,
             mode,
-            now,
+            now_ms,
             session_length,
             verdict,
             valid_from,
@@ -168,6 +195,10 @@ fn malformed() -> Vec<Change> {
         |a| a.revoked.push(0),
         |a| a.revoked.truncate(47),
         |a| a.revoked.truncate(16),
+        |a| a.now_ms = LAST_MOMENT + 1,
+        |a| a.now_ms = u64::MAX,
+        |a| a.leases.push(0),
+        |a| a.leases = a.lease().repeat(2),
         |a| set(&mut a.image, 3, 2),
         |a| a.image.truncate(8 + 32 * 4),
         |a| a.image.clear(),
@@ -180,20 +211,23 @@ fn later_steps() -> Vec<Change> {
         |a| a.id = vec![0x99; 16],
         |a| a.id = some_rows()[2].id.clone(),
         |a| a.revoked = revocation(&a.id, 0),
-        |a| a.revoked = revocation(&a.id, a.now.saturating_sub(1)),
-        |a| a.revoked = revocation(&a.id, a.now),
-        |a| a.revoked = revocation(&a.id, a.now.saturating_add(1)),
+        |a| a.revoked = revocation(&a.id, a.now().saturating_sub(1)),
+        |a| a.revoked = revocation(&a.id, a.now()),
+        |a| a.revoked = revocation(&a.id, a.now().saturating_add(1)),
         |a| a.revoked = revocation(&a.id, u64::MAX),
-        |a| a.revoked.extend(revocation(&a.id, a.now)),
-        |a| a.revoked.extend(revocation(&a.id, a.now.saturating_add(1))),
+        |a| a.revoked.extend(revocation(&a.id, a.now())),
+        |a| {
+            a.revoked
+                .extend(revocation(&a.id, a.now().saturating_add(1)))
+        },
         |a| a.revoked = [&[0; 8], &a.id[..], &[0; 24]].concat(),
         |a| a.revoked.clear(),
-        |a| a.now = 0,
-        |a| a.now = 1999,
-        |a| a.now = 2000,
-        |a| a.now = 2999,
-        |a| a.now = 3000,
-        |a| a.now = u64::MAX,
+        |a| a.now_ms = 0,
+        |a| a.now_ms = 1_999_999,
+        |a| a.now_ms = 2_000_000,
+        |a| a.now_ms = 2_999_999,
+        |a| a.now_ms = 3_000_000,
+        |a| a.now_ms = LAST_MOMENT,
         |a| a.fay = FAY.replace("7e21", "7e22").into(),
         |a| a.fay = FAY.replace("ab", "AB").into(),
         |a| a.terminal = OTHER_TERMINAL.into(),
@@ -205,15 +239,21 @@ fn later_steps() -> Vec<Change> {
         |a| a.mode = 3,
         |a| a.verdict = 1,
         |a| a.verdict = 2,
-        |a| a.valid_from = a.now,
-        |a| a.valid_from = a.now.saturating_add(1),
-        |a| (a.has_valid_until, a.valid_until) = (1, a.now),
-        |a| (a.has_valid_until, a.valid_until) = (1, a.now.saturating_sub(1)),
+        |a| a.valid_from = a.now(),
+        |a| a.valid_from = a.now().saturating_add(1),
+        |a| (a.has_valid_until, a.valid_until) = (1, a.now()),
+        |a| (a.has_valid_until, a.valid_until) = (1, a.now().saturating_sub(1)),
         |a| (a.has_valid_until, a.valid_until) = (u64::MAX, 0),
         |a| (a.has_valid_until, a.valid_until) = (0, 1),
         |a| a.session_length = 0,
         |a| a.session_length = 1001,
         |a| a.session_length = u64::MAX,
+        |a| a.leases = a.lease(),
+        |a| a.leases = a.revoked_lease(),
+        |a| a.leases = LeaseRow::synced(&a.id, a.now_ms.saturating_add(21)).bytes(),
+        |a| a.leases = LeaseRow::synced(&a.id, a.now_ms.saturating_sub(100_031)).bytes(),
+        |a| a.leases = LeaseRow::synced(&a.id, a.now_ms.saturating_sub(150_031)).bytes(),
+        |a| a.leases = LeaseRow::synced(&[0x99; 16], a.now_ms).bytes(),
     ]
 }
 
@@ -249,9 +289,10 @@ fn clocks(compare: &mut Compare) {
         (0, 1),
         (0, 7_776_000),
         (2000, 3000),
-        (u64::MAX - 10, u64::MAX),
+        (LAST_SECOND - 10, LAST_SECOND + 10),
+        (LAST_SECOND - 1, LAST_SECOND),
+        (LAST_SECOND, LAST_SECOND + 1),
         (u64::MAX - 1, u64::MAX),
-        (1 << 63, (1 << 63) + 5),
     ];
     for (not_before, not_after) in periods {
         let model = Model {
@@ -261,12 +302,8 @@ fn clocks(compare: &mut Compare) {
             ..Model::plain()
         };
         let bytes = image(&[Row::of(&model)]);
-        let near = [not_before, not_after];
-        let moments = near
-            .iter()
-            .flat_map(|&at| [at.wrapping_sub(1), at, at.wrapping_add(1)])
-            .chain([0, u64::MAX]);
-        for now in moments {
+        for now_ms in moments_near(not_before, not_after) {
+            let now = now_ms / 1000;
             let left = not_after.wrapping_sub(now);
             for session_length in [
                 0,
@@ -285,7 +322,7 @@ fn clocks(compare: &mut Compare) {
                     (0, 2, now.wrapping_sub(1)),
                 ] {
                     let asked = Asked {
-                        now,
+                        now_ms,
                         session_length,
                         valid_from,
                         has_valid_until,
@@ -299,13 +336,23 @@ fn clocks(compare: &mut Compare) {
     }
 }
 
+/// Clocks in milliseconds around two seconds, and at the ends of the clock.
+fn moments_near(one: u64, other: u64) -> Vec<u64> {
+    let edges = [one, other].map(|second| second.saturating_mul(1000));
+    let near =
+        |at: u64| [0, 1, 500, 999, 1000, 1001, 2000].map(|n| at.wrapping_add(n).wrapping_sub(1000));
+    let mut moments: Vec<u64> = edges.into_iter().flat_map(near).collect();
+    moments.extend([0, LAST_MOMENT - 1, LAST_MOMENT, LAST_MOMENT + 1, u64::MAX]);
+    moments
+}
+
 /// Lists with a row of the id at each place, at no place, and across two rows.
 fn revocation_lists(compare: &mut Compare, random: &mut Random) {
     for length in [0, 1, 2, 3, 10, 100] {
         let others = random.bytes(24 * length);
         for at in 0..=others.len().min(72) {
             let mut asked = Asked::fine();
-            let row = revocation(&asked.id, asked.now);
+            let row = revocation(&asked.id, asked.now());
             asked.revoked = [&others[..at], &row, &others[at..]].concat();
             asked.run(compare);
             asked.revoked.truncate(24 * length);
@@ -317,9 +364,9 @@ fn revocation_lists(compare: &mut Compare, random: &mut Random) {
 /// A row and two rows of the id, with moments around the clock, at the ends, and with the clock's bytes the other way round.
 fn revocation_moments(compare: &mut Compare) {
     let last = u64::MAX;
-    for now in [0, 1, 1999, 2000, 2999, 3000, 1 << 56, last - 1, last] {
+    for now in [0, 1, 1999, 2000, 2999, 3000, 1 << 40, LAST_SECOND] {
         let mut asked = Asked::fine();
-        asked.now = now;
+        asked.now_ms = 1000 * now;
         let (before, after) = (now.wrapping_sub(1), now.wrapping_add(1));
         let rows = [0, before, now, after, last, now.swap_bytes()]
             .map(|moment| revocation(&asked.id, moment));
@@ -337,7 +384,7 @@ fn revocation_moments(compare: &mut Compare) {
 /// Rows of the id with each bit changed, and cut to each length.
 fn revocation_bytes(compare: &mut Compare) {
     let fine = Asked::fine();
-    let row = revocation(&fine.id, fine.now);
+    let row = revocation(&fine.id, fine.now());
     for bit in 0..8 * row.len() {
         let mut asked = fine.clone();
         asked.revoked = row.clone();
@@ -355,14 +402,15 @@ fn revocation_bytes(compare: &mut Compare) {
 /// A list of few ids, with moments near the clock.
 fn random_revocations(compare: &mut Compare, random: &mut Random) {
     let mut asked = Asked::fine();
-    asked.now = *random.pick(&[0, 1999, 2000, 2500, 2999, 3000, u64::MAX]);
+    let now = *random.pick(&[0, 1999, 2000, 2500, 2999, 3000, LAST_SECOND]);
+    asked.now_ms = 1000 * now + random.below(1000) as u64;
     let mut ids = vec![asked.id.clone(); 3];
     ids[1][0] ^= 1;
     ids[2][15] ^= 1;
     asked.revoked.clear();
     for _ in 0..random.below(8) {
         let id: &Vec<u8> = random.pick(&ids);
-        let moment = asked.now.wrapping_add(random.below(7) as u64);
+        let moment = now.wrapping_add(random.below(7) as u64);
         asked.revoked.extend(revocation(id, moment.wrapping_sub(2)));
     }
     asked.run(compare);
@@ -379,7 +427,7 @@ fn random_request(compare: &mut Compare, random: &mut Random) {
     let model = Model::with(grants.collect());
     let mut asked = Asked::of(&model, image(&[Row::of(&model)]));
     asked.mode = random.below(MODES.len()) as u64;
-    asked.now = 1990 + random.below(1020) as u64;
+    asked.now_ms = 1_990_000 + random.below(1_020_000) as u64;
     asked.session_length = random.edge();
     asked.verdict = if random.once_in(10) { 1 } else { 0 };
     let levels = random.pick(&model.grants).pattern[46..].to_string();

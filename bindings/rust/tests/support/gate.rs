@@ -1,5 +1,6 @@
 //! The two implementations under one set of calls.
 
+use cap::{Milliseconds, Seconds};
 use reference::{Request, Submission};
 
 /// An implementation of the gate; each call answers with all its numbers in the order of `include/cap.h`.
@@ -20,11 +21,41 @@ pub struct Library;
 /// The ordinary implementation.
 pub struct Ordinary;
 
+/// A number of an answer, whatever its unit.
+trait Number {
+    /// Its bits, which of a margin are those of a signed number.
+    fn bits(self) -> u64;
+}
+
+impl Number for u64 {
+    fn bits(self) -> u64 {
+        self
+    }
+}
+
+impl Number for i64 {
+    fn bits(self) -> u64 {
+        self as u64
+    }
+}
+
+impl Number for cap::Seconds {
+    fn bits(self) -> u64 {
+        self.0
+    }
+}
+
+impl Number for cap::Margin {
+    fn bits(self) -> u64 {
+        self.0.bits()
+    }
+}
+
 /// The named fields of a struct as a list.
 macro_rules! list {
     ($from:expr; $($field:ident)*) => {{
         let from = $from;
-        vec![$(from.$field),*]
+        vec![$(from.$field.bits()),*]
     }};
 }
 
@@ -84,11 +115,11 @@ impl Gate for Library {
         vec![cap::numbers::submit(
             image,
             descriptor,
-            now,
+            Seconds(now),
             verdict,
-            valid_from,
+            Seconds(valid_from),
             has_valid_until,
-            valid_until,
+            Seconds(valid_until),
         )]
     }
 
@@ -100,15 +131,16 @@ impl Gate for Library {
             with.terminal,
             with.resource,
             with.mode,
-            with.now,
-            with.session_length,
+            Milliseconds(with.now_ms),
+            Seconds(with.session_length),
             with.revoked,
+            with.leases,
             with.verdict,
-            with.valid_from,
+            Seconds(with.valid_from),
             with.has_valid_until,
-            with.valid_until,
+            Seconds(with.valid_until),
         );
-        list!(decision; answer grant mask session_end)
+        list!(decision; answer grant mask session_end margin)
     }
 }
 
@@ -120,6 +152,6 @@ impl Gate for Ordinary {
     }
 
     fn request(&self, image: &[u8], with: &Request) -> Vec<u64> {
-        list!(reference::request(image, with); answer grant mask session_end)
+        list!(reference::request(image, with); answer grant mask session_end margin)
     }
 }

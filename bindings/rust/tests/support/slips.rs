@@ -7,6 +7,7 @@ use cap::part;
 use reference::{Request, Submission};
 
 use super::gate::{Gate, Ordinary};
+use super::lease_slips::{self, LeaseSlip};
 
 /// A slip that an implementation might make.
 #[derive(Clone, Copy, Debug, PartialEq, Eq)]
@@ -42,9 +43,11 @@ pub enum Slip {
     MaskOfFirst,
     HighestMode,
     LevelsAlwaysOne,
+    /// A slip in the lease steps, or none.
+    Lease(Option<LeaseSlip>),
 }
 
-/// All slips.
+/// All slips but those in the lease steps.
 pub const SLIPS: [Slip; 31] = [
     Slip::EmptyStringAtZero,
     Slip::LongerHeadRead,
@@ -162,6 +165,9 @@ impl Gate for Wrong {
     }
 
     fn request(&self, image: &[u8], with: &Request) -> Vec<u64> {
+        if let Slip::Lease(slip) = self.0 {
+            return lease_slips::request(slip, image, with);
+        }
         let mut with = *with;
         if self.0 == Slip::KeyNeverEnds {
             with.has_valid_until = 0;
@@ -169,14 +175,15 @@ impl Gate for Wrong {
         let revoked = misread(self.0, with.revoked);
         with.revoked = &revoked;
         let mut decision = Ordinary.request(image, &with);
-        let sum = with.now.checked_add(with.session_length);
+        let now = with.now_ms / 1000;
+        let sum = now.checked_add(with.session_length);
         match (self.0, decision[0]) {
             (Slip::SessionNotCut, 0) => decision[3] = sum.unwrap_or(u64::MAX),
             (Slip::SessionWraps, 0) if sum.is_none() => {
-                decision[3] = with.now.wrapping_add(with.session_length)
+                decision[3] = now.wrapping_add(with.session_length)
             }
             (Slip::ExpiryLate, 10) => {
-                with.now -= 1;
+                with.now_ms -= 1000;
                 decision = Ordinary.request(image, &with);
             }
             (slip, 0) => {

@@ -1,0 +1,14 @@
+/* What the lease of a descriptor says to a decision, in words. */
+#ifndef HOST_LEASING_H
+#define HOST_LEASING_H
+
+#include <stdint.h>
+
+#include "cap.h"
+#include "leases.h"
+
+/* Prints a line on the lease of the id, for a decision that the gate has made at the clock: for how long it is active yet, or why it is refused. Where
+ * another step has refused the request, or there is no lease file, it prints nothing. */
+void print_lease(const lease_table *leases, const uint8_t *id, cap_decision decision, uint64_t now_ms);
+
+#endif

@@ -26,7 +26,7 @@ use Rattle.request_spec.specs.Request.{Request}
 use Rattle.request_spec.specs.Decision.{decisionOf, numbersOf}
 use Rattle.request_spec.specs.Promises.{Stored, badImage, notHeld, held, Under, refusal, staleWith, formedBefore, formed, leaseFor}
 use Rattle.request_spec.specs.Promises.{whereLeased, marginAt, leaseSteps, stepsWith, stepsFor, grantedWith, grantedFor, answerFor}
-use Rattle.request_spec.specs.Promises.{WithoutLease, GrantMargin, StaleMargin, withLeases, OtherLeases, Faded, OlderSync}
+use Rattle.request_spec.specs.Promises.{WithoutLease, GrantMargin, StaleMargin, withLeases, OtherLeases, Faded, OlderSyncRefused}
 use Rattle.request_spec.proofs.NumberLaws.{answerOf, decided-exactly, granted-exactly}
 use Rattle.request_spec.proofs.UnderLaws.{all-stored}
 
@@ -332,9 +332,9 @@ older-answers q (held d) ok one two l older h (inr e) f =
     behind-faded q d ok two (w .0) (subst (λ (y : Option Lease). Faded (behind q d y)) (sym (e .1))
     (older-faded q d l older h (subst (λ (y : Option Lease). Faded (behind q d y)) (e .0) (w .1))))
 
--- `OlderSync`
-pub older-sync : OlderSync
-older-sync s q before after r older b a h f =
+-- `OlderSyncRefused`
+pub older-sync-refused : OlderSyncRefused
+older-sync-refused s q before after r older b a h f =
     let one : List Row = before ++ (r ∷ after) in
     let two : List Row = before ++ (older-row r older ∷ after) in
     let x = all-stored s (q .id) b in

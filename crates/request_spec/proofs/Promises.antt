@@ -3,7 +3,7 @@ use mathlib.Core.Path.{refl}
 use Rattle.request_spec.specs.Promises.{ArgumentsInOrder, AllStored, DecidedExactly, GrantedExactly, RefusedExactly}
 use Rattle.request_spec.specs.Promises.{RefusalsZero, EditionsRefused, GrantedGives, BeginBoundary, EndBoundary, StoredDecided}
 use Rattle.request_spec.specs.Promises.{OthersDecided, RevokedRefused, RowMoreRefuses, EarlyRowWaits, StaysRevoked, PickedOnce}
-use Rattle.request_spec.specs.Promises.{AnsweredAsBefore, WithoutLease, GrantMargin, StaleMargin, OtherLeases, OlderSync}
+use Rattle.request_spec.specs.Promises.{AnsweredAsBefore, WithoutLease, GrantMargin, StaleMargin, OtherLeases, OlderSyncRefused}
 use Rattle.request_spec.proofs.UnderLaws as under
 use Rattle.request_spec.proofs.NumberLaws as numbers
 use Rattle.request_spec.proofs.ServingLaws as serving
@@ -82,8 +82,8 @@ stale-margin = lease.stale-margin
 pub other-leases : OtherLeases
 other-leases = lease.other-leases
 
-pub older-sync : OlderSync
-older-sync = lease.older-sync
+pub older-sync-refused : OlderSyncRefused
+older-sync-refused = lease.older-sync-refused
 
 -- ---- both sides of not_before and not_after
 

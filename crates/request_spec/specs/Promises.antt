@@ -380,8 +380,8 @@ abbrev pub Faded : DecisionNumbers → Type 0
 Faded r = (r .answer ≡ 24) ⊎ (r .answer ≡ 25)
 
 -- where a row's last sync is an older one, a request that was answered 24 or 25 is answered 24 or 25; so it is not granted
-abbrev pub OlderSync : Type 0
-OlderSync = (s : List ℕ) (q : Request) (before after : List LeaseRow) (r : LeaseRow) (older : ℕ) → AreBytes s
+abbrev pub OlderSyncRefused : Type 0
+OlderSyncRefused = (s : List ℕ) (q : Request) (before after : List LeaseRow) (r : LeaseRow) (older : ℕ) → AreBytes s
     → AreRows (before ++ (r ∷ after)) → older ≤ r .lease .«last_sync» .0
     → Faded (numbersOf (decisionOf s (withLeases q (tableBytes (before ++ (r ∷ after))))))
     → Faded (numbersOf (decisionOf s

@@ -152,4 +152,5 @@ path-formed q e =
     (and-right (leb (length (q .resource)) 256) (isResource (q .resource))
     (and-left _ _ (and-right (isTerminal (q .terminal)) _
     (and-right (isFay (q .fay)) _
-    (and-right (eqb (length (q .id)) 16) _ (and-right (leb (q .mode) 3) _ (and-right (leb (q .verdict) 2) _ (and-left (formedBefore q) _ e))))))))
+    (and-right (eqb (length (q .id)) 16) _
+    (and-right (leb (q .mode) 3) _ (and-right (leb (q .verdict) 2) _ (and-left (formedBefore q) _ e))))))))

@@ -126,7 +126,8 @@ pub extern "C" fn cap_request(
 ) -> DecisionNumbers
     ensures answer { λ r. ⌜ r ≡ requests.numbersOf (requests.decisionOf (now (image .entry))
         (requestOf (now (id .entry)) (now (fay .entry)) (now (terminal .entry)) (now (resource .entry)) mode
-        (milliseconds «now_ms») (seconds «session_length») (now (revoked .entry)) (now (leases .entry)) verdict (windowOf «valid_from» «has_valid_until» «valid_until»))) ⌝ }
+        (milliseconds «now_ms») (seconds «session_length») (now (revoked .entry)) (now (leases .entry)) verdict
+        (windowOf «valid_from» «has_valid_until» «valid_until»))) ⌝ }
     ensures lent { λ _. ⌜ AreBytes (now (image .entry)) × AreBytes (now (id .entry)) × AreBytes (now (fay .entry))
         × AreBytes (now (terminal .entry)) × AreBytes (now (resource .entry)) × AreBytes (now (revoked .entry))
         × AreBytes (now (leases .entry)) ⌝ }

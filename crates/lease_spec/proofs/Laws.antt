@@ -16,9 +16,9 @@ use Rattle.lease_spec.specs.declared.Lease.{Lease}
 use Rattle.lease_spec.specs.declared.LeaseFound.{LeaseFound}
 use Rattle.lease_spec.specs.declared.LeaseFound.the-variants.{Found, Missing, Malformed}
 use Rattle.lease_spec.specs.Lease.{leaseOk}
-use Rattle.lease_spec.specs.Table.{Row, leaseSize, flagPlace, flagWidth, zeroPlace, zeroWidth, leaseAt, rowOk, rowAt, rowsFrom, rowsOf}
-use Rattle.lease_spec.specs.Table.{leaseUnder, rowsOk, idsDiffer, tableOk, foundOf, findIn}
-use Rattle.lease_spec.specs.Promises.{Within, Allowed, IsIn, AreRows, withSync}
+use Rattle.lease_spec.specs.Table.{Row, leaseSize, flagPlace, flagWidth, zeroPlace, zeroWidth, leaseAt, rowOk, rowAt, rowsFrom}
+use Rattle.lease_spec.specs.Table.{rowsOf, leaseUnder, rowsOk, idsDiffer, tableOk, foundOf, findIn}
+use Rattle.lease_spec.specs.Promises.{Allowed, IsIn, withSync}
 use Rattle.lease_spec.specs.Laws.{BytesTable, OlderRows, FoundWithin}
 use Rattle.lease_spec.proofs.TableLaws.{table-ok}
 
@@ -74,7 +74,8 @@ under-within : (s : List ℕ) (i n : ℕ) (id : List ℕ) (l : Lease) → rowsOk
 unfolding rowsOk rowsFrom leaseUnder rowAt
 under-within s i zero id l e f = absurd (none-some l f)
 under-within s i (suc n) id l e f =
-    go (same (rowAt s (leaseSize * i) .id) id) (under-within s (i + 1) n id l (and-right (rowOk s (leaseSize * i)) (rowsOk s (i + 1) n) e)) f
+    go (same (rowAt s (leaseSize * i) .id) id)
+    (under-within s (i + 1) n id l (and-right (rowOk s (leaseSize * i)) (rowsOk s (i + 1) n) e)) f
   where
     go : (b : Bool) → (leaseUnder (rowsFrom s (i + 1) n) id ≡ some l → leaseOk l ≡ true)
         → cond b (some (leaseAt s (leaseSize * i))) (leaseUnder (rowsFrom s (i + 1) n) id) ≡ some l → leaseOk l ≡ true
@@ -102,6 +103,7 @@ found-within s id l e = go (tableOk s) refl e
     go : (t : Bool) → tableOk s ≡ t → cond t (foundOf (leaseUnder (rowsOf s) id)) Malformed ≡ Found l → leaseOk l ≡ true
     go true k f =
         let n = length s / leaseSize in
-        let ok = and-left (rowsOk s 0 n) (idsDiffer (rowsOf s)) (and-right (eqb (length s % leaseSize) 0) (rowsOk s 0 n && idsDiffer (rowsOf s)) k) in
+        let both = and-right (eqb (length s % leaseSize) 0) (rowsOk s 0 n && idsDiffer (rowsOf s)) k in
+        let ok = and-left (rowsOk s 0 n) (idsDiffer (rowsOf s)) both in
         under-within s 0 n id l ok (sym (lease-in (leaseUnder (rowsOf s) id)) ∙ ap leaseIn f)
     go false k f = absurd (none-some l (ap leaseIn f))

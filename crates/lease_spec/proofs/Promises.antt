@@ -1,6 +1,7 @@
 -- The promises of specs/Promises.antt, each from its law. Assumes nothing.
 use Rattle.lease_spec.specs.Promises.{StateExactly, OutsideExactly, MarginExact, MarginSign, MarginFits, OlderSync, LaterClock}
-use Rattle.lease_spec.specs.Promises.{RowExactly, RowShort, RowLaidOut, TableExactly, RowsBack, FoundExactly, MissingExactly, MalformedExactly}
+use Rattle.lease_spec.specs.Promises.{RowExactly, RowShort, RowLaidOut, TableExactly, RowsBack, UnderExactly, FoundExactly}
+use Rattle.lease_spec.specs.Promises.{MissingExactly, MalformedExactly}
 use Rattle.lease_spec.proofs.MarginLaws as margin
 use Rattle.lease_spec.proofs.StateLaws as state
 use Rattle.lease_spec.proofs.RowLaws as row
@@ -49,6 +50,9 @@ table-exactly = table.table-exactly
 
 pub rows-back : RowsBack
 rows-back = table.rows-back
+
+pub under-exactly : UnderExactly
+under-exactly = table.under-exactly
 
 pub found-exactly : FoundExactly
 found-exactly = table.found-exactly

@@ -18,7 +18,8 @@ use Rattle.lease_spec.specs.declared.LeaseFound.{LeaseFound}
 use Rattle.lease_spec.specs.declared.LeaseFound.the-variants.{Found, Missing, Malformed}
 use Rattle.lease_spec.specs.Table.{Row, hasId, idsDiffer, leaseUnder, leaseSize, rowBytes, tableBytes, rowOk, rowAt, rowsFrom}
 use Rattle.lease_spec.specs.Table.{rowsOf, rowsOk, tableOk, foundOf, findIn}
-use Rattle.lease_spec.specs.Promises.{IsIn, AreRows, TableExactly, RowsBack, FoundExactly, MissingExactly, MalformedExactly}
+use Rattle.lease_spec.specs.Promises.{IsIn, AreRows, TableExactly, RowsBack, UnderExactly, FoundExactly, MissingExactly}
+use Rattle.lease_spec.specs.Promises.{MalformedExactly}
 use Rattle.lease_spec.proofs.RowLaws.{row-length, row-there, there-row}
 
 -- ---- ids
@@ -164,6 +165,13 @@ is-missing : (rs : List Row) (id : List ℕ) → ((r : Row) → IsIn r rs → r 
 unfolding leaseUnder
 is-missing [] id h = refl
 is-missing (x ∷ xs) id h = rw (not-same (x .id) id (h x (inl refl))) (is-missing xs id (λ r i. h r (inr i)))
+
+-- `UnderExactly`
+pub under-exactly : UnderExactly
+under-exactly rs id l a = (
+  λ e. subst (λ (o : Option Lease). Finds rs id (foundOf o)) e (finds rs id),
+  λ p. ap (leaseUnder rs) (sym (p .2)) ∙ is-found rs (p .0) a (p .1) ∙ ap some (p .3),
+)
 
 -- the bytes of rows have under an id what the rows have
 find-rows : (rs : List Row) (id : List ℕ) → AreRows rs → findIn (tableBytes rs) id ≡ foundOf (leaseUnder rs id)

@@ -4,6 +4,7 @@ use mathlib.Core.Path.{_≡_}
 use mathlib.Core.Logic.{_↔_, _⊎_}
 use mathlib.Core.Bool.{true, false}
 use mathlib.Core.List.{List, [], _∷_, _++_}
+use mathlib.Core.Option.{some}
 use Prim.Native.Nat.{ℕ, _+_, _*_, _^_, _≤_, _<_}
 use lib.ListN.{length, replicate}
 use lib.IntN.{pos, negsuc, _+ℤ_, _-ℤ_}
@@ -17,7 +18,7 @@ use Rattle.lease_spec.specs.declared.LeaseState.the-variants as states
 use Rattle.lease_spec.specs.declared.LeaseRow.the-variants.{IsRow, NoRow}
 use Rattle.lease_spec.specs.declared.LeaseFound.the-variants as finds
 use Rattle.lease_spec.specs.Lease.{marginOf, stateOf}
-use Rattle.lease_spec.specs.Table.{Row, rowBytes, tableBytes, leaseRead, rowsOf, tableOk, findIn}
+use Rattle.lease_spec.specs.Table.{Row, leaseUnder, rowBytes, tableBytes, leaseRead, rowsOf, tableOk, findIn}
 
 -- ---- the state of a lease
 
@@ -149,7 +150,12 @@ TableExactly = (s : List ℕ) → AreBytes s → (tableOk s ≡ true) ↔ ((rs :
 abbrev pub RowsBack : Type 0
 RowsBack = (rs : List Row) → AreRows rs → rowsOf (tableBytes rs) ≡ rs
 
--- a lease is found under an id exactly when a row has both
+-- rows have a lease under an id exactly when one of them has both
+abbrev pub UnderExactly : Type 0
+UnderExactly = (rs : List Row) (id : List ℕ) (l : Lease) → AreRows rs
+    → (leaseUnder rs id ≡ some l) ↔ ((r : Row) × IsIn r rs × (r .id ≡ id) × (r .lease ≡ l))
+
+-- so a lease is found in their bytes under an id exactly when a row has both
 abbrev pub FoundExactly : Type 0
 FoundExactly = (rs : List Row) (id : List ℕ) (l : Lease) → AreRows rs
     → (findIn (tableBytes rs) id ≡ finds.Found l) ↔ ((r : Row) × IsIn r rs × (r .id ≡ id) × (r .lease ≡ l))

@@ -1,5 +1,5 @@
 -- Laws of the arguments of a request (specs/Request.antt of `request_spec`), in the code's own form. Assumes nothing.
-use mathlib.Core.Path.{_≡_, refl, sym, ap, _∙_, subst}
+use mathlib.Core.Path.{_≡_, refl, sym, ap, _∙_}
 use mathlib.Core.Bool.{Bool, true, false, not, cond, _&&_, false≢true}
 use mathlib.Core.Option.{Option, none, some}
 use mathlib.Core.List.{List}
@@ -19,7 +19,7 @@ use Rattle.lease_spec.specs.declared.Lease.{Lease}
 use Rattle.lease_spec.specs.declared.LeaseFound.{LeaseFound}
 use Rattle.lease_spec.specs.declared.LeaseFound.the-variants.{Found, Missing, Malformed}
 use Rattle.lease_spec.specs.Lease.{latest, clockOk}
-use Rattle.lease_spec.specs.Table.{leaseUnder, rowsOf, tableOk, foundOf, findIn}
+use Rattle.lease_spec.specs.Table.{tableOk, foundOf, findIn}
 use Rattle.lease_spec.proofs.Promises.{malformed-exactly}
 use Rattle.lease_spec.proofs.Laws.{found-within}
 use Rattle.request_spec.specs.Request.{Request, argumentsOk, wellFormed, leaseFor}

@@ -13,7 +13,7 @@ use Rattle.lease_spec.specs.declared.Lease.{Lease}
 use Rattle.lease_spec.specs.declared.LeaseState.{LeaseState}
 use Rattle.lease_spec.specs.declared.LeaseState.the-variants as states
 use Rattle.lease_spec.specs.Lease.{leaseOk, clockOk, lastActive, lastStale, isFuture, marginOf, stateWithin, stateOf}
-use Rattle.steps.specs.Order.{Step, step, orElse, inOrder}
+use Rattle.steps.specs.Order.{orElse, inOrder}
 use Rattle.request_spec.specs.declared.Decision.{Decision}
 use Rattle.request_spec.specs.declared.Decision.the-variants as answers
 use Rattle.request_spec.specs.Decision.{leaseSteps}

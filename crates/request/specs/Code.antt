@@ -1,7 +1,7 @@
 -- What the code's inner functions answer and need. A reader of the promises does not need this page.
 use mathlib.Core.Path.{_≡_}
 use mathlib.Core.Bool.{Bool, true, false, cond, _&&_}
-use mathlib.Core.List.{List, _++_}
+use mathlib.Core.List.{List}
 use mathlib.Core.Option.{Option, none, some}
 use Prim.Native.Nat.{ℕ, _+_, _≤_}
 use lib.ListN.{length}
@@ -100,4 +100,5 @@ leasedBy grant mask end found n = inOrder (leaseSteps (leaseIn found) n) (answer
 unfoldable pub signedBy : ℕ → ℕ → Seconds → LeaseFound → Environment → Decision
 signedBy grant mask notAfter found e =
     let clock = wholeSeconds (e .clock) in
-    inOrder (keySteps (e .verdict) (e .window) (clock .0)) (leasedBy grant mask (plusAtMost clock (e .session) notAfter) found (e .clock .0))
+    inOrder (keySteps (e .verdict) (e .window) (clock .0))
+    (leasedBy grant mask (plusAtMost clock (e .session) notAfter) found (e .clock .0))

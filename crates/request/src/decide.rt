@@ -57,8 +57,8 @@ fn check_descriptor(
     clock: Seconds,
 ) -> Applicability
     requires { ⌜ (resourceOk (now resource) ≡ true) × (mode ≤ highestMode) × BodyFits (now body) fields ⌝ }
-    ensures { λ r.
-        ⌜ r ≡ applicabilityOf (now (body .entry)) fields (now (fay .entry)) (now (terminal .entry)) (now (resource .entry)) mode (clock .0) ⌝ }
+    ensures { λ r. ⌜ r ≡ applicabilityOf (now (body .entry)) fields (now (fay .entry)) (now (terminal .entry)) (now (resource .entry)) mode
+        (clock .0) ⌝ }
 {
     let begin = fields.not_before;
     if clock.is_before(begin) {

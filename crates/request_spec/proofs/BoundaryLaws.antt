@@ -29,7 +29,8 @@ module _ (s : List ℕ) (q : Request) (d : Descriptor) (u : Under s (q .id) (hel
   )
 
   -- where a step of the number n fails and those before it pass, the answer is n
-  pub answered : (n : ℕ) → (n ≡ 0 → ⊥) → (n ≡ 24 → ⊥) → failsBy answerOf n (stepsFor q (held d)) ≡ true → numbersOf (decisionOf s q) ≡ refusal n
+  pub answered : (n : ℕ) → (n ≡ 0 → ⊥) → (n ≡ 24 → ⊥) → failsBy answerOf n (stepsFor q (held d)) ≡ true
+      → numbersOf (decisionOf s q) ≡ refusal n
   answered n other margin e =
       let z : numbersOf (decisionOf s q) .answer ≡ n =
       ap answerOf (decided-exactly s q (held d) u) ∙ failed-by answerOf n (stepsFor q (held d)) (grantedFor q (held d)) e in

@@ -33,7 +33,7 @@ use Rattle.request_spec.proofs.UnderLaws.{all-stored}
 -- ---- the answer by whether the arguments are well formed and by the lease
 
 -- the numbers that a request is answered, by the two things that a lease table says
-abbrev answerWith : Request → Stored → Bool → Option Lease → DecisionNumbers
+abbrev pub answerWith : Request → Stored → Bool → Option Lease → DecisionNumbers
 answerWith q badImage ok lease = inOrder (stepsWith ok q badImage) (refusal 0)
 answerWith q notHeld ok lease = inOrder (stepsWith ok q notHeld) (refusal 0)
 answerWith q (held d) ok lease =
@@ -75,25 +75,31 @@ without-lease s q x u h t e =
     table-formed q t ∙ ap (λ (b : Bool). formedBefore q && b) (le-leb (q .clock .0) (2 ^ 53) h) ∙ and-true (formedBefore q) in
     answer-with s q x u ∙ ap₂ (answerWith q x) ok e ∙ without q x (formedBefore q)
 
+-- with a lease table the answer is by its lease alone
+pub answer-table : (s : List ℕ) (q : Request) (t : List ℕ) (x : Stored) → Under s (q .id) x → tableOk t ≡ true
+    → numbersOf (decisionOf s (withLeases q t))
+    ≡ answerWith q x (formedBefore q && leb (q .clock .0) (2 ^ 53)) (leaseUnder (rowsOf t) (q .id))
+answer-table s q t x u h =
+    answer-with s (withLeases q t) x u
+    ∙ table-alike q t x (formed (withLeases q t)) (leaseFor (withLeases q t))
+    ∙ ap (λ (ok : Bool). answerWith q x ok (leaseUnder (rowsOf t) (q .id))) (table-formed (withLeases q t) h)
+
 -- `OtherLeases`
 pub other-leases : OtherLeases
 other-leases s q t u b h k e =
     let x = all-stored s (q .id) b in
-    let ok : formed (withLeases q t) ≡ formed (withLeases q u) = table-formed (withLeases q t) h ∙ sym (table-formed (withLeases q u) k) in
-    answer-with s (withLeases q t) (x .0) (x .1)
-    ∙ table-alike q t (x .0) (formed (withLeases q t)) (leaseFor (withLeases q t))
-    ∙ ap₂ (answerWith q (x .0)) ok e
-    ∙ sym (table-alike q u (x .0) (formed (withLeases q u)) (leaseFor (withLeases q u)))
-    ∙ sym (answer-with s (withLeases q u) (x .0) (x .1))
+    answer-table s q t (x .0) (x .1) h
+    ∙ ap (answerWith q (x .0) (formedBefore q && leb (q .clock .0) (2 ^ 53))) e
+    ∙ sym (answer-table s q u (x .0) (x .1) k)
 
 -- ---- the four steps of a lease
 
 -- four steps with the lease's numbers
-abbrev four : Bool → Bool → Bool → Bool → ℤ → List (Step DecisionNumbers)
+abbrev pub four : Bool → Bool → Bool → Bool → ℤ → List (Step DecisionNumbers)
 four a b c d m = step a (refusal 26) ∷ step b (refusal 23) ∷ step c (staleWith m) ∷ step d (refusal 25) ∷ []
 
 -- where they are answered 24 the first two pass and the third does not
-four-stale : (a b c d : Bool) (m : ℤ) (g : DecisionNumbers) → g .answer ≡ 0 → inOrder (four a b c d m) g .answer ≡ 24
+pub four-stale : (a b c d : Bool) (m : ℤ) (g : DecisionNumbers) → g .answer ≡ 0 → inOrder (four a b c d m) g .answer ≡ 24
     → (inOrder (four a b c d m) g ≡ staleWith m) × (a ≡ true) × (b ≡ true) × (c ≡ false)
 unfolding inOrder orElse
 four-stale false b c d m g z e = absurd (omega (arith, e))
@@ -102,46 +108,34 @@ four-stale true true false d m g z e = (refl, refl, refl, refl)
 four-stale true true true false m g z e = absurd (omega (arith, e))
 four-stale true true true true m g z e = absurd (omega (arith, z, e))
 
--- where they are answered 25 the first two pass and the last does not
-four-expired : (a b c d : Bool) (m : ℤ) (g : DecisionNumbers) → g .answer ≡ 0 → inOrder (four a b c d m) g .answer ≡ 25
-    → (a ≡ true) × (b ≡ true) × (d ≡ false)
-unfolding inOrder orElse
-four-expired false b c d m g z e = absurd (omega (arith, e))
-four-expired true false c d m g z e = absurd (omega (arith, e))
-four-expired true true false d m g z e = absurd (omega (arith, e))
-four-expired true true true false m g z e = (refl, refl, refl)
-four-expired true true true true m g z e = absurd (omega (arith, z, e))
-
--- where the first two pass and the last or the last but one does not, they are answered 24 or 25
-four-faded : (a b c d : Bool) (m : ℤ) (g : DecisionNumbers) → a ≡ true → b ≡ true → (c && d) ≡ false → Faded (inOrder (four a b c d m) g)
-unfolding inOrder orElse
-four-faded a b false d m g p q r = rw (p, q) (inl refl)
-four-faded a b true false m g p q r = rw (p, q) (inr refl)
-four-faded a b true true m g p q r = absurd (false≢true (sym r))
-
 -- ---- the margins
 
 -- the tests of a lease at a clock: revoked, future, stale, expired
-abbrev live : Option Lease → Bool
+abbrev pub live : Option Lease → Bool
 live lease = whereLeased lease (λ l. not (l .revoked))
 
-abbrev synced : Option Lease → ℕ → Bool
+abbrev pub synced : Option Lease → ℕ → Bool
 synced lease n = whereLeased lease (λ l. not (ltb (n + l .skew .0) (l .«last_sync» .0)))
 
-abbrev fresh : Option Lease → ℕ → Bool
+abbrev pub fresh : Option Lease → ℕ → Bool
 fresh lease n = whereLeased lease (λ l. not (ltb (activeEnd l) n && leb n (staleEnd l)))
 
-abbrev lasting : Option Lease → ℕ → Bool
+abbrev pub lasting : Option Lease → ℕ → Bool
 lasting lease n = whereLeased lease (λ l. not (ltb (staleEnd l) n))
 
 -- a test that is denied, and what it says
-denied : (b : Bool) → not b ≡ true → b ≡ false
+pub denied : (b : Bool) → not b ≡ true → b ≡ false
 denied false e = refl
 denied true e = absurd (false≢true e)
 
-affirmed : (b : Bool) → not b ≡ false → b ≡ true
+pub affirmed : (b : Bool) → not b ≡ false → b ≡ true
 affirmed true e = refl
 affirmed false e = absurd (false≢true (sym e))
+
+-- the active time of a stale lease has passed
+pub not-fresh : (l : Lease) (n : ℕ) → fresh (some l) n ≡ false → activeEnd l < n
+not-fresh l n e =
+    ltb-true (activeEnd l) n (and-left (ltb (activeEnd l) n) _ (affirmed (ltb (activeEnd l) n && leb n (staleEnd l)) e))
 
 -- a lease that is neither stale nor expired is within its active time
 within-active : (l : Lease) (n : ℕ) → fresh (some l) n ≡ true → lasting (some l) n ≡ true → n ≤ activeEnd l
@@ -197,11 +191,11 @@ never s q x n u other k z e =
     other (sym z ∙ sym (ap answerOf (not-by answerOf n (stepsFor q x) (grantedFor q x) k f .1)) ∙ f)
 
 -- the lease's steps on a descriptor that is held, and what follows them
-abbrev behind : Request → Descriptor → Option Lease → DecisionNumbers
+abbrev pub behind : Request → Descriptor → Option Lease → DecisionNumbers
 behind q d lease = inOrder (leaseSteps lease (q .clock .0)) (grantedWith (marginAt lease (q .clock .0)) q (held d))
 
 -- an answer that the steps up to the signature do not have is that of the lease's steps, and those pass
-behind-signature : (q : Request) (d : Descriptor) (ok : Bool) (lease : Option Lease) (n : ℕ)
+pub behind-signature : (q : Request) (d : Descriptor) (ok : Bool) (lease : Option Lease) (n : ℕ)
     → passesBy answerOf n (stepsWith ok q (held d)) ≡ true → answerWith q (held d) ok lease .answer ≡ n
     → AllPass (stepsWith ok q (held d)) × (answerWith q (held d) ok lease ≡ behind q d lease)
 behind-signature q d ok lease n k e =
@@ -223,8 +217,9 @@ stale-margin s q b z = go (all-stored s (q .id) b .0) (all-stored s (q .id) b .1
         let n : ℕ = q .clock .0 in
         let w = four-stale (live (some l)) (synced (some l) n) (fresh (some l) n) (lasting (some l) n) (marginAt (some l) n)
         (grantedWith (marginAt (some l) n) q (held d)) refl f in
-        let past = ltb-true (activeEnd l) n (and-left (ltb (activeEnd l) n) _ (affirmed (ltb (activeEnd l) n && leb n (staleEnd l)) (w .3))) in
-        (l, e, w .0, subst (λ (r : DecisionNumbers). r .margin <ℤ pos 0) (sym (w .0)) (subst (λ (m : ℤ). m <ℤ pos 0) (margin-exact l n .0) (margin-sign l n .2 .1 past)))
+        let below : (pos (activeEnd l) -ℤ pos n) <ℤ pos 0 =
+        subst (λ (m : ℤ). m <ℤ pos 0) (margin-exact l n .0) (margin-sign l n .2 .1 (not-fresh l n (w .3))) in
+        (l, e, w .0, subst (λ (r : DecisionNumbers). r .margin <ℤ pos 0) (sym (w .0)) below)
 
     go : (x : Stored) → Under s (q .id) x → Stale (numbersOf (decisionOf s q))
     go badImage u = absurd (never s q badImage 24 u (λ e. omega (arith, e)) refl refl z)
@@ -233,119 +228,3 @@ stale-margin s q b z = go (all-stored s (q .id) b .0) (all-stored s (q .id) b .1
         let a = answer-with s q (held d) u in
         let w = behind-signature q d (formed q) (leaseFor q) 24 refl (sym (ap answerOf a) ∙ z) in
         subst Stale (sym (a ∙ w .1)) (of-lease d (leaseFor q) refl (sym (ap answerOf (a ∙ w .1)) ∙ z))
-
--- ---- an older sync
-
--- the row with an older last sync
-abbrev older-row : Row → ℕ → Row
-older-row r older = record { id = r .id; lease = withSync (r .lease) older }
-
--- the lease under an id stays, or it is that of the row
-under-older : (before after : List Row) (r : Row) (older : ℕ) (id : List ℕ)
-    → (leaseUnder (before ++ (r ∷ after)) id ≡ leaseUnder (before ++ (older-row r older ∷ after)) id)
-    ⊎ ((leaseUnder (before ++ (r ∷ after)) id ≡ some (r .lease))
-    × (leaseUnder (before ++ (older-row r older ∷ after)) id ≡ some (withSync (r .lease) older)))
-unfolding leaseUnder
-under-older [] after r older id = go (same (r .id) id)
-  where
-    go : (b : Bool)
-        → (cond b (some (r .lease)) (leaseUnder after id) ≡ cond b (some (withSync (r .lease) older)) (leaseUnder after id))
-        ⊎ ((cond b (some (r .lease)) (leaseUnder after id) ≡ some (r .lease))
-        × (cond b (some (withSync (r .lease) older)) (leaseUnder after id) ≡ some (withSync (r .lease) older)))
-    go true = inr (refl, refl)
-    go false = inl refl
-under-older (x ∷ before) after r older id = go (same (x .id) id) (under-older before after r older id)
-  where
-    now : Option Lease
-    now = leaseUnder (before ++ (r ∷ after)) id
-
-    then : Option Lease
-    then = leaseUnder (before ++ (older-row r older ∷ after)) id
-
-    go : (b : Bool) → (now ≡ then) ⊎ ((now ≡ some (r .lease)) × (then ≡ some (withSync (r .lease) older)))
-        → (cond b (some (x .lease)) now ≡ cond b (some (x .lease)) then)
-        ⊎ ((cond b (some (x .lease)) now ≡ some (r .lease)) × (cond b (some (x .lease)) then ≡ some (withSync (r .lease) older)))
-    go true k = inl refl
-    go false k = k
-
-module _ (q : Request) (d : Descriptor) where
-  -- a lease whose steps are answered 24 or 25 is not revoked, and its active time has passed
-  faded-past : (l : Lease) → Faded (behind q d (some l)) → (l .revoked ≡ false) × (activeEnd l < q .clock .0)
-  faded-past l (inl e) =
-      let n : ℕ = q .clock .0 in
-      let w = four-stale (live (some l)) (synced (some l) n) (fresh (some l) n) (lasting (some l) n) (marginAt (some l) n)
-      (grantedWith (marginAt (some l) n) q (held d)) refl e in (
-        denied (l .revoked) (w .1),
-        ltb-true (activeEnd l) n (and-left (ltb (activeEnd l) n) _ (affirmed (ltb (activeEnd l) n && leb n (staleEnd l)) (w .3))),
-      )
-  faded-past l (inr e) =
-      let n : ℕ = q .clock .0 in
-      let w = four-expired (live (some l)) (synced (some l) n) (fresh (some l) n) (lasting (some l) n) (marginAt (some l) n)
-      (grantedWith (marginAt (some l) n) q (held d)) refl e in (
-        denied (l .revoked) (w .0),
-        omega (arith, ltb-true (staleEnd l) n (affirmed (ltb (staleEnd l) n) (w .2))),
-      )
-
-  -- and one of which that is so is answered 24 or 25
-  past-faded : (l : Lease) → l .revoked ≡ false → activeEnd l < q .clock .0 → Faded (behind q d (some l))
-  past-faded l r h =
-      let n : ℕ = q .clock .0 in
-      four-faded (live (some l)) (synced (some l) n) (fresh (some l) n) (lasting (some l) n) (marginAt (some l) n)
-      (grantedWith (marginAt (some l) n) q (held d))
-      (ap not r) (ap not (le-ltb (n + l .skew .0) (l .«last_sync» .0) (omega arith)))
-      (go (ltb (staleEnd l) n) refl (lt-ltb (activeEnd l) n h))
-    where
-      go : (b : Bool) → ltb (staleEnd l) (q .clock .0) ≡ b → ltb (activeEnd l) (q .clock .0) ≡ true
-          → (not (ltb (activeEnd l) (q .clock .0) && leb (q .clock .0) (staleEnd l)) && not (ltb (staleEnd l) (q .clock .0))) ≡ false
-      go true e k = rw e (and-false (not (ltb (activeEnd l) (q .clock .0) && leb (q .clock .0) (staleEnd l))))
-      go false e k = rw (k, le-leb (q .clock .0) (staleEnd l) (ltb-false (staleEnd l) (q .clock .0) e))
-
-  -- so it stays with an older sync
-  older-faded : (l : Lease) (older : ℕ) → older ≤ l .«last_sync» .0 → Faded (behind q d (some l)) → Faded (behind q d (some (withSync l older)))
-  older-faded l older h f = let w = faded-past l f in past-faded (withSync l older) (w .0) (omega (arith, w .1))
-
-  -- where the steps up to the signature have neither number, 24 and 25 are the lease's
-  faded-behind : (ok : Bool) (lease : Option Lease) → Faded (answerWith q (held d) ok lease)
-      → AllPass (stepsWith ok q (held d)) × Faded (behind q d lease)
-  faded-behind ok lease (inl e) =
-      let w = behind-signature q d ok lease 24 refl e in (w .0, inl (sym (ap answerOf (w .1)) ∙ e))
-  faded-behind ok lease (inr e) =
-      let w = behind-signature q d ok lease 25 refl e in (w .0, inr (sym (ap answerOf (w .1)) ∙ e))
-
-  -- and where those steps pass, the lease's are the answer
-  behind-faded : (ok : Bool) (lease : Option Lease) → AllPass (stepsWith ok q (held d)) → Faded (behind q d lease)
-      → Faded (answerWith q (held d) ok lease)
-  behind-faded ok lease a f =
-      let steps : List (Step DecisionNumbers) = stepsWith ok q (held d) in
-      let joined = order-append steps (leaseSteps lease (q .clock .0)) (grantedWith (marginAt lease (q .clock .0)) q (held d)) in
-      subst Faded (sym (joined ∙ passed-end steps (behind q d lease) a)) f
-
--- the answers with two leases, of which the second is the first or has an older sync
-older-answers : (q : Request) (x : Stored) (ok : Bool) (one two : Option Lease) (l : Lease) (older : ℕ) → older ≤ l .«last_sync» .0
-    → (one ≡ two) ⊎ ((one ≡ some l) × (two ≡ some (withSync l older)))
-    → Faded (answerWith q x ok one) → Faded (answerWith q x ok two)
-older-answers q badImage ok one two l older h k f = f
-older-answers q notHeld ok one two l older h k f = f
-older-answers q (held d) ok one two l older h (inl e) f = subst (λ (y : Option Lease). Faded (answerWith q (held d) ok y)) e f
-older-answers q (held d) ok one two l older h (inr e) f =
-    let w = faded-behind q d ok one f in
-    behind-faded q d ok two (w .0) (subst (λ (y : Option Lease). Faded (behind q d y)) (sym (e .1))
-    (older-faded q d l older h (subst (λ (y : Option Lease). Faded (behind q d y)) (e .0) (w .1))))
-
--- `OlderSyncRefused`
-pub older-sync-refused : OlderSyncRefused
-older-sync-refused s q before after r older b a h f =
-    let one : List Row = before ++ (r ∷ after) in
-    let two : List Row = before ++ (older-row r older ∷ after) in
-    let x = all-stored s (q .id) b in
-    let a2 : AreRows two = older-rows before after r older a h in
-    let ok : formed (withLeases q (tableBytes one)) ≡ formed (withLeases q (tableBytes two)) =
-    table-formed (withLeases q (tableBytes one)) (bytes-table one a) ∙ sym (table-formed (withLeases q (tableBytes two)) (bytes-table two a2)) in
-    let from : (t : List ℕ) → numbersOf (decisionOf s (withLeases q t)) ≡ answerWith q (x .0) (formed (withLeases q t)) (leaseFor (withLeases q t))
-    = λ t. answer-with s (withLeases q t) (x .0) (x .1) ∙ table-alike q t (x .0) (formed (withLeases q t)) (leaseFor (withLeases q t)) in
-    let leases = under-older before after r older (q .id) in
-    subst Faded (sym (from (tableBytes two)
-    ∙ ap₂ (answerWith q (x .0)) (sym ok) (ap (λ (rs : List Row). leaseUnder rs (q .id)) (rows-back two a2))))
-    (older-answers q (x .0) (formed (withLeases q (tableBytes one))) (leaseUnder one (q .id)) (leaseUnder two (q .id)) (r .lease) older h leases
-    (subst Faded (from (tableBytes one)
-    ∙ ap (answerWith q (x .0) (formed (withLeases q (tableBytes one)))) (ap (λ (rs : List Row). leaseUnder rs (q .id)) (rows-back one a))) f))

@@ -11,6 +11,7 @@ pub mod RevocationLaws
 pub mod GivenLaws
 pub mod BeforeLaws
 pub mod LeaseLaws
+pub mod OlderLaws
 pub mod StoredLaws
 pub mod Promises
 pub mod Cases

@@ -51,7 +51,8 @@ answerOf n = n .answer
 
 -- the numbers of a decision by the steps are those of the steps with their numbers
 by-numbers : (q : Request) (sound there : Bool) (x : Facts) (m : Matched)
-    → numbersOf (decidedBy q sound there x m) ≡ inOrder (mapped numbersOf (stepsBy q sound there x m)) (numbersOf (grantedBy q (leaseFor q) x m))
+    → numbersOf (decidedBy q sound there x m)
+    ≡ inOrder (mapped numbersOf (stepsBy q sound there x m)) (numbersOf (grantedBy q (leaseFor q) x m))
 by-numbers q sound there x m = order-mapped numbersOf (stepsBy q sound there x m) (grantedBy q (leaseFor q) x m)
 
 -- an image that a check calls unsound

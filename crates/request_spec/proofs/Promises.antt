@@ -11,6 +11,7 @@ use Rattle.request_spec.proofs.GivenLaws as given
 use Rattle.request_spec.proofs.BeforeLaws as before
 use Rattle.request_spec.proofs.RevocationLaws as revocation
 use Rattle.request_spec.proofs.LeaseLaws as lease
+use Rattle.request_spec.proofs.OlderLaws as older
 use Rattle.request_spec.proofs.BoundaryLaws as boundary
 use Rattle.request_spec.proofs.StoredLaws as stored
 
@@ -83,7 +84,7 @@ pub other-leases : OtherLeases
 other-leases = lease.other-leases
 
 pub older-sync-refused : OlderSyncRefused
-older-sync-refused = lease.older-sync-refused
+older-sync-refused = older.older-sync-refused
 
 -- ---- both sides of not_before and not_after
 

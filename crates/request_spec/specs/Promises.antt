@@ -399,7 +399,8 @@ BeginBoundary = (s : List ℕ) (q : Request) (d : Descriptor) → Under s (q .id
 -- one second before not_after is answered neither 9 nor 10; now = not_after is answered 10, where the steps before pass
 abbrev pub EndBoundary : Type 0
 EndBoundary = (s : List ℕ) (q : Request) (d : Descriptor) → Under s (q .id) (held d)
-    → (secondsOf q + 1 ≡ d .payload .notAfter → (numbersOf (decisionOf s q) .answer ≡ 9 → ⊥) × (numbersOf (decisionOf s q) .answer ≡ 10 → ⊥))
+    → (secondsOf q + 1 ≡ d .payload .notAfter
+    → (numbersOf (decisionOf s q) .answer ≡ 9 → ⊥) × (numbersOf (decisionOf s q) .answer ≡ 10 → ⊥))
     × (secondsOf q ≡ d .payload .notAfter → formed q ≡ true → isRevoked (revocationsOf (q .revoked)) (q .id) (secondsOf q) ≡ false
     → numbersOf (decisionOf s q) ≡ refusal 10)
 

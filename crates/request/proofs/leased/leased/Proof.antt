@@ -1,10 +1,9 @@
 -- `leased` meets its contract. Assumes nothing.
-use mathlib.Core.Path.{_≡_, refl, sym, ap, _∙_, subst}
+use mathlib.Core.Path.{_≡_, sym, ap, _∙_, subst}
 use mathlib.Core.Bool.{true}
 use borrow.Author.Needs.{needs}
 use Rattle.steps.specs.Order.{orElse, inOrder}
 use Rattle.lease_spec.specs.declared.LeaseFound.{LeaseFound}
-use Rattle.lease_spec.specs.declared.LeaseFound.the-variants.{Found}
 use Rattle.lease_spec.specs.Lease.{leaseOk}
 use Rattle.request_spec.specs.Decision.{leaseSteps}
 use Rattle.request.specs.Code.{FoundFits, stateDecision, leasedBy}

@@ -233,7 +233,8 @@ module _ (s : List ℕ) (q : Request) where
 
     -- they decide, with the lease that was found
     pub decide-body : {n end at len : ℕ} {f : Fields} {x : Decision} {lease : Option Lease}
-        → Sound n end (Body at len f) ≡ checkOf s (q .id) → lease ≡ leaseFor q → x ≡ decidedOn (withLeases q []) lease (take (at + len - at) (drop at s)) f → x ≡ decisionOf s q
+        → Sound n end (Body at len f) ≡ checkOf s (q .id) → lease ≡ leaseFor q
+        → x ≡ decidedOn (withLeases q []) lease (take (at + len - at) (drop at s)) f → x ≡ decisionOf s q
     decide-body {n} {end} {at} {len} {f} {x} {lease} e l h =
         h ∙ decided-apart q [] lease (take (at + len - at) (drop at s)) f
         ∙ ap (λ (y : Option Lease). decidedOn q y (take (at + len - at) (drop at s)) f) l

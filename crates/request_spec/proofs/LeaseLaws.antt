@@ -1,7 +1,6 @@
 -- What the lease table does to a request (specs/Promises.antt). Assumes nothing.
 use mathlib.Core.Path.{_≡_, refl, sym, ap, ap₂, _∙_, subst}
-use mathlib.Core.Logic.{_⊎_, inl, inr}
-use mathlib.Core.Bool.{Bool, true, false, not, cond, _&&_, and-true, false≢true}
+use mathlib.Core.Bool.{Bool, true, false, not, _&&_, and-true, false≢true}
 use mathlib.Core.List.{List, [], _∷_, _++_}
 use mathlib.Core.Option.{Option, none, some}
 use Prim.Native.Nat.{ℕ, _+_, _^_, _≤_, _<_}
@@ -9,15 +8,13 @@ use native.Mathlib.Omega.{arith}
 use lib.IntN.{ℤ, pos, _-ℤ_}
 use lib.Signed.{_≤ℤ_, _<ℤ_}
 use lib.Dec.{leb, ltb}
-use borrow.Author.Tests.{le-leb, leb-true, leb-false, lt-ltb, le-ltb, ltb-true, ltb-false}
-use Rattle.octets.specs.Bytes.{AreBytes, same}
-use Rattle.octets.proofs.Tests.{and-left, and-false}
+use borrow.Author.Tests.{le-leb, ltb-true, ltb-false}
+use Rattle.octets.proofs.Tests.{and-left}
 use Rattle.descriptor_spec.specs.Model.{Descriptor}
 use Rattle.lease_spec.specs.declared.Lease.{Lease}
-use Rattle.lease_spec.specs.Table.{Row, tableBytes, rowsOf, leaseUnder, tableOk}
-use Rattle.lease_spec.specs.Promises.{activeEnd, staleEnd, withSync, AreRows}
-use Rattle.lease_spec.proofs.Promises.{margin-exact, margin-sign, rows-back}
-use Rattle.lease_spec.proofs.Laws.{bytes-table, older-rows}
+use Rattle.lease_spec.specs.Table.{rowsOf, leaseUnder, tableOk}
+use Rattle.lease_spec.specs.Promises.{activeEnd, staleEnd}
+use Rattle.lease_spec.proofs.Promises.{margin-exact, margin-sign}
 use Rattle.steps.specs.Order.{Step, step, orElse, inOrder, AllPass}
 use Rattle.steps.specs.Laws.{passesBy}
 use Rattle.steps.proofs.Laws.{order-append, passed-end, passed-by, not-by}
@@ -25,8 +22,8 @@ use Rattle.request_spec.specs.declared.DecisionNumbers.{DecisionNumbers}
 use Rattle.request_spec.specs.Request.{Request}
 use Rattle.request_spec.specs.Decision.{decisionOf, numbersOf}
 use Rattle.request_spec.specs.Promises.{Stored, badImage, notHeld, held, Under, refusal, staleWith, formedBefore, formed, leaseFor}
-use Rattle.request_spec.specs.Promises.{whereLeased, marginAt, leaseSteps, stepsWith, stepsFor, grantedWith, grantedFor, answerFor}
-use Rattle.request_spec.specs.Promises.{WithoutLease, GrantMargin, StaleMargin, withLeases, OtherLeases, Faded, OlderSyncRefused}
+use Rattle.request_spec.specs.Promises.{whereLeased, marginAt, leaseSteps, stepsWith, stepsFor, grantedWith, grantedFor}
+use Rattle.request_spec.specs.Promises.{WithoutLease, GrantMargin, StaleMargin, withLeases, OtherLeases}
 use Rattle.request_spec.proofs.NumberLaws.{answerOf, decided-exactly, granted-exactly}
 use Rattle.request_spec.proofs.UnderLaws.{all-stored}
 

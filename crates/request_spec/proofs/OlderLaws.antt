@@ -32,7 +32,7 @@ use Rattle.request_spec.proofs.LeaseLaws.{not-fresh, behind, behind-sig
 -- ---- the four steps of a lease
 
 -- where they are answered 25 the first two pass and the last does not
-pub four-expired : (a b c d : Bool) (m : ℤ) (g : DecisionNumbers) → g .answer ≡ 0 → inOrder (four a b c d m) g .answer ≡ 25
+four-expired : (a b c d : Bool) (m : ℤ) (g : DecisionNumbers) → g .answer ≡ 0 → inOrder (four a b c d m) g .answer ≡ 25
     → (a ≡ true) × (b ≡ true) × (d ≡ false)
 unfolding inOrder orElse
 four-expired false b c d m g z e = absurd (omega (arith, e))
@@ -42,7 +42,7 @@ four-expired true true true false m g z e = (refl, refl, refl)
 four-expired true true true true m g z e = absurd (omega (arith, z, e))
 
 -- where the first two pass and the last or the last but one does not, they are answered 24 or 25
-pub four-faded : (a b c d : Bool) (m : ℤ) (g : DecisionNumbers) → a ≡ true → b ≡ true → (c && d) ≡ false → Faded (inOrder (four a b c d m) g)
+four-faded : (a b c d : Bool) (m : ℤ) (g : DecisionNumbers) → a ≡ true → b ≡ true → (c && d) ≡ false → Faded (inOrder (four a b c d m) g)
 unfolding inOrder orElse
 four-faded a b false d m g p q r = rw (p, q) (inl refl)
 four-faded a b true false m g p q r = rw (p, q) (inr refl)
@@ -160,5 +160,5 @@ older-sync-refused s q before after r older b a h f =
     let one : List Row = before ++ (r ∷ after) in
     let two : List Row = before ++ (older-row r older ∷ after) in
     subst Faded (sym (answer-rows s q (x .0) two (x .1) (older-rows before after r older a h)))
-    (older-answers q (x .0) (formedBefore q && leb (q .clock .0) (2 ^ 53)) (leaseUnder one (q .id)) (leaseUnder two (q .id)) (r .lease) older h
-    (under-older before after r older (q .id)) (subst Faded (answer-rows s q (x .0) one (x .1) a) f))
+    (older-answers q (x .0) (formedBefore q && leb (q .clock .0) (2 ^ 53)) (leaseUnder one (q .id)) (leaseUnder two (q .id)) (r .lease)
+    older h (under-older before after r older (q .id)) (subst Faded (answer-rows s q (x .0) one (x .1) a) f))

@@ -1,6 +1,6 @@
 -- Laws of the state of a lease (specs/Lease.antt of `lease_spec`), in the code's own form. Assumes nothing.
 use mathlib.Core.Path.{_≡_, refl, sym, ap, ap₂, _∙_, subst}
-use mathlib.Core.Bool.{Bool, true, false, not, _&&_}
+use mathlib.Core.Bool.{Bool, true, false, not}
 use Prim.Native.Nat.{ℕ, zero, suc, _+_, _*_, _^_, _≤_, _<_}
 use native.Mathlib.Omega.{arith}
 use lib.IntN.{ℤ, pos, _-ℤ_}
@@ -9,18 +9,18 @@ use mir.Syntax.{w64}
 use mir.Val.{Fits, SFits, toZ, ofZ}
 use mir.ValLaws.{toZ-ofZ}
 use borrow.Author.Tests.{not-true, not-false, ltb-true, ltb-false, leb-true, le-leb, lt-leb}
-use Rattle.octets.proofs.Tests.{by-cond, and-left, and-right}
+use Rattle.octets.proofs.Tests.{by-cond}
 use Rattle.time.specs.declared.Margin.{Margin}
 use Rattle.time.specs.declared.Seconds.{Seconds}
 use Rattle.time.specs.declared.Milliseconds.{Milliseconds}
 use Rattle.time.specs.Time.{milliseconds, perSecond, inMilliseconds}
 use Rattle.time.proofs.Promises.{small-scaled}
+use Rattle.lease_spec.proofs.Laws.{tests-within}
 use Rattle.lease_spec.specs.declared.Lease.{Lease}
 use Rattle.lease_spec.specs.declared.LeaseState.{LeaseState}
 use Rattle.lease_spec.specs.declared.LeaseState.the-variants as states
 use Rattle.lease_spec.specs.Lease.{latest, lengthEnd, longestSkew, leaseOk, clockOk, lastActive, lastStale, isFuture, marginOf}
 use Rattle.lease_spec.specs.Lease.{stateWithin, stateOf}
-use Rattle.lease_spec.specs.Promises.{Within}
 
 -- ---- tests
 
@@ -80,26 +80,6 @@ module _ (l : Lease) {a : Bool} (ea : a ≡ ltb latest (l .«last_sync» .0)) wh
             go true f = sym (before-leb longestSkew (l .tolerance .0) et f)
             go false f = sym (not-before-leb longestSkew (l .tolerance .0) et f)
 
--- a lease within the limits has its five numbers within them
-limits : (l : Lease) → leaseOk l ≡ true → Within l
-unfolding leaseOk
-limits l e =
-    let sync = leb (l .«last_sync» .0) latest in
-    let ttl = ltb (l .ttl .0) lengthEnd in
-    let grace = ltb (l .grace .0) lengthEnd in
-    let skew = leb (l .skew .0) longestSkew in
-    let tolerance = leb (l .tolerance .0) longestSkew in
-    let past-sync = and-right sync (ttl && (grace && (skew && tolerance))) e in
-    let past-ttl = and-right ttl (grace && (skew && tolerance)) past-sync in
-    let past-grace = and-right grace (skew && tolerance) past-ttl in
-    record {
-      sync = leb-true (l .«last_sync» .0) latest (and-left sync (ttl && (grace && (skew && tolerance))) e);
-      ttl = ltb-true (l .ttl .0) lengthEnd (and-left ttl (grace && (skew && tolerance)) past-sync);
-      grace = ltb-true (l .grace .0) lengthEnd (and-left grace (skew && tolerance) past-ttl);
-      skew = leb-true (l .skew .0) longestSkew (and-left skew tolerance past-grace);
-      tolerance = leb-true (l .tolerance .0) longestSkew (and-right skew tolerance past-grace);
-    }
-
 -- a clock within its limit is at most the latest moment
 clock-limit : (n : ℕ) → clockOk n ≡ true → n ≤ latest
 unfolding clockOk
@@ -109,7 +89,7 @@ clock-limit n e = leb-true n latest e
 
 -- the clock and the skew have a sum
 pub clock-sum : (l : Lease) (n : ℕ) → leaseOk l ≡ true → clockOk n ≡ true → Fits w64 (n + l .skew .0)
-clock-sum l n ok at = omega (arith, limits l ok, clock-limit n at)
+clock-sum l n ok at = omega (arith, tests-within l ok, clock-limit n at)
 
 -- a length of time below 2^32 s has 1,000 times as many milliseconds
 scaled : (s : Seconds) (t : Milliseconds) → s .0 < 2 ^ 32 → t ≡ inMilliseconds s → t .0 ≡ s .0 * perSecond
@@ -118,33 +98,35 @@ scaled s t h e = let f : t .0 ≡ inMilliseconds s .0 = ap (λ (x : Milliseconds
 module _ (l : Lease) (ok : leaseOk l ≡ true) {t : Milliseconds} (et : t ≡ inMilliseconds (l .ttl)) where
   -- the last sync and the ttl have a sum
   pub sync-sum : Fits w64 (l .«last_sync» .0 + t .0)
-  sync-sum = omega (arith, limits l ok, scaled (l .ttl) t (limits l ok .ttl) et)
+  sync-sum = omega (arith, tests-within l ok, scaled (l .ttl) t (tests-within l ok .ttl) et)
 
   -- so have these two and the tolerance
   pub active-sum : Fits w64 (l .«last_sync» .0 + t .0 + l .tolerance .0)
-  active-sum = omega (arith, limits l ok, scaled (l .ttl) t (limits l ok .ttl) et)
+  active-sum = omega (arith, tests-within l ok, scaled (l .ttl) t (tests-within l ok .ttl) et)
 
   -- their sum is the last active millisecond
   pub active-is : milliseconds (l .«last_sync» .0 + t .0 + l .tolerance .0) ≡ milliseconds (lastActive l)
   unfolding lastActive
   active-is =
-      ap (λ (n : ℕ). milliseconds (l .«last_sync» .0 + n + l .tolerance .0)) (scaled (l .ttl) t (limits l ok .ttl) et)
+      ap (λ (n : ℕ). milliseconds (l .«last_sync» .0 + n + l .tolerance .0)) (scaled (l .ttl) t (tests-within l ok .ttl) et)
 
   module _ {g : Milliseconds} (eg : g ≡ inMilliseconds (l .grace)) where
     -- the last sync, the ttl and the grace have a sum
     pub grace-sum : Fits w64 (l .«last_sync» .0 + t .0 + g .0)
-    grace-sum = omega (arith, limits l ok, scaled (l .ttl) t (limits l ok .ttl) et, scaled (l .grace) g (limits l ok .grace) eg)
+    grace-sum =
+        omega (arith, tests-within l ok, scaled (l .ttl) t (tests-within l ok .ttl) et, scaled (l .grace) g (tests-within l ok .grace) eg)
 
     -- so have these three and the tolerance
     pub stale-sum : Fits w64 (l .«last_sync» .0 + t .0 + g .0 + l .tolerance .0)
-    stale-sum = omega (arith, limits l ok, scaled (l .ttl) t (limits l ok .ttl) et, scaled (l .grace) g (limits l ok .grace) eg)
+    stale-sum =
+        omega (arith, tests-within l ok, scaled (l .ttl) t (tests-within l ok .ttl) et, scaled (l .grace) g (tests-within l ok .grace) eg)
 
     -- their sum is the last stale millisecond
     pub stale-is : milliseconds (l .«last_sync» .0 + t .0 + g .0 + l .tolerance .0) ≡ milliseconds (lastStale l)
     unfolding lastStale
     stale-is =
-        ap₂ (λ (m n : ℕ). milliseconds (l .«last_sync» .0 + m + n + l .tolerance .0)) (scaled (l .ttl) t (limits l ok .ttl) et)
-        (scaled (l .grace) g (limits l ok .grace) eg)
+        ap₂ (λ (m n : ℕ). milliseconds (l .«last_sync» .0 + m + n + l .tolerance .0)) (scaled (l .ttl) t (tests-within l ok .ttl) et)
+        (scaled (l .grace) g (tests-within l ok .grace) eg)
 
 -- ---- the margin
 
@@ -175,7 +157,7 @@ module _ (l : Lease) (n : ℕ) (end : Milliseconds) (ok : leaseOk l ≡ true) (a
   -- the last active millisecond is below 2^62
   end-small : end .0 < 2 ^ 62
   unfolding lastActive
-  end-small = let f : end .0 ≡ lastActive l = ap (λ (x : Milliseconds). x .0) e in omega (arith, limits l ok)
+  end-small = let f : end .0 ≡ lastActive l = ap (λ (x : Milliseconds). x .0) e in omega (arith, tests-within l ok)
 
   -- so is the clock
   clock-small : n < 2 ^ 62

@@ -19,7 +19,8 @@ use Rattle.lease_spec.specs.Lease.{leaseOk}
 use Rattle.lease_spec.specs.Table.{Row, leaseSize, flagPlace, flagWidth, zeroPlace, zeroWidth, leaseAt, rowOk, rowAt, rowsFrom}
 use Rattle.lease_spec.specs.Table.{rowsOf, leaseUnder, rowsOk, idsDiffer, tableOk, foundOf, findIn}
 use Rattle.lease_spec.specs.Promises.{Allowed, IsIn, withSync}
-use Rattle.lease_spec.specs.Laws.{BytesTable, OlderRows, FoundWithin}
+use Rattle.lease_spec.specs.Laws.{BytesTable, OlderRows, TestsWithin, FoundWithin}
+use Rattle.lease_spec.proofs.StateLaws.{ok-within}
 use Rattle.lease_spec.proofs.TableLaws.{table-ok}
 
 -- `BytesTable`
@@ -60,6 +61,10 @@ older-rows (b ∷ before) after r older a h = (
 )
 
 -- ---- a lease that is found
+
+-- `TestsWithin`
+pub tests-within : TestsWithin
+tests-within = ok-within
 
 -- the lease of a row that may stand at a place is within the limits
 row-within : (s : List ℕ) (at : ℕ) → rowOk s at ≡ true → leaseOk (leaseAt s at) ≡ true

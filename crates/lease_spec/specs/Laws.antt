@@ -7,7 +7,7 @@ use Rattle.lease_spec.specs.declared.Lease.{Lease}
 use Rattle.lease_spec.specs.declared.LeaseFound.the-variants.{Found}
 use Rattle.lease_spec.specs.Lease.{leaseOk}
 use Rattle.lease_spec.specs.Table.{Row, tableBytes, tableOk, findIn}
-use Rattle.lease_spec.specs.Promises.{AreRows, withSync}
+use Rattle.lease_spec.specs.Promises.{Within, AreRows, withSync}
 
 -- the bytes of allowed rows with different ids are a lease table
 abbrev pub BytesTable : Type 0
@@ -18,6 +18,10 @@ abbrev pub OlderRows : Type 0
 OlderRows = (before after : List Row) (r : Row) (older : ℕ) → AreRows (before ++ (r ∷ after)) → older ≤ r .lease .«last_sync» .0
     → AreRows (before ++ (record { id = r .id; lease = withSync (r .lease) older } ∷ after))
 
--- a lease that is found is within the limits
+-- a lease whose numbers pass the tests is within the limits
+abbrev pub TestsWithin : Type 0
+TestsWithin = (l : Lease) → leaseOk l ≡ true → Within l
+
+-- a lease that is found passes them
 abbrev pub FoundWithin : Type 0
 FoundWithin = (s id : List ℕ) (l : Lease) → findIn s id ≡ Found l → leaseOk l ≡ true

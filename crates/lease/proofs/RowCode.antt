@@ -17,8 +17,8 @@ use Rattle.octets.proofs.PartLaws.{lent-part}
 use Rattle.descriptor_spec.specs.Allowed.{idSize}
 use Rattle.time.specs.Time.{seconds, milliseconds}
 use Rattle.lease_spec.specs.declared.Lease.{Lease}
-use Rattle.lease_spec.specs.declared.LeaseRow.{LeaseRow}
-use Rattle.lease_spec.specs.declared.LeaseRow.the-variants.{IsRow, NoRow}
+use Rattle.lease_spec.specs.declared.LeaseRead.{LeaseRead}
+use Rattle.lease_spec.specs.declared.LeaseRead.the-variants.{IsLease, NoLease}
 use Rattle.lease_spec.specs.declared.LeaseFound.{LeaseFound}
 use Rattle.lease_spec.specs.declared.LeaseFound.the-variants.{Found, Missing, Malformed}
 use Rattle.lease_spec.specs.Lease.{leaseOk}
@@ -41,7 +41,7 @@ leaseWith flag sync ttl grace skew tolerance = record {
 
 module _ (s : List ℕ) (at : ℕ) where
   -- bytes that end before a row does have none
-  pub row-short : length s < at + leaseSize → NoRow ≡ leaseRead s at
+  pub row-short : length s < at + leaseSize → NoLease ≡ leaseRead s at
   unfolding leaseRead
   row-short h = rw (lt-leb (at + leaseSize) (length s) h)
 
@@ -68,13 +68,13 @@ module _ (s : List ℕ) (at : ℕ) where
         )
 
     -- where it may not stand there is no row
-    row-not : rowOk s at ≡ false → NoRow ≡ leaseRead s at
+    row-not : rowOk s at ≡ false → NoLease ≡ leaseRead s at
     unfolding leaseRead
     row-not h = rw (h, and-false (leb (at + leaseSize) (length s)))
 
     module _ {f : ℕ} (ef : f ≡ numberIn s (at + flagPlace) flagWidth) where
       -- a row with a flag above 1 may not stand
-      pub flag-bad : 1 < f → NoRow ≡ leaseRead s at
+      pub flag-bad : 1 < f → NoLease ≡ leaseRead s at
       unfolding rowOk
       flag-bad h =
           let e = read-is flagPlace flagWidth (omega arith) (omega arith) ef in
@@ -88,7 +88,7 @@ module _ (s : List ℕ) (at : ℕ) where
             le-leb (numberAt s (at + flagPlace) flagWidth) 1 (omega arith)
 
         -- nor may one whose seven bytes are not zero
-        pub zero-bad : (z ≡ 0 → ⊥) → NoRow ≡ leaseRead s at
+        pub zero-bad : (z ≡ 0 → ⊥) → NoLease ≡ leaseRead s at
         unfolding rowOk
         zero-bad h =
             let e = read-is zeroPlace zeroWidth (omega arith) (omega arith) ez in
@@ -103,13 +103,13 @@ module _ (s : List ℕ) (at : ℕ) where
               rw (flag-good, eq-eqb (numberAt s (at + zeroPlace) zeroWidth) 0 (sym e ∙ hz)) (sym (eb ∙ ap leaseOk el))
 
           -- a lease outside the limits may not stand
-          pub lease-bad : not b ≡ true → NoRow ≡ leaseRead s at
+          pub lease-bad : not b ≡ true → NoLease ≡ leaseRead s at
           lease-bad h = row-not (limits-tell ∙ not-true b h)
 
           -- another one is the row's
-          pub row-good : not b ≡ false → IsRow l ≡ leaseRead s at
+          pub row-good : not b ≡ false → IsLease l ≡ leaseRead s at
           unfolding leaseRead
-          row-good h = ap IsRow el ∙ rw (le-leb (at + leaseSize) (length s) room, limits-tell ∙ not-false b h)
+          row-good h = ap IsLease el ∙ rw (le-leb (at + leaseSize) (length s) room, limits-tell ∙ not-false b h)
 
 -- ---- the rows
 
@@ -166,21 +166,21 @@ module _ (s id : List ℕ) (i n : ℕ) where
 -- ---- the lease under an id
 
 -- a row that was read may stand, and its lease is the one that was read
-row-told : (s : List ℕ) (at : ℕ) (l : Lease) → IsRow l ≡ leaseRead s at → (rowOk s at ≡ true) × (l ≡ leaseAt s at)
+row-told : (s : List ℕ) (at : ℕ) (l : Lease) → IsLease l ≡ leaseRead s at → (rowOk s at ≡ true) × (l ≡ leaseAt s at)
 unfolding leaseRead
 row-told s at l = go (leb (at + leaseSize) (length s) && rowOk s at) refl
   where
-    go : (t : Bool) → (leb (at + leaseSize) (length s) && rowOk s at) ≡ t → IsRow l ≡ cond t (IsRow (leaseAt s at)) NoRow
+    go : (t : Bool) → (leb (at + leaseSize) (length s) && rowOk s at) ≡ t → IsLease l ≡ cond t (IsLease (leaseAt s at)) NoLease
         → (rowOk s at ≡ true) × (l ≡ leaseAt s at)
     go true e f = (and-right (leb (at + leaseSize) (length s)) (rowOk s at) e, cc)
     go false e f = absurd (let z : _≡_ {A = ℕ} 0 1 = cc in omega arith)
 
 -- one that was not read may not stand
-row-untold : (s : List ℕ) (at : ℕ) → at + leaseSize ≤ length s → NoRow ≡ leaseRead s at → rowOk s at ≡ false
+row-untold : (s : List ℕ) (at : ℕ) → at + leaseSize ≤ length s → NoLease ≡ leaseRead s at → rowOk s at ≡ false
 unfolding leaseRead
 row-untold s at h = rw (le-leb (at + leaseSize) (length s) h) (go (rowOk s at))
   where
-    go : (t : Bool) → NoRow ≡ cond t (IsRow (leaseAt s at)) NoRow → t ≡ false
+    go : (t : Bool) → NoLease ≡ cond t (IsLease (leaseAt s at)) NoLease → t ≡ false
     go true e = absurd (let z : _≡_ {A = ℕ} 0 1 = cc in omega arith)
     go false e = refl
 
@@ -236,13 +236,13 @@ module _ (s id : List ℕ) (n i : ℕ) (found : LeaseFound) (room : leaseSize * 
       ∙ and-true (rowOk s (leaseSize * (i - 1)))
 
   -- where row i - 1 may not, the table is malformed
-  pub sought-bad : {o : LeaseRow} → o ≡ leaseRead s (leaseSize * (i - 1)) → o ≡ NoRow
+  pub sought-bad : {o : LeaseRead} → o ≡ leaseRead s (leaseSize * (i - 1)) → o ≡ NoLease
       → Malformed ≡ cond (rowsOk s 0 n) (foundOf (leaseUnder (rowsFrom s 0 n) id)) Malformed
   sought-bad e f =
       let untold = row-untold s (leaseSize * (i - 1)) (omega (arith, d .inside)) (sym f ∙ e) in
       rw (ok-back s n (i - 1) (omega (arith, d .inside)) (ok-turn ∙ untold))
 
-  module _ {o : LeaseRow} (eo : o ≡ leaseRead s (leaseSize * (i - 1))) {l : Lease} (fo : o ≡ IsRow l) {b : Bool}
+  module _ {o : LeaseRead} (eo : o ≡ leaseRead s (leaseSize * (i - 1))) {l : Lease} (fo : o ≡ IsLease l) {b : Bool}
       (eb : b ≡ same (take (leaseSize * (i - 1) + idSize - leaseSize * (i - 1)) (drop (leaseSize * (i - 1)) s)) id) where
     -- what was read is the lease of row i - 1
     lease-told : (rowOk s (leaseSize * (i - 1)) ≡ true) × (l ≡ leaseAt s (leaseSize * (i - 1)))

@@ -5,7 +5,7 @@ mod states;
 
 pub use lease_spec::Lease;
 pub use lease_spec::LeaseFound;
-pub use lease_spec::LeaseRow;
+pub use lease_spec::LeaseRead;
 pub use lease_spec::LeaseState;
 use time::Milliseconds;
 ghost use mathlib.Core.Path.{_≡_};
@@ -13,7 +13,7 @@ ghost use Rattle.lease_spec.specs.Lease.{stateOf};
 ghost use Rattle.lease_spec.specs.Table.{leaseRead, findIn};
 
 // The lease whose row begins at the place.
-pub fn read_row(table: &[u8], at: usize) -> LeaseRow
+pub fn read_row(table: &[u8], at: usize) -> LeaseRead
     ensures { λ r. ⌜ r ≡ leaseRead (now (table .entry)) at ⌝ }
 {
     rows::read_row(table, at)

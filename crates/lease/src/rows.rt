@@ -1,7 +1,7 @@
 // The lease table: its rows, and the lease under an id. The rows are looked at from the last to the first, as the definitions go.
 use crate::Lease;
 use crate::LeaseFound;
-use crate::LeaseRow;
+use crate::LeaseRead;
 use crate::states::is_within;
 use descriptor_spec::sizes::ID_SIZE;
 use lease_spec::sizes::FLAG_PLACE;
@@ -46,26 +46,26 @@ fn lease_at(table: &[u8], at: usize) -> Lease
 }
 
 // The lease whose row begins at the place, where its bytes are all there and allowed.
-pub(crate) fn read_row(table: &[u8], at: usize) -> LeaseRow
+pub(crate) fn read_row(table: &[u8], at: usize) -> LeaseRead
     ensures { λ r. ⌜ r ≡ leaseRead (now (table .entry)) at ⌝ }
 {
     if table.len() < LEASE_SIZE {
-        return LeaseRow::NoRow;
+        return LeaseRead::NoLease;
     }
     if table.len() - LEASE_SIZE < at {
-        return LeaseRow::NoRow;
+        return LeaseRead::NoLease;
     }
     if 1 < number_at(table, at + FLAG_PLACE, FLAG_WIDTH) {
-        return LeaseRow::NoRow;
+        return LeaseRead::NoLease;
     }
     if number_at(table, at + ZERO_PLACE, ZERO_WIDTH) != 0 {
-        return LeaseRow::NoRow;
+        return LeaseRead::NoLease;
     }
     let lease = lease_at(table, at);
     if !is_within(lease) {
-        return LeaseRow::NoRow;
+        return LeaseRead::NoLease;
     }
-    LeaseRow::IsRow(lease)
+    LeaseRead::IsLease(lease)
 }
 
 // Whether one of the rows from row `from` on, up to row n, has the id.
@@ -154,12 +154,12 @@ fn search(table: &[u8], n: usize, id: &[u8]) -> LeaseFound
         i -= 1;
         let at = LEASE_SIZE * i;
         match read_row(table, at) {
-            LeaseRow::IsRow(lease) => {
+            LeaseRead::IsLease(lease) => {
                 if same_bytes(&table[at..at + ID_SIZE], id) {
                     found = LeaseFound::Found(lease);
                 }
             }
-            LeaseRow::NoRow => return LeaseFound::Malformed,
+            LeaseRead::NoLease => return LeaseFound::Malformed,
         }
     }
     found

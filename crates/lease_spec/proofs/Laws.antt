@@ -18,7 +18,7 @@ use Rattle.lease_spec.specs.declared.LeaseFound.the-variants.{Found, Mis
 use Rattle.lease_spec.specs.Lease.{leaseOk}
 use Rattle.lease_spec.specs.Table.{Row, leaseSize, flagPlace, flagWidth, zeroPlace, zeroWidth, leaseAt, rowOk, rowAt, rowsFrom}
 use Rattle.lease_spec.specs.Table.{rowsOf, leaseUnder, rowsOk, idsDiffer, tableOk, foundOf, findIn}
-use Rattle.lease_spec.specs.Promises.{Allowed, IsIn, withSync}
+use Rattle.lease_spec.specs.Promises.{Allowed, IsRow, withSync}
 use Rattle.lease_spec.specs.Laws.{BytesTable, OlderRows, TestsWithin, FoundWithin}
 use Rattle.lease_spec.proofs.StateLaws.{ok-within}
 use Rattle.lease_spec.proofs.TableLaws.{table-ok}
@@ -44,8 +44,8 @@ older-allowed r older a h =
     }
 
 -- a row among those with the older one has the id of one among the others
-older-in : (before after : List Row) (r : Row) (older : ℕ) (x : Row) → IsIn x (before ++ (older-row r older ∷ after))
-    → (y : Row) × IsIn y (before ++ (r ∷ after)) × (y .id ≡ x .id)
+older-in : (before after : List Row) (r : Row) (older : ℕ) (x : Row) → IsRow x (before ++ (older-row r older ∷ after))
+    → (y : Row) × IsRow y (before ++ (r ∷ after)) × (y .id ≡ x .id)
 older-in [] after r older x (inl e) = (r, inl refl, ap (λ (y : Row). y .id) e)
 older-in [] after r older x (inr i) = (x, inr i, refl)
 older-in (b ∷ before) after r older x (inl e) = (b, inl refl, ap (λ (y : Row). y .id) e)

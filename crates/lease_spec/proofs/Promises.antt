@@ -1,7 +1,7 @@
 -- The promises of specs/Promises.antt, each from its law. Assumes nothing.
 use Rattle.lease_spec.specs.Promises.{StateExactly, OutsideExactly, MarginExact, MarginSign, MarginFits, OlderSync, LaterClock}
-use Rattle.lease_spec.specs.Promises.{RowExactly, RowShort, RowLaidOut, TableExactly, RowsBack, UnderExactly, FoundExactly}
-use Rattle.lease_spec.specs.Promises.{MissingExactly, MalformedExactly}
+use Rattle.lease_spec.specs.Promises.{RowExactly, RowShort, RowLaidOut, TableLaidOut, TableExactly, RowsBack, UnderExactly}
+use Rattle.lease_spec.specs.Promises.{FoundExactly, MissingExactly, MalformedExactly}
 use Rattle.lease_spec.proofs.MarginLaws as margin
 use Rattle.lease_spec.proofs.StateLaws as state
 use Rattle.lease_spec.proofs.RowLaws as row
@@ -26,7 +26,7 @@ margin-sign = margin.margin-sign
 pub margin-fits : MarginFits
 margin-fits = margin.margin-fits
 
--- ---- leases fade
+-- ---- stale and expired leases
 
 pub older-sync : OlderSync
 older-sync = state.older-sync
@@ -44,6 +44,9 @@ row-short = row.row-short
 
 pub row-laid-out : RowLaidOut
 row-laid-out = row.row-laid-out
+
+pub table-laid-out : TableLaidOut
+table-laid-out = table.table-laid-out
 
 pub table-exactly : TableExactly
 table-exactly = table.table-exactly

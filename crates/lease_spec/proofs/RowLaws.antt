@@ -17,7 +17,7 @@ use Rattle.octets.proofs.PartLaws.{part-part, part-bytes}
 use Rattle.octets.proofs.Tests.{and-left, and-right}
 use Rattle.descriptor_spec.specs.Allowed.{idSize}
 use Rattle.lease_spec.specs.declared.Lease.{Lease}
-use Rattle.lease_spec.specs.declared.LeaseRow.the-variants.{IsRow, NoRow}
+use Rattle.lease_spec.specs.declared.LeaseRead.the-variants.{IsLease, NoLease}
 use Rattle.lease_spec.specs.Lease.{leaseOk}
 use Rattle.lease_spec.specs.Table.{Row, leaseSize, flagPlace, flagWidth, zeroPlace, zeroWidth, lastSyncPlace, ttlPlace, gracePlace}
 use Rattle.lease_spec.specs.Table.{skewPlace, tolerancePlace, numberWidth, flagOf, rowBytes, leaseAt, rowOk, leaseRead, rowAt}
@@ -215,7 +215,7 @@ part-middle before s after = ap (take (length s)) (drop-at before (s ++ after) (
 
 -- what is read where 64 bytes stand is what they say
 read-middle : (before s after : List ℕ) → length s ≡ leaseSize
-    → leaseRead (before ++ (s ++ after)) (length before) ≡ cond (rowOk s 0) (IsRow (rowAt s 0 .lease)) NoRow
+    → leaseRead (before ++ (s ++ after)) (length before) ≡ cond (rowOk s 0) (IsLease (rowAt s 0 .lease)) NoLease
 unfolding leaseRead rowAt
 read-middle before s after h =
     let d = before ++ (s ++ after) in
@@ -227,7 +227,7 @@ read-middle before s after h =
     rw (le-leb (at + leaseSize) (length d) fits, ok, lease)
 
 -- a lease is read exactly where the test holds
-read-by : (t : Bool) (x l : Lease) → cond t (IsRow x) NoRow ≡ IsRow l → (t ≡ true) × (x ≡ l)
+read-by : (t : Bool) (x l : Lease) → cond t (IsLease x) NoLease ≡ IsLease l → (t ≡ true) × (x ≡ l)
 read-by true x l e = (refl, cc)
 read-by false x l e = absurd (let z : _≡_ {A = ℕ} 0 1 = cc in omega arith)
 
@@ -240,8 +240,8 @@ row-exactly before s after l b h = (
       (rowAt s 0, q .0, p .1, q .1),
   λ p.
       let q = row-back s (p .0) (p .1) (p .3) in
-      read-middle before s after h ∙ ap (λ (t : Bool). cond t (IsRow (rowAt s 0 .lease)) NoRow) (q .0)
-      ∙ ap (λ (r : Row). IsRow (r .lease)) (q .1) ∙ ap IsRow (p .2),
+      read-middle before s after h ∙ ap (λ (t : Bool). cond t (IsLease (rowAt s 0 .lease)) NoLease) (q .0)
+      ∙ ap (λ (r : Row). IsLease (r .lease)) (q .1) ∙ ap IsLease (p .2),
 )
 
 -- `RowShort`

@@ -1,4 +1,4 @@
--- The state of a lease: exactly when it has each, and how it fades (specs/Lease.antt). Assumes nothing.
+-- The state of a lease: exactly when it has each, with an older sync and at a later clock (specs/Lease.antt). Assumes nothing.
 use mathlib.Core.Path.{_≡_, refl, sym, ap, _∙_, subst}
 use mathlib.Core.Bool.{Bool, true, false, _&&_}
 use Prim.Native.Nat.{ℕ, _+_, _^_, _≤_, _<_}
@@ -11,7 +11,7 @@ use Rattle.lease_spec.specs.declared.LeaseState.{LeaseState}
 use Rattle.lease_spec.specs.declared.LeaseState.the-variants as states
 use Rattle.lease_spec.specs.Lease.{latest, lengthEnd, longestSkew, leaseOk, clockOk, lastActive, lastStale, isFuture, marginOf}
 use Rattle.lease_spec.specs.Lease.{stateWithin, stateOf}
-use Rattle.lease_spec.specs.Promises.{Within, activeEnd, staleEnd, StateExactly, OutsideExactly, HasFaded, withSync}
+use Rattle.lease_spec.specs.Promises.{Within, activeEnd, staleEnd, StateExactly, OutsideExactly, StaleOrExpired, withSync}
 use Rattle.lease_spec.specs.Promises.{OlderSync, LaterClock}
 use Rattle.lease_spec.proofs.MarginLaws.{below-sub, sub-most, active-end, stale-end}
 
@@ -149,22 +149,22 @@ outside-exactly l n = (
   not-within l n,
 )
 
--- ---- leases fade
+-- ---- stale and expired leases
 
--- a lease that has faded is within the limits, not revoked, and past its last active millisecond
-record Faded (l : Lease) (n : ℕ) : Type 0 where
+-- a lease that has late is within the limits, not revoked, and past its last active millisecond
+record Late (l : Lease) (n : ℕ) : Type 0 where
   pub within : Within l
   pub clock : n ≤ 2 ^ 53
   pub current : l .revoked ≡ false
   pub past : activeEnd l < n
 
 -- it is so where the state is stale or expired
-faded-is : (l : Lease) (n : ℕ) → HasFaded (stateOf l n) → Faded l n
+late-is : (l : Lease) (n : ℕ) → StaleOrExpired (stateOf l n) → Late l n
 unfolding stateOf
-faded-is l n = by-cond (λ (x : LeaseState). HasFaded x → Faded l n) (leaseOk l && clockOk n)
+late-is l n = by-cond (λ (x : LeaseState). StaleOrExpired x → Late l n) (leaseOk l && clockOk n)
     (λ e. let p = tests-within l n e in go (stateWithin l n) (says l n) (p .0) (p .1)) (λ e f. absurd f)
   where
-    go : (x : LeaseState) → Says l n x → Within l → n ≤ 2 ^ 53 → HasFaded x → Faded l n
+    go : (x : LeaseState) → Says l n x → Within l → n ≤ 2 ^ 53 → StaleOrExpired x → Late l n
     go states.Revoked s w h f = absurd f
     go states.Future s w h f = absurd f
     go (states.Active m) s w h f = absurd f
@@ -173,20 +173,20 @@ faded-is l n = by-cond (λ (x : LeaseState). HasFaded x → Faded l n) (leaseOk 
     go states.Outside s w h f = absurd f
 
 -- and the state is one of the two where it is so
-is-faded : (l : Lease) (n : ℕ) → Faded l n → HasFaded (stateOf l n)
-is-faded l n f = rw (state-within l n (f .within) (f .clock)) (go (leb n (staleEnd l)) refl)
+is-late : (l : Lease) (n : ℕ) → Late l n → StaleOrExpired (stateOf l n)
+is-late l n f = rw (state-within l n (f .within) (f .clock)) (go (leb n (staleEnd l)) refl)
   where
-    go : (t : Bool) → leb n (staleEnd l) ≡ t → HasFaded (stateWithin l n)
+    go : (t : Bool) → leb n (staleEnd l) ≡ t → StaleOrExpired (stateWithin l n)
     go true e = rw (is-stale l n (f .current) (f .past) (leb-true n (staleEnd l) e)) tt
     go false e = rw (is-expired l n (f .current) (leb-false n (staleEnd l) e)) tt
 
 -- `OlderSync`
 pub older-sync : OlderSync
 older-sync l n older h e =
-    let f = faded-is l n e in
+    let f = late-is l n e in
     let w = f .within in
     let sync : older ≤ 2 ^ 53 = omega (arith, w .sync) in
-    is-faded (withSync l older) n (record {
+    is-late (withSync l older) n (record {
       within = record { sync = sync; ttl = w .ttl; grace = w .grace; skew = w .skew; tolerance = w .tolerance };
       clock = f .clock;
       current = f .current;
@@ -196,5 +196,5 @@ older-sync l n older h e =
 -- `LaterClock`
 pub later-clock : LaterClock
 later-clock l n later h k e =
-    let f = faded-is l n e in
-    is-faded l later (record { within = f .within; clock = k; current = f .current; past = omega (arith, f .past) })
+    let f = late-is l n e in
+    is-late l later (record { within = f .within; clock = k; current = f .current; past = omega (arith, f .past) })

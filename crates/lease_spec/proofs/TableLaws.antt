@@ -18,14 +18,14 @@ use Rattle.lease_spec.specs.declared.LeaseFound.{LeaseFound}
 use Rattle.lease_spec.specs.declared.LeaseFound.the-variants.{Found, Missing, Malformed}
 use Rattle.lease_spec.specs.Table.{Row, hasId, idsDiffer, leaseUnder, leaseSize, rowBytes, tableBytes, rowOk, rowAt, rowsFrom}
 use Rattle.lease_spec.specs.Table.{rowsOf, rowsOk, tableOk, foundOf, findIn}
-use Rattle.lease_spec.specs.Promises.{IsIn, AreRows, TableExactly, RowsBack, UnderExactly, FoundExactly, MissingExactly}
-use Rattle.lease_spec.specs.Promises.{MalformedExactly}
+use Rattle.lease_spec.specs.Promises.{IsRow, AreRows, TableLaidOut, TableExactly, RowsBack, UnderExactly, FoundExactly}
+use Rattle.lease_spec.specs.Promises.{MissingExactly, MalformedExactly}
 use Rattle.lease_spec.proofs.RowLaws.{row-length, row-there, there-row}
 
 -- ---- ids
 
 -- where the test finds no row with the id there is none
-none-has : (rs : List Row) (id : List ℕ) → hasId rs id ≡ false → (r : Row) → IsIn r rs → r .id ≡ id → ⊥
+none-has : (rs : List Row) (id : List ℕ) → hasId rs id ≡ false → (r : Row) → IsRow r rs → r .id ≡ id → ⊥
 unfolding hasId
 none-has [] id e r i k = i
 none-has (x ∷ xs) id e r (inl i) k =
@@ -34,7 +34,7 @@ none-has (x ∷ xs) id e r (inl i) k =
 none-has (x ∷ xs) id e r (inr i) k = none-has xs id (or-no-right (same (x .id) id) (hasId xs id) e) r i k
 
 -- and where there is none it finds none
-has-none : (rs : List Row) (id : List ℕ) → ((r : Row) → IsIn r rs → r .id ≡ id → ⊥) → hasId rs id ≡ false
+has-none : (rs : List Row) (id : List ℕ) → ((r : Row) → IsRow r rs → r .id ≡ id → ⊥) → hasId rs id ≡ false
 unfolding hasId
 has-none [] id h = refl
 has-none (x ∷ xs) id h = rw (not-same (x .id) id (h x (inl refl)), has-none xs id (λ r i. h r (inr i)))
@@ -75,6 +75,11 @@ rows-there s i (r ∷ rs) a e =
 -- the bytes of rows have so many rows
 table-count : (rs : List Row) → AreRows rs → length (tableBytes rs) / leaseSize ≡ length rs
 table-count rs a = omega (arith, table-length rs a)
+
+-- `TableLaidOut`
+pub table-laid-out : TableLaidOut
+unfolding tableBytes
+table-laid-out = (refl, λ r rs. refl)
 
 -- `RowsBack`
 pub rows-back : RowsBack
@@ -133,8 +138,8 @@ table-exactly s b = (
 
 -- what is so where x is found under the id
 abbrev Finds : List Row → List ℕ → LeaseFound → Type 0
-Finds rs id (Found l) = (r : Row) × IsIn r rs × (r .id ≡ id) × (r .lease ≡ l)
-Finds rs id Missing = (r : Row) → IsIn r rs → r .id ≡ id → ⊥
+Finds rs id (Found l) = (r : Row) × IsRow r rs × (r .id ≡ id) × (r .lease ≡ l)
+Finds rs id Missing = (r : Row) → IsRow r rs → r .id ≡ id → ⊥
 Finds rs id Malformed = ⊥
 
 -- it is so of what is found among the rows
@@ -150,7 +155,7 @@ finds (x ∷ xs) id = by-cond (λ (o : Option Lease). Finds (x ∷ xs) id (found
         ⊎-elim (λ here. false≢true (sym e ∙ equal-same (x .id) id (ap (λ (y : Row). y .id) here ∙ k))) (λ there. h r there k) i
 
 -- the lease of a row is found under its id
-is-found : (rs : List Row) (r : Row) → AreRows rs → IsIn r rs → leaseUnder rs (r .id) ≡ some (r .lease)
+is-found : (rs : List Row) (r : Row) → AreRows rs → IsRow r rs → leaseUnder rs (r .id) ≡ some (r .lease)
 unfolding leaseUnder
 is-found [] r a i = absurd i
 is-found (x ∷ xs) r a (inl i) =
@@ -161,16 +166,19 @@ is-found (x ∷ xs) r a (inr i) =
     ap (λ (t : Bool). cond t (some (x .lease)) (leaseUnder xs (r .id))) other ∙ is-found xs r (a .2) i
 
 -- where no row has the id none is found
-is-missing : (rs : List Row) (id : List ℕ) → ((r : Row) → IsIn r rs → r .id ≡ id → ⊥) → leaseUnder rs id ≡ none
+is-missing : (rs : List Row) (id : List ℕ) → ((r : Row) → IsRow r rs → r .id ≡ id → ⊥) → leaseUnder rs id ≡ none
 unfolding leaseUnder
 is-missing [] id h = refl
 is-missing (x ∷ xs) id h = rw (not-same (x .id) id (h x (inl refl))) (is-missing xs id (λ r i. h r (inr i)))
 
 -- `UnderExactly`
 pub under-exactly : UnderExactly
-under-exactly rs id l a = (
-  λ e. subst (λ (o : Option Lease). Finds rs id (foundOf o)) e (finds rs id),
-  λ p. ap (leaseUnder rs) (sym (p .2)) ∙ is-found rs (p .0) a (p .1) ∙ ap some (p .3),
+under-exactly rs id a = (
+  λ l. (
+    λ e. subst (Finds rs id) (ap foundOf e) (finds rs id),
+    λ p. ap (leaseUnder rs) (sym (p .2)) ∙ is-found rs (p .0) a (p .1) ∙ ap some (p .3),
+  ),
+  (λ e. subst (Finds rs id) (ap foundOf e) (finds rs id), is-missing rs id),
 )
 
 -- the bytes of rows have under an id what the rows have

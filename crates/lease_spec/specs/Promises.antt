@@ -4,7 +4,7 @@ use mathlib.Core.Path.{_≡_}
 use mathlib.Core.Logic.{_↔_, _⊎_}
 use mathlib.Core.Bool.{true, false}
 use mathlib.Core.List.{List, [], _∷_, _++_}
-use mathlib.Core.Option.{some}
+use mathlib.Core.Option.{none, some}
 use Prim.Native.Nat.{ℕ, _+_, _*_, _^_, _≤_, _<_}
 use lib.ListN.{length, replicate}
 use lib.IntN.{pos, negsuc, _+ℤ_, _-ℤ_}
@@ -15,7 +15,7 @@ use Rattle.time.specs.declared.Margin.{Margin}
 use Rattle.lease_spec.specs.declared.Lease.{Lease}
 use Rattle.lease_spec.specs.declared.LeaseState.{LeaseState}
 use Rattle.lease_spec.specs.declared.LeaseState.the-variants as states
-use Rattle.lease_spec.specs.declared.LeaseRow.the-variants.{IsRow, NoRow}
+use Rattle.lease_spec.specs.declared.LeaseRead.the-variants.{IsLease, NoLease}
 use Rattle.lease_spec.specs.declared.LeaseFound.the-variants as finds
 use Rattle.lease_spec.specs.Lease.{marginOf, stateOf}
 use Rattle.lease_spec.specs.Table.{Row, leaseUnder, rowBytes, tableBytes, leaseRead, rowsOf, tableOk, findIn}
@@ -30,11 +30,11 @@ pub record Within (l : Lease) : Type 0 where
   pub skew : l .skew .0 ≤ 86400000
   pub tolerance : l .tolerance .0 ≤ 86400000
 
--- the last active millisecond: L + T + E, where T is scaled by 1,000
+-- the last active millisecond (`lastActive` of the definitions), written out: L + T + E, where T is scaled by 1,000
 abbrev pub activeEnd : Lease → ℕ
 activeEnd l = l .«last_sync» .0 + l .ttl .0 * 1000 + l .tolerance .0
 
--- the last stale millisecond: L + T + G + E, where T and G are scaled by 1,000
+-- the last stale millisecond (`lastStale`): L + T + G + E, where T and G are scaled by 1,000
 abbrev pub staleEnd : Lease → ℕ
 staleEnd l = l .«last_sync» .0 + l .ttl .0 * 1000 + l .grace .0 * 1000 + l .tolerance .0
 
@@ -73,16 +73,16 @@ abbrev pub MarginFits : Type 0
 MarginFits = (l : Lease) (n : ℕ) → Within l → n ≤ 2 ^ 53
     → (negsuc 9007199254740991 ≤ℤ marginOf l n .0) × (marginOf l n .0 <ℤ pos (2 ^ 54))
 
--- ---- leases fade
+-- ---- stale and expired leases
 
 -- a lease that is stale or expired
-abbrev pub HasFaded : LeaseState → Type 0
-HasFaded (states.Stale m) = Unit {0}
-HasFaded states.Expired = Unit {0}
-HasFaded states.Revoked = ⊥
-HasFaded states.Future = ⊥
-HasFaded (states.Active m) = ⊥
-HasFaded states.Outside = ⊥
+abbrev pub StaleOrExpired : LeaseState → Type 0
+StaleOrExpired (states.Stale m) = Unit {0}
+StaleOrExpired states.Expired = Unit {0}
+StaleOrExpired states.Revoked = ⊥
+StaleOrExpired states.Future = ⊥
+StaleOrExpired (states.Active m) = ⊥
+StaleOrExpired states.Outside = ⊥
 
 -- the same lease with another last sync
 abbrev pub withSync : Lease → ℕ → Lease
@@ -97,11 +97,11 @@ withSync l sync = record {
 
 -- with an older sync it stays stale or expired; so it is never active
 abbrev pub OlderSync : Type 0
-OlderSync = (l : Lease) (n older : ℕ) → older ≤ l .«last_sync» .0 → HasFaded (stateOf l n) → HasFaded (stateOf (withSync l older) n)
+OlderSync = (l : Lease) (n older : ℕ) → older ≤ l .«last_sync» .0 → StaleOrExpired (stateOf l n) → StaleOrExpired (stateOf (withSync l older) n)
 
 -- and so it does at each later clock, up to 2^53
 abbrev pub LaterClock : Type 0
-LaterClock = (l : Lease) (n later : ℕ) → n ≤ later → later ≤ 2 ^ 53 → HasFaded (stateOf l n) → HasFaded (stateOf l later)
+LaterClock = (l : Lease) (n later : ℕ) → n ≤ later → later ≤ 2 ^ 53 → StaleOrExpired (stateOf l n) → StaleOrExpired (stateOf l later)
 
 -- ---- the lease table
 
@@ -112,23 +112,23 @@ pub record Allowed (r : Row) : Type 0 where
   pub within : Within (r .lease)
 
 -- r is one of the rows
-abbrev pub IsIn : Row → List Row → Type 0
-IsIn r [] = ⊥
-IsIn r (x ∷ xs) = (x ≡ r) ⊎ IsIn r xs
+abbrev pub IsRow : Row → List Row → Type 0
+IsRow r [] = ⊥
+IsRow r (x ∷ xs) = (x ≡ r) ⊎ IsRow r xs
 
 -- the rows are allowed, and no two have one id
 abbrev pub AreRows : List Row → Type 0
 AreRows [] = Unit {0}
-AreRows (r ∷ rs) = Allowed r × ((x : Row) → IsIn x rs → x .id ≡ r .id → ⊥) × AreRows rs
+AreRows (r ∷ rs) = Allowed r × ((x : Row) → IsRow x rs → x .id ≡ r .id → ⊥) × AreRows rs
 
 -- 64 bytes at a place are read as a lease exactly when they are those of an allowed row with that lease
 abbrev pub RowExactly : Type 0
 RowExactly = (before s after : List ℕ) (l : Lease) → AreBytes s → length s ≡ 64
-    → (leaseRead (before ++ (s ++ after)) (length before) ≡ IsRow l) ↔ ((r : Row) × Allowed r × (r .lease ≡ l) × (s ≡ rowBytes r))
+    → (leaseRead (before ++ (s ++ after)) (length before) ≡ IsLease l) ↔ ((r : Row) × Allowed r × (r .lease ≡ l) × (s ≡ rowBytes r))
 
 -- and where fewer than 64 bytes are left no row is read
 abbrev pub RowShort : Type 0
-RowShort = (s : List ℕ) (at : ℕ) → length s < at + 64 → leaseRead s at ≡ NoRow
+RowShort = (s : List ℕ) (at : ℕ) → length s < at + 64 → leaseRead s at ≡ NoLease
 
 -- the five numbers of a lease, in 8 bytes each, big-endian: L, T, G, D and E
 abbrev pub numbersOf : Lease → List ℕ
@@ -142,6 +142,10 @@ RowLaidOut = (r : Row)
     → (r .lease .revoked ≡ true → rowBytes r ≡ r .id ++ (1 ∷ (replicate 7 0 ++ numbersOf (r .lease))))
     × (r .lease .revoked ≡ false → rowBytes r ≡ r .id ++ (0 ∷ (replicate 7 0 ++ numbersOf (r .lease))))
 
+-- the bytes of rows are those of each row, one after the other, and nothing else
+abbrev pub TableLaidOut : Type 0
+TableLaidOut = (tableBytes [] ≡ []) × ((r : Row) (rs : List Row) → tableBytes (r ∷ rs) ≡ rowBytes r ++ tableBytes rs)
+
 -- bytes are a lease table exactly when they are those of such rows
 abbrev pub TableExactly : Type 0
 TableExactly = (s : List ℕ) → AreBytes s → (tableOk s ≡ true) ↔ ((rs : List Row) × AreRows rs × (s ≡ tableBytes rs))
@@ -150,20 +154,21 @@ TableExactly = (s : List ℕ) → AreBytes s → (tableOk s ≡ true) ↔ ((rs :
 abbrev pub RowsBack : Type 0
 RowsBack = (rs : List Row) → AreRows rs → rowsOf (tableBytes rs) ≡ rs
 
--- rows have a lease under an id exactly when one of them has both
+-- rows have a lease under an id exactly when one of them has both, and none exactly when no row has the id
 abbrev pub UnderExactly : Type 0
-UnderExactly = (rs : List Row) (id : List ℕ) (l : Lease) → AreRows rs
-    → (leaseUnder rs id ≡ some l) ↔ ((r : Row) × IsIn r rs × (r .id ≡ id) × (r .lease ≡ l))
+UnderExactly = (rs : List Row) (id : List ℕ) → AreRows rs
+    → ((l : Lease) → (leaseUnder rs id ≡ some l) ↔ ((r : Row) × IsRow r rs × (r .id ≡ id) × (r .lease ≡ l)))
+    × ((leaseUnder rs id ≡ none) ↔ ((r : Row) → IsRow r rs → r .id ≡ id → ⊥))
 
 -- so a lease is found in their bytes under an id exactly when a row has both
 abbrev pub FoundExactly : Type 0
 FoundExactly = (rs : List Row) (id : List ℕ) (l : Lease) → AreRows rs
-    → (findIn (tableBytes rs) id ≡ finds.Found l) ↔ ((r : Row) × IsIn r rs × (r .id ≡ id) × (r .lease ≡ l))
+    → (findIn (tableBytes rs) id ≡ finds.Found l) ↔ ((r : Row) × IsRow r rs × (r .id ≡ id) × (r .lease ≡ l))
 
 -- and none exactly when no row has the id
 abbrev pub MissingExactly : Type 0
 MissingExactly = (rs : List Row) (id : List ℕ) → AreRows rs
-    → (findIn (tableBytes rs) id ≡ finds.Missing) ↔ ((r : Row) → IsIn r rs → r .id ≡ id → ⊥)
+    → (findIn (tableBytes rs) id ≡ finds.Missing) ↔ ((r : Row) → IsRow r rs → r .id ≡ id → ⊥)
 
 -- bytes that are no lease table are malformed, and no others
 abbrev pub MalformedExactly : Type 0

@@ -10,8 +10,8 @@ use Rattle.octets.specs.Number.{bigEndian, numberAt}
 use Rattle.time.specs.Time.{seconds, milliseconds}
 use Rattle.descriptor_spec.specs.Allowed.{idSize}
 use Rattle.lease_spec.specs.declared.Lease.{Lease}
-use Rattle.lease_spec.specs.declared.LeaseRow.{LeaseRow}
-use Rattle.lease_spec.specs.declared.LeaseRow.the-variants.{IsRow, NoRow}
+use Rattle.lease_spec.specs.declared.LeaseRead.{LeaseRead}
+use Rattle.lease_spec.specs.declared.LeaseRead.the-variants.{IsLease, NoLease}
 use Rattle.lease_spec.specs.declared.LeaseFound.{LeaseFound}
 use Rattle.lease_spec.specs.declared.LeaseFound.the-variants.{Found, Missing, Malformed}
 use Rattle.lease_spec.specs.Lease.{leaseOk}
@@ -118,8 +118,8 @@ rowOk s at =
     && (eqb (numberAt s (at + zeroPlace) zeroWidth) 0 && leaseOk (leaseAt s at))
 
 -- what is read at a place; no row where the bytes end before it does
-unfoldable pub leaseRead : List ℕ → ℕ → LeaseRow
-leaseRead s at = cond (leb (at + leaseSize) (length s) && rowOk s at) (IsRow (leaseAt s at)) NoRow
+unfoldable pub leaseRead : List ℕ → ℕ → LeaseRead
+leaseRead s at = cond (leb (at + leaseSize) (length s) && rowOk s at) (IsLease (leaseAt s at)) NoLease
 
 -- the row at a place
 unfoldable pub rowAt : List ℕ → ℕ → Row

@@ -30,9 +30,9 @@ pub enum LeaseState {
 }
 
 // What a row of 64 bytes is read as.
-pub enum LeaseRow {
-    IsRow(Lease),
-    NoRow,
+pub enum LeaseRead {
+    IsLease(Lease),
+    NoLease,
 }
 
 // What a lease table has under an id: a lease, or no row; or it is no lease table.

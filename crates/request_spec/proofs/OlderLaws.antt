@@ -23,7 +23,7 @@ use Rattle.request_spec.specs.declared.DecisionNumbers.{DecisionNumbers}
 use Rattle.request_spec.specs.Request.{Request}
 use Rattle.request_spec.specs.Decision.{decisionOf, numbersOf}
 use Rattle.request_spec.specs.Promises.{Stored, badImage, notHeld, held, Under, formedBefore, marginAt, leaseSteps, stepsWith}
-use Rattle.request_spec.specs.Promises.{grantedWith, withLeases, Faded, OlderSyncRefused}
+use Rattle.request_spec.specs.Promises.{grantedWith, withLeases, StaleOrExpired, OlderSyncRefused}
 use Rattle.request_spec.proofs.NumberLaws.{answerOf}
 use Rattle.request_spec.proofs.UnderLaws.{all-stored}
 use Rattle.request_spec.proofs.LeaseLaws.{answerWith, answer-table, four, four-stale, live, synced, fresh, lasting, denied, affirmed}
@@ -42,11 +42,11 @@ four-expired true true true false m g z e = (refl, refl, refl)
 four-expired true true true true m g z e = absurd (omega (arith, z, e))
 
 -- where the first two pass and the last or the last but one does not, they are answered 24 or 25
-four-faded : (a b c d : Bool) (m : ℤ) (g : DecisionNumbers) → a ≡ true → b ≡ true → (c && d) ≡ false → Faded (inOrder (four a b c d m) g)
+four-late : (a b c d : Bool) (m : ℤ) (g : DecisionNumbers) → a ≡ true → b ≡ true → (c && d) ≡ false → StaleOrExpired (inOrder (four a b c d m) g)
 unfolding inOrder orElse
-four-faded a b false d m g p q r = rw (p, q) (inl refl)
-four-faded a b true false m g p q r = rw (p, q) (inr refl)
-four-faded a b true true m g p q r = absurd (false≢true (sym r))
+four-late a b false d m g p q r = rw (p, q) (inl refl)
+four-late a b true false m g p q r = rw (p, q) (inr refl)
+four-late a b true true m g p q r = absurd (false≢true (sym r))
 
 -- ---- an older sync
 
@@ -84,13 +84,13 @@ under-older (x ∷ before) after r older id = go (same (x .id) id) (under-older 
 
 module _ (q : Request) (d : Descriptor) where
   -- a lease whose steps are answered 24 or 25 is not revoked, and its active time has passed
-  faded-past : (l : Lease) → Faded (behind q d (some l)) → (l .revoked ≡ false) × (activeEnd l < q .clock .0)
-  faded-past l (inl e) =
+  late-past : (l : Lease) → StaleOrExpired (behind q d (some l)) → (l .revoked ≡ false) × (activeEnd l < q .clock .0)
+  late-past l (inl e) =
       let n : ℕ = q .clock .0 in
       let w = four-stale (live (some l)) (synced (some l) n) (fresh (some l) n) (lasting (some l) n) (marginAt (some l) n)
       (grantedWith (marginAt (some l) n) q (held d)) refl e in
       (denied (l .revoked) (w .1), not-fresh l n (w .3))
-  faded-past l (inr e) =
+  late-past l (inr e) =
       let n : ℕ = q .clock .0 in
       let w = four-expired (live (some l)) (synced (some l) n) (fresh (some l) n) (lasting (some l) n) (marginAt (some l) n)
       (grantedWith (marginAt (some l) n) q (held d)) refl e in (
@@ -99,10 +99,10 @@ module _ (q : Request) (d : Descriptor) where
       )
 
   -- and one of which that is so is answered 24 or 25
-  past-faded : (l : Lease) → l .revoked ≡ false → activeEnd l < q .clock .0 → Faded (behind q d (some l))
-  past-faded l r h =
+  past-late : (l : Lease) → l .revoked ≡ false → activeEnd l < q .clock .0 → StaleOrExpired (behind q d (some l))
+  past-late l r h =
       let n : ℕ = q .clock .0 in
-      four-faded (live (some l)) (synced (some l) n) (fresh (some l) n) (lasting (some l) n) (marginAt (some l) n)
+      four-late (live (some l)) (synced (some l) n) (fresh (some l) n) (lasting (some l) n) (marginAt (some l) n)
       (grantedWith (marginAt (some l) n) q (held d))
       (ap not r) (ap not (le-ltb (n + l .skew .0) (l .«last_sync» .0) (omega arith)))
       (go (ltb (staleEnd l) n) refl (lt-ltb (activeEnd l) n h))
@@ -113,37 +113,37 @@ module _ (q : Request) (d : Descriptor) where
       go false e k = rw (k, le-leb (q .clock .0) (staleEnd l) (ltb-false (staleEnd l) (q .clock .0) e))
 
   -- so it stays with an older sync
-  older-faded : (l : Lease) (older : ℕ) → older ≤ l .«last_sync» .0 → Faded (behind q d (some l))
-      → Faded (behind q d (some (withSync l older)))
-  older-faded l older h f = let w = faded-past l f in past-faded (withSync l older) (w .0) (omega (arith, w .1))
+  older-late : (l : Lease) (older : ℕ) → older ≤ l .«last_sync» .0 → StaleOrExpired (behind q d (some l))
+      → StaleOrExpired (behind q d (some (withSync l older)))
+  older-late l older h f = let w = late-past l f in past-late (withSync l older) (w .0) (omega (arith, w .1))
 
   -- where the steps up to the signature have neither number, 24 and 25 are the lease's
-  faded-behind : (ok : Bool) (lease : Option Lease) → Faded (answerWith q (held d) ok lease)
-      → AllPass (stepsWith ok q (held d)) × Faded (behind q d lease)
-  faded-behind ok lease (inl e) =
+  late-behind : (ok : Bool) (lease : Option Lease) → StaleOrExpired (answerWith q (held d) ok lease)
+      → AllPass (stepsWith ok q (held d)) × StaleOrExpired (behind q d lease)
+  late-behind ok lease (inl e) =
       let w = behind-signature q d ok lease 24 refl e in (w .0, inl (sym (ap answerOf (w .1)) ∙ e))
-  faded-behind ok lease (inr e) =
+  late-behind ok lease (inr e) =
       let w = behind-signature q d ok lease 25 refl e in (w .0, inr (sym (ap answerOf (w .1)) ∙ e))
 
   -- and where those steps pass, the lease's are the answer
-  behind-faded : (ok : Bool) (lease : Option Lease) → AllPass (stepsWith ok q (held d)) → Faded (behind q d lease)
-      → Faded (answerWith q (held d) ok lease)
-  behind-faded ok lease a f =
+  behind-late : (ok : Bool) (lease : Option Lease) → AllPass (stepsWith ok q (held d)) → StaleOrExpired (behind q d lease)
+      → StaleOrExpired (answerWith q (held d) ok lease)
+  behind-late ok lease a f =
       let steps : List (Step DecisionNumbers) = stepsWith ok q (held d) in
       let joined = order-append steps (leaseSteps lease (q .clock .0)) (grantedWith (marginAt lease (q .clock .0)) q (held d)) in
-      subst Faded (sym (joined ∙ passed-end steps (behind q d lease) a)) f
+      subst StaleOrExpired (sym (joined ∙ passed-end steps (behind q d lease) a)) f
 
 -- the answers with two leases, of which the second is the first or has an older sync
 older-answers : (q : Request) (x : Stored) (ok : Bool) (one two : Option Lease) (l : Lease) (older : ℕ) → older ≤ l .«last_sync» .0
     → (one ≡ two) ⊎ ((one ≡ some l) × (two ≡ some (withSync l older)))
-    → Faded (answerWith q x ok one) → Faded (answerWith q x ok two)
+    → StaleOrExpired (answerWith q x ok one) → StaleOrExpired (answerWith q x ok two)
 older-answers q badImage ok one two l older h k f = f
 older-answers q notHeld ok one two l older h k f = f
-older-answers q (held d) ok one two l older h (inl e) f = subst (λ (y : Option Lease). Faded (answerWith q (held d) ok y)) e f
+older-answers q (held d) ok one two l older h (inl e) f = subst (λ (y : Option Lease). StaleOrExpired (answerWith q (held d) ok y)) e f
 older-answers q (held d) ok one two l older h (inr e) f =
-    let w = faded-behind q d ok one f in
-    behind-faded q d ok two (w .0) (subst (λ (y : Option Lease). Faded (behind q d y)) (sym (e .1))
-    (older-faded q d l older h (subst (λ (y : Option Lease). Faded (behind q d y)) (e .0) (w .1))))
+    let w = late-behind q d ok one f in
+    behind-late q d ok two (w .0) (subst (λ (y : Option Lease). StaleOrExpired (behind q d y)) (sym (e .1))
+    (older-late q d l older h (subst (λ (y : Option Lease). StaleOrExpired (behind q d y)) (e .0) (w .1))))
 
 -- with the bytes of rows the answer is by the lease that they have
 answer-rows : (s : List ℕ) (q : Request) (x : Stored) (rs : List Row) → Under s (q .id) x → AreRows rs
@@ -159,6 +159,6 @@ older-sync-refused s q before after r older b a h f =
     let x = all-stored s (q .id) b in
     let one : List Row = before ++ (r ∷ after) in
     let two : List Row = before ++ (older-row r older ∷ after) in
-    subst Faded (sym (answer-rows s q (x .0) two (x .1) (older-rows before after r older a h)))
+    subst StaleOrExpired (sym (answer-rows s q (x .0) two (x .1) (older-rows before after r older a h)))
     (older-answers q (x .0) (formedBefore q && leb (q .clock .0) (2 ^ 53)) (leaseUnder one (q .id)) (leaseUnder two (q .id)) (r .lease)
-    older h (under-older before after r older (q .id)) (subst Faded (answer-rows s q (x .0) one (x .1) a) f))
+    older h (under-older before after r older (q .id)) (subst StaleOrExpired (answer-rows s q (x .0) one (x .1) a) f))

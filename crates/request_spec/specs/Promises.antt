@@ -376,15 +376,15 @@ OtherLeases = (s : List ℕ) (q : Request) (t u : List ℕ) → AreBytes s → t
     → numbersOf (decisionOf s (withLeases q t)) ≡ numbersOf (decisionOf s (withLeases q u))
 
 -- the answer is 24 or 25
-abbrev pub Faded : DecisionNumbers → Type 0
-Faded r = (r .answer ≡ 24) ⊎ (r .answer ≡ 25)
+abbrev pub StaleOrExpired : DecisionNumbers → Type 0
+StaleOrExpired r = (r .answer ≡ 24) ⊎ (r .answer ≡ 25)
 
 -- where a row's last sync is an older one, a request that was answered 24 or 25 is answered 24 or 25; so it is not granted
 abbrev pub OlderSyncRefused : Type 0
 OlderSyncRefused = (s : List ℕ) (q : Request) (before after : List LeaseRow) (r : LeaseRow) (older : ℕ) → AreBytes s
     → AreRows (before ++ (r ∷ after)) → older ≤ r .lease .«last_sync» .0
-    → Faded (numbersOf (decisionOf s (withLeases q (tableBytes (before ++ (r ∷ after))))))
-    → Faded (numbersOf (decisionOf s
+    → StaleOrExpired (numbersOf (decisionOf s (withLeases q (tableBytes (before ++ (r ∷ after))))))
+    → StaleOrExpired (numbersOf (decisionOf s
     (withLeases q (tableBytes (before ++ (record { id = r .id; lease = withSync (r .lease) older } ∷ after))))))
 
 -- ---- both sides of not_before and not_after

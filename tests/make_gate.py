@@ -307,6 +307,9 @@ def requests(r):
     r.request("clock 2^53 + 1 ms", now_ms=LAST_MOMENT + 1, session=0)
     r.request("clock 2^63 ms", now_ms=1 << 63, session=0)
     r.request("clock 2^64 - 1 ms", now_ms=LAST, session=0)
+    latest = dict(issued_at=0, not_before=LAST - 1, not_after=LAST)
+    r.submit("stored, valid in the last second but one of 64 bits", made(12, **latest), now=LAST - 1)
+    r.request("clock 2^53 ms, not_before 2^64 - 2", id=ident(12), now_ms=LAST_MOMENT)
     # order in the image
     r.load("no image", b"\x00" * 100)
     r.request("no image, malformed", mode=4)

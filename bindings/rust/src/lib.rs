@@ -1,6 +1,6 @@
 //! A safe wrapper of `libcap.a`, the proved gate of the Control Authority Protocol.
 //!
-//! The functions here are the calls of `include/cap.h` with slices in and `Result` or `Option` out: numbers that an answer
+//! The functions here are the calls of `include/cap.h` with slices in and `Result` or `Option` out: numbers that a refusal
 //! doesn't have can't be looked at. [`numbers`] has the same calls with the numbers as the library gives them.
 //! What a caller in C has to see to, that no pointer is null and that a mutable slice overlaps no other, holds of every
 //! Rust slice. Times are [`Seconds`] or [`Milliseconds`], so that one is not passed for the other. The library keeps nothing

@@ -279,8 +279,9 @@ pub fn submit(
 /// from which on it is revoked, in seconds, big-endian (8). An id may recur. A length that is no multiple of 24 is answered 15.
 /// `leases` is the lease table: rows of 64 bytes, each a descriptor id (16), 1 where the lease is revoked and else 0 (1), zero (7),
 /// then last sync in milliseconds, ttl and grace in seconds, future skew and tolerance in milliseconds, big-endian (8 each), with
-/// different ids. Rows in ascending order of id are checked fastest. The steps of the lease come last, and only they look at the
-/// milliseconds of `now_ms`.
+/// different ids. The limits of these numbers are in `include/cap.h`; a row that is not so, whichever id it has, and a clock above
+/// 2^53 are answered 15. Rows in ascending order of id are checked fastest. The steps of the lease come last, and only they look at
+/// the milliseconds of `now_ms`.
 #[allow(clippy::too_many_arguments)]
 pub fn request(
     image: &[u8],

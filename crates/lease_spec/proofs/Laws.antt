@@ -13,13 +13,12 @@ use Rattle.octets.specs.Number.{numberAt}
 use Rattle.octets.proofs.Tests.{and-left, and-right}
 use Rattle.octets.proofs.OptionLaws.{some-same, none-some}
 use Rattle.lease_spec.specs.declared.Lease.{Lease}
-use Rattle.lease_spec.specs.declared.LeaseFound.{LeaseFound}
-use Rattle.lease_spec.specs.declared.LeaseFound.the-variants.{Found, Missing, Malformed}
+use Rattle.lease_spec.specs.declared.LeaseFound.the-variants.{Found, Malformed}
 use Rattle.lease_spec.specs.Lease.{leaseOk}
 use Rattle.lease_spec.specs.Table.{Row, leaseSize, flagPlace, flagWidth, zeroPlace, zeroWidth, leaseAt, rowOk, rowAt, rowsFrom}
 use Rattle.lease_spec.specs.Table.{rowsOf, leaseUnder, rowsOk, idsDiffer, tableOk, foundOf, findIn}
-use Rattle.lease_spec.specs.Promises.{Allowed, IsRow, withSync}
-use Rattle.lease_spec.specs.Laws.{BytesTable, OlderRows, TestsWithin, FoundWithin}
+use Rattle.lease_spec.specs.Promises.{rowWithSync, Allowed, IsRow}
+use Rattle.lease_spec.specs.Laws.{leaseIn, BytesTable, OlderRows, TestsWithin, FoundWithin}
 use Rattle.lease_spec.proofs.StateLaws.{ok-within}
 use Rattle.lease_spec.proofs.TableLaws.{table-ok}
 
@@ -29,12 +28,8 @@ bytes-table = table-ok
 
 -- ---- a row with an older sync
 
--- the row with an older last sync
-abbrev older-row : Row → ℕ → Row
-older-row r older = record { id = r .id; lease = withSync (r .lease) older }
-
--- it is allowed where the row is
-older-allowed : (r : Row) (older : ℕ) → Allowed r → older ≤ r .lease .«last_sync» .0 → Allowed (older-row r older)
+-- a row with an older last sync is allowed where the row is
+older-allowed : (r : Row) (older : ℕ) → Allowed r → older ≤ r .lease .«last_sync» .0 → Allowed (rowWithSync r older)
 older-allowed r older a h =
     let w = a .within in
     record {
@@ -44,7 +39,7 @@ older-allowed r older a h =
     }
 
 -- a row among those with the older one has the id of one among the others
-older-in : (before after : List Row) (r : Row) (older : ℕ) (x : Row) → IsRow x (before ++ (older-row r older ∷ after))
+older-in : (before after : List Row) (r : Row) (older : ℕ) (x : Row) → IsRow x (before ++ (rowWithSync r older ∷ after))
     → (y : Row) × IsRow y (before ++ (r ∷ after)) × (y .id ≡ x .id)
 older-in [] after r older x (inl e) = (r, inl refl, ap (λ (y : Row). y .id) e)
 older-in [] after r older x (inr i) = (x, inr i, refl)
@@ -52,12 +47,12 @@ older-in (b ∷ before) after r older x (inl e) = (b, inl refl, ap (λ (y : Row)
 older-in (b ∷ before) after r older x (inr i) = let w = older-in before after r older x i in (w .0, inr (w .1), w .2)
 
 -- `OlderRows`
-pub older-rows : OlderRows
-older-rows [] after r older a h = (older-allowed r older (a .0) h, a .1, a .2)
-older-rows (b ∷ before) after r older a h = (
+pub rowWithSyncs : OlderRows
+rowWithSyncs [] after r older a h = (older-allowed r older (a .0) h, a .1, a .2)
+rowWithSyncs (b ∷ before) after r older a h = (
   a .0,
   λ x i e. let w = older-in before after r older x i in a .1 (w .0) (w .1) (w .2 ∙ e),
-  older-rows before after r older (a .2) h,
+  rowWithSyncs before after r older (a .2) h,
 )
 
 -- ---- a lease that is found
@@ -88,12 +83,6 @@ under-within s i (suc n) id l e f =
         subst (λ (x : Lease). leaseOk x ≡ true) (some-same (leaseAt s (leaseSize * i)) l g)
         (row-within s (leaseSize * i) (and-left (rowOk s (leaseSize * i)) (rowsOk s (i + 1) n) e))
     go false k g = k g
-
--- the lease of what is found
-abbrev leaseIn : LeaseFound → Option Lease
-leaseIn (Found l) = some l
-leaseIn Missing = none
-leaseIn Malformed = none
 
 -- what is found of an option is its lease
 lease-in : (o : Option Lease) → leaseIn (foundOf o) ≡ o

@@ -95,9 +95,14 @@ withSync l sync = record {
   tolerance = l .tolerance;
 }
 
+-- the same row with another last sync
+abbrev pub rowWithSync : Row → ℕ → Row
+rowWithSync r sync = record { id = r .id; lease = withSync (r .lease) sync }
+
 -- with an older sync it stays stale or expired; so it is never active
 abbrev pub OlderSync : Type 0
-OlderSync = (l : Lease) (n older : ℕ) → older ≤ l .«last_sync» .0 → StaleOrExpired (stateOf l n) → StaleOrExpired (stateOf (withSync l older) n)
+OlderSync = (l : Lease) (n older : ℕ) → older ≤ l .«last_sync» .0 → StaleOrExpired (stateOf l n)
+    → StaleOrExpired (stateOf (withSync l older) n)
 
 -- and so it does at each later clock, up to 2^53
 abbrev pub LaterClock : Type 0

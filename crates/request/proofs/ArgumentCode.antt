@@ -23,7 +23,8 @@ use Rattle.lease_spec.specs.Table.{tableOk, foundOf, findIn}
 use Rattle.lease_spec.proofs.Promises.{malformed-exactly}
 use Rattle.lease_spec.proofs.Laws.{found-within}
 use Rattle.request_spec.specs.Request.{Request, argumentsOk, wellFormed, leaseFor}
-use Rattle.request.specs.Code.{checkedOf, isMalformed, leaseIn, FoundFits}
+use Rattle.lease_spec.specs.Laws.{leaseIn}
+use Rattle.request.specs.Code.{checkedOf, isMalformed, FoundFits}
 
 module _ (q : Request) where
   -- another verdict is malformed

@@ -34,7 +34,8 @@ use Rattle.request_spec.specs.Request.{Request, secondsOf, wellFormed, revokedN
 use Rattle.request_spec.specs.Decision.{Facts, revocationSteps, descriptorSteps, keySteps, leaseSteps, laterSteps, stepsBy, grantedBy}
 use Rattle.request_spec.specs.Decision.{factsOf, pickFrom, matchedOn, decidedOn, factsIn, matchedIn, stepsOf, decisionOf, numbersOf}
 use Rattle.request_spec.specs.Promises.{withLeases}
-use Rattle.request.specs.Code.{leaseIn, appliesWith, applicabilityOf, leasedBy, signedBy}
+use Rattle.lease_spec.specs.Laws.{leaseIn}
+use Rattle.request.specs.Code.{appliesWith, applicabilityOf, leasedBy, signedBy}
 
 -- the code compares a part that it lends
 pub lent-same : (s t : List ℕ) (at n : ℕ) {b : Bool} → b ≡ same (take (at + n - at) (drop at s)) t → same (part s at n) t ≡ b

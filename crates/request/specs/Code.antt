@@ -2,7 +2,6 @@
 use mathlib.Core.Path.{_≡_}
 use mathlib.Core.Bool.{Bool, true, false, cond, _&&_}
 use mathlib.Core.List.{List}
-use mathlib.Core.Option.{Option, none, some}
 use Prim.Native.Nat.{ℕ, _+_, _≤_}
 use lib.ListN.{length}
 use lib.Dec.{eqb}
@@ -11,13 +10,13 @@ use Rattle.descriptor_spec.specs.declared.Fields.{Fields}
 use Rattle.descriptor_spec.specs.Reader.{hasMode}
 use Rattle.time.specs.declared.Seconds.{Seconds}
 use Rattle.time.specs.Time.{wholeSeconds, plusAtMost}
-use Rattle.lease_spec.specs.declared.Lease.{Lease}
 use Rattle.lease_spec.specs.declared.LeaseState.{LeaseState}
 use Rattle.lease_spec.specs.declared.LeaseState.the-variants as states
 use Rattle.lease_spec.specs.declared.LeaseFound.{LeaseFound}
 use Rattle.lease_spec.specs.declared.LeaseFound.the-variants.{Found, Missing, Malformed}
 use Rattle.lease_spec.specs.Lease.{leaseOk, clockOk}
 use Rattle.lease_spec.specs.Table.{findIn}
+use Rattle.lease_spec.specs.Laws.{leaseIn}
 use Rattle.steps.specs.Order.{inOrder}
 use Rattle.steps.specs.Laws.{mapped}
 use Rattle.request_spec.specs.declared.Decision.{Decision}
@@ -46,12 +45,6 @@ abbrev pub isMalformed : LeaseFound → Bool
 isMalformed (Found l) = false
 isMalformed Missing = false
 isMalformed Malformed = true
-
--- the lease that was found
-abbrev pub leaseIn : LeaseFound → Option Lease
-leaseIn (Found l) = some l
-leaseIn Missing = none
-leaseIn Malformed = none
 
 -- what was found is no malformed table, and a lease of it is within the limits
 abbrev pub FoundFits : LeaseFound → Type 0

@@ -18,9 +18,10 @@ ghost use Rattle.resource_spec.specs.Identifier.{terminalSize};
 ghost use Rattle.resource_spec.specs.Text.{resourceOk};
 ghost use Rattle.descriptor_spec.specs.Modes.{highestMode};
 ghost use Rattle.lease_spec.specs.Lease.{clockOk};
+ghost use Rattle.lease_spec.specs.Laws.{leaseIn};
 ghost use Rattle.request_spec.specs.Request.{requestOf};
 ghost use Rattle.request_spec.specs.Decision.{matchedOn, decidedOn};
-ghost use Rattle.request.specs.Code.{BodyFits, FoundFits, leaseIn, applicabilityOf, signedBy};
+ghost use Rattle.request.specs.Code.{BodyFits, FoundFits, applicabilityOf, signedBy};
 
 // What the steps 9 to 13 answer: the grant that is picked, with its mask, or the refusal of the first step that fails.
 pub(crate) enum Applicability {

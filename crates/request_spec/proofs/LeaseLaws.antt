@@ -8,7 +8,7 @@ use native.Mathlib.Omega.{arith}
 use lib.IntN.{ℤ, pos, _-ℤ_}
 use lib.Signed.{_≤ℤ_, _<ℤ_}
 use lib.Dec.{leb, ltb}
-use borrow.Author.Tests.{le-leb, ltb-true, ltb-false}
+use borrow.Author.Tests.{le-leb, ltb-true, ltb-false, not-true, not-false}
 use Rattle.octets.proofs.Tests.{and-left}
 use Rattle.descriptor_spec.specs.Model.{Descriptor}
 use Rattle.lease_spec.specs.declared.Lease.{Lease}
@@ -120,25 +120,16 @@ fresh lease n = whereLeased lease (λ l. not (ltb (activeEnd l) n && leb n (stal
 abbrev pub lasting : Option Lease → ℕ → Bool
 lasting lease n = whereLeased lease (λ l. not (ltb (staleEnd l) n))
 
--- a test that is denied, and what it says
-pub denied : (b : Bool) → not b ≡ true → b ≡ false
-denied false e = refl
-denied true e = absurd (false≢true e)
-
-pub affirmed : (b : Bool) → not b ≡ false → b ≡ true
-affirmed true e = refl
-affirmed false e = absurd (false≢true (sym e))
-
 -- the active time of a stale lease has passed
 pub not-fresh : (l : Lease) (n : ℕ) → fresh (some l) n ≡ false → activeEnd l < n
 not-fresh l n e =
-    ltb-true (activeEnd l) n (and-left (ltb (activeEnd l) n) _ (affirmed (ltb (activeEnd l) n && leb n (staleEnd l)) e))
+    ltb-true (activeEnd l) n (and-left (ltb (activeEnd l) n) _ (not-false (ltb (activeEnd l) n && leb n (staleEnd l)) e))
 
 -- a lease that is neither stale nor expired is within its active time
 within-active : (l : Lease) (n : ℕ) → fresh (some l) n ≡ true → lasting (some l) n ≡ true → n ≤ activeEnd l
 within-active l n f g =
-    let last = ltb-false (staleEnd l) n (denied (ltb (staleEnd l) n) g) in
-    go (ltb (activeEnd l) n) refl (denied (ltb (activeEnd l) n && leb n (staleEnd l)) f) (le-leb n (staleEnd l) last)
+    let last = ltb-false (staleEnd l) n (not-true (ltb (staleEnd l) n) g) in
+    go (ltb (activeEnd l) n) refl (not-true (ltb (activeEnd l) n && leb n (staleEnd l)) f) (le-leb n (staleEnd l) last)
   where
     go : (b : Bool) → ltb (activeEnd l) n ≡ b → (b && leb n (staleEnd l)) ≡ false → leb n (staleEnd l) ≡ true → n ≤ activeEnd l
     go true e f g = absurd (false≢true (sym f ∙ g))

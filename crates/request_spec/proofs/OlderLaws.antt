@@ -8,15 +8,15 @@ use Prim.Native.Nat.{ℕ, _+_, _^_, _≤_, _<_}
 use native.Mathlib.Omega.{arith}
 use lib.IntN.{ℤ}
 use lib.Dec.{leb, ltb}
-use borrow.Author.Tests.{le-leb, lt-ltb, le-ltb, ltb-true, ltb-false}
+use borrow.Author.Tests.{le-leb, lt-ltb, le-ltb, ltb-true, ltb-false, not-true, not-false}
 use Rattle.octets.specs.Bytes.{same}
 use Rattle.octets.proofs.Tests.{and-false}
 use Rattle.descriptor_spec.specs.Model.{Descriptor}
 use Rattle.lease_spec.specs.declared.Lease.{Lease}
 use Rattle.lease_spec.specs.Table.{Row, leaseUnder, tableBytes}
-use Rattle.lease_spec.specs.Promises.{activeEnd, staleEnd, withSync, AreRows}
+use Rattle.lease_spec.specs.Promises.{activeEnd, staleEnd, withSync, rowWithSync, AreRows}
 use Rattle.lease_spec.proofs.Promises.{rows-back}
-use Rattle.lease_spec.proofs.Laws.{bytes-table, older-rows}
+use Rattle.lease_spec.proofs.Laws.{bytes-table, rowWithSyncs}
 use Rattle.steps.specs.Order.{Step, orElse, inOrder, AllPass}
 use Rattle.steps.proofs.Laws.{order-append, passed-end}
 use Rattle.request_spec.specs.declared.DecisionNumbers.{DecisionNumbers}
@@ -26,7 +26,7 @@ use Rattle.request_spec.specs.Promises.{Stored, badImage, notHeld, held,
 use Rattle.request_spec.specs.Promises.{grantedWith, withLeases, StaleOrExpired, OlderSyncRefused}
 use Rattle.request_spec.proofs.NumberLaws.{answerOf}
 use Rattle.request_spec.proofs.UnderLaws.{all-stored}
-use Rattle.request_spec.proofs.LeaseLaws.{answerWith, answer-table, four, four-stale, live, synced, fresh, lasting, denied, affirmed}
+use Rattle.request_spec.proofs.LeaseLaws.{answerWith, answer-table, four, four-stale, live, synced, fresh, lasting}
 use Rattle.request_spec.proofs.LeaseLaws.{not-fresh, behind, behind-signature}
 
 -- ---- the four steps of a lease
@@ -42,7 +42,8 @@ four-expired true true true false m g z e = (refl, refl, refl)
 four-expired true true true true m g z e = absurd (omega (arith, z, e))
 
 -- where the first two pass and the last or the last but one does not, they are answered 24 or 25
-four-late : (a b c d : Bool) (m : ℤ) (g : DecisionNumbers) → a ≡ true → b ≡ true → (c && d) ≡ false → StaleOrExpired (inOrder (four a b c d m) g)
+four-late : (a b c d : Bool) (m : ℤ) (g : DecisionNumbers) → a ≡ true → b ≡ true → (c && d) ≡ false
+    → StaleOrExpired (inOrder (four a b c d m) g)
 unfolding inOrder orElse
 four-late a b false d m g p q r = rw (p, q) (inl refl)
 four-late a b true false m g p q r = rw (p, q) (inr refl)
@@ -50,15 +51,11 @@ four-late a b true true m g p q r = absurd (false≢true (sym r))
 
 -- ---- an older sync
 
--- the row with an older last sync
-abbrev older-row : Row → ℕ → Row
-older-row r older = record { id = r .id; lease = withSync (r .lease) older }
-
 -- the lease under an id stays, or it is that of the row
 under-older : (before after : List Row) (r : Row) (older : ℕ) (id : List ℕ)
-    → (leaseUnder (before ++ (r ∷ after)) id ≡ leaseUnder (before ++ (older-row r older ∷ after)) id)
+    → (leaseUnder (before ++ (r ∷ after)) id ≡ leaseUnder (before ++ (rowWithSync r older ∷ after)) id)
     ⊎ ((leaseUnder (before ++ (r ∷ after)) id ≡ some (r .lease))
-    × (leaseUnder (before ++ (older-row r older ∷ after)) id ≡ some (withSync (r .lease) older)))
+    × (leaseUnder (before ++ (rowWithSync r older ∷ after)) id ≡ some (withSync (r .lease) older)))
 unfolding leaseUnder
 under-older [] after r older id = go (same (r .id) id)
   where
@@ -74,7 +71,7 @@ under-older (x ∷ before) after r older id = go (same (x .id) id) (under-older 
     now = leaseUnder (before ++ (r ∷ after)) id
 
     then : Option Lease
-    then = leaseUnder (before ++ (older-row r older ∷ after)) id
+    then = leaseUnder (before ++ (rowWithSync r older ∷ after)) id
 
     go : (b : Bool) → (now ≡ then) ⊎ ((now ≡ some (r .lease)) × (then ≡ some (withSync (r .lease) older)))
         → (cond b (some (x .lease)) now ≡ cond b (some (x .lease)) then)
@@ -89,13 +86,13 @@ module _ (q : Request) (d : Descriptor) where
       let n : ℕ = q .clock .0 in
       let w = four-stale (live (some l)) (synced (some l) n) (fresh (some l) n) (lasting (some l) n) (marginAt (some l) n)
       (grantedWith (marginAt (some l) n) q (held d)) refl e in
-      (denied (l .revoked) (w .1), not-fresh l n (w .3))
+      (not-true (l .revoked) (w .1), not-fresh l n (w .3))
   late-past l (inr e) =
       let n : ℕ = q .clock .0 in
       let w = four-expired (live (some l)) (synced (some l) n) (fresh (some l) n) (lasting (some l) n) (marginAt (some l) n)
       (grantedWith (marginAt (some l) n) q (held d)) refl e in (
-        denied (l .revoked) (w .0),
-        omega (arith, ltb-true (staleEnd l) n (affirmed (ltb (staleEnd l) n) (w .2))),
+        not-true (l .revoked) (w .0),
+        omega (arith, ltb-true (staleEnd l) n (not-false (ltb (staleEnd l) n) (w .2))),
       )
 
   -- and one of which that is so is answered 24 or 25
@@ -158,7 +155,7 @@ pub older-sync-refused : OlderSyncRefused
 older-sync-refused s q before after r older b a h f =
     let x = all-stored s (q .id) b in
     let one : List Row = before ++ (r ∷ after) in
-    let two : List Row = before ++ (older-row r older ∷ after) in
-    subst StaleOrExpired (sym (answer-rows s q (x .0) two (x .1) (older-rows before after r older a h)))
+    let two : List Row = before ++ (rowWithSync r older ∷ after) in
+    subst StaleOrExpired (sym (answer-rows s q (x .0) two (x .1) (rowWithSyncs before after r older a h)))
     (older-answers q (x .0) (formedBefore q && leb (q .clock .0) (2 ^ 53)) (leaseUnder one (q .id)) (leaseUnder two (q .id)) (r .lease)
     older h (under-older before after r older (q .id)) (subst StaleOrExpired (answer-rows s q (x .0) one (x .1) a) f))

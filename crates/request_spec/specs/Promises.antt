@@ -23,7 +23,7 @@ use Rattle.revocation_spec.specs.Revocation.{isRevoked, revocationsOf}
 use Rattle.revocation_spec.specs.Promises.{IsRow}
 use Rattle.lease_spec.specs.declared.Lease.{Lease}
 use Rattle.lease_spec.specs.Table.{Row as LeaseRow, tableBytes, rowsOf, leaseUnder, tableOk}
-use Rattle.lease_spec.specs.Promises.{activeEnd, staleEnd, withSync, AreRows}
+use Rattle.lease_spec.specs.Promises.{activeEnd, staleEnd, rowWithSync, AreRows}
 use Rattle.time.specs.declared.Seconds.{Seconds}
 use Rattle.time.specs.declared.Milliseconds.{Milliseconds}
 use Rattle.steps.specs.declared.Window.{Window}
@@ -86,7 +86,7 @@ AllStored = (s id : List ℕ) → AreBytes s → (x : Stored) × Under s id x
 
 -- ---- the steps in the papers' order, with their numbers
 
--- the clock in seconds: milliseconds divided by 1,000, rounded down
+-- the clock in seconds, called now below: the milliseconds divided by 1,000, rounded down
 abbrev pub secondsOf : Request → ℕ
 secondsOf q = q .clock .0 / 1000
 
@@ -108,7 +108,7 @@ formedBefore q =
     && (isFay (q .fay)
     && (isTerminal (q .terminal) && ((leb (length (q .resource)) 256 && isResource (q .resource)) && eqb (length (q .revoked) % 24) 0)))))
 
--- the arguments are well formed: those, the clock is not above 2^53, and the lease table is one
+-- the arguments are well formed: those, the clock is not above 2^53, and the bytes of the lease table are one
 abbrev pub formed : Request → Bool
 formed q = formedBefore q && (leb (q .clock .0) (2 ^ 53) && tableOk (q .leases))
 
@@ -346,7 +346,7 @@ StaysRevoked = (s : List ℕ) (q : Request) (later : Milliseconds) → AreBytes 
 -- ---- leases
 
 -- a request for an id without a lease is answered as it was before there were leases: the steps up to the signature, at the clock in
--- seconds, and margin 0; where the clock is not above 2^53 and the lease table is one
+-- seconds, and margin 0; where the clock is not above 2^53 and the bytes of the lease table are one
 abbrev pub WithoutLease : Type 0
 WithoutLease = (s : List ℕ) (q : Request) (x : Stored) → Under s (q .id) x → q .clock .0 ≤ 2 ^ 53 → tableOk (q .leases) ≡ true
     → leaseFor q ≡ none → numbersOf (decisionOf s q) ≡ inOrder (stepsWith (formedBefore q) q x) (grantedWith (pos 0) q x)
@@ -385,7 +385,7 @@ OlderSyncRefused = (s : List ℕ) (q : Request) (before after : List LeaseRow) (
     → AreRows (before ++ (r ∷ after)) → older ≤ r .lease .«last_sync» .0
     → StaleOrExpired (numbersOf (decisionOf s (withLeases q (tableBytes (before ++ (r ∷ after))))))
     → StaleOrExpired (numbersOf (decisionOf s
-    (withLeases q (tableBytes (before ++ (record { id = r .id; lease = withSync (r .lease) older } ∷ after))))))
+    (withLeases q (tableBytes (before ++ (rowWithSync r older ∷ after))))))
 
 -- ---- both sides of not_before and not_after
 

@@ -66,7 +66,7 @@ argumentsOk q =
     && (eqb (length (q .id)) idSize
     && (isFay (q .fay) && (isTerminal (q .terminal) && (resourceOk (q .resource) && eqb (length (q .revoked) % revocationSize) 0)))))
 
--- the arguments are well formed: those, the clock is within its limit, and the lease table is one
+-- the arguments are well formed: those, the clock is within its limit, and the bytes of the lease table are one
 unfoldable pub wellFormed : Request → Bool
 wellFormed q = argumentsOk q && (clockOk (q .clock .0) && tableOk (q .leases))
 

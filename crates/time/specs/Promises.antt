@@ -5,7 +5,7 @@ use Rattle.time.specs.declared.Seconds.{Seconds}
 use Rattle.time.specs.declared.Milliseconds.{Milliseconds}
 use Rattle.time.specs.Time.{wholeSeconds, inMilliseconds}
 
--- a number of seconds is that of a number of milliseconds exactly when 1,000 times it is not more, and one second more would be
+-- 1,000 times the whole seconds are not more than the milliseconds, and with one second more they would be
 abbrev pub RoundedDown : Type 0
 RoundedDown = (t : Milliseconds) → (wholeSeconds t .0 * 1000 ≤ t .0) × (t .0 < (wholeSeconds t .0 + 1) * 1000)
 

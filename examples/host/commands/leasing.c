@@ -57,7 +57,7 @@ void print_lease(const lease_table *leases, const uint8_t *id, cap_decision deci
     lease of;
     if (leases_find(leases, id, &of)) {
         print_of(&of, decision, now_ms);
-    } else if (leases->len > 0 && decision.answer == CAP_DONE) {
+    } else if (leases->given && decision.answer == CAP_DONE) {
         printf("  lease: none\n");
     }
 }

@@ -76,6 +76,7 @@ static int compare_ids(const void *one, const void *other) {
 
 /* Reads a lease file, or makes an empty table. */
 bool leases_read(const char *path, lease_table *table) {
+    table->given = path != NULL;
     table->len = 0;
     table->bytes = malloc(CAP_LEASE_ROW);
     if (table->bytes == NULL) {

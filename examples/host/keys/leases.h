@@ -16,8 +16,9 @@
 #include <stdint.h>
 
 /* The table as the gate takes it: rows of CAP_LEASE_ROW bytes, in ascending order of their ids, in which the gate checks them fastest. `bytes` is
- * never null after a successful read. */
+ * never null after a successful read; `given` says whether there is a lease file, be it without a lease. */
 typedef struct lease_table {
+    bool given;
     uint8_t *bytes;
     size_t len;
 } lease_table;

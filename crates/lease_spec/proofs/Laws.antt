@@ -47,12 +47,12 @@ older-in (b ∷ before) after r older x (inl e) = (b, inl refl, ap (λ (y : Row)
 older-in (b ∷ before) after r older x (inr i) = let w = older-in before after r older x i in (w .0, inr (w .1), w .2)
 
 -- `OlderRows`
-pub rowWithSyncs : OlderRows
-rowWithSyncs [] after r older a h = (older-allowed r older (a .0) h, a .1, a .2)
-rowWithSyncs (b ∷ before) after r older a h = (
+pub older-rows : OlderRows
+older-rows [] after r older a h = (older-allowed r older (a .0) h, a .1, a .2)
+older-rows (b ∷ before) after r older a h = (
   a .0,
   λ x i e. let w = older-in before after r older x i in a .1 (w .0) (w .1) (w .2 ∙ e),
-  rowWithSyncs before after r older (a .2) h,
+  older-rows before after r older (a .2) h,
 )
 
 -- ---- a lease that is found

@@ -16,7 +16,7 @@ use Rattle.lease_spec.specs.declared.Lease.{Lease}
 use Rattle.lease_spec.specs.Table.{Row, leaseUnder, tableBytes}
 use Rattle.lease_spec.specs.Promises.{activeEnd, staleEnd, withSync, rowWithSync, AreRows}
 use Rattle.lease_spec.proofs.Promises.{rows-back}
-use Rattle.lease_spec.proofs.Laws.{bytes-table, rowWithSyncs}
+use Rattle.lease_spec.proofs.Laws.{bytes-table, older-rows}
 use Rattle.steps.specs.Order.{Step, orElse, inOrder, AllPass}
 use Rattle.steps.proofs.Laws.{order-append, passed-end}
 use Rattle.request_spec.specs.declared.DecisionNumbers.{DecisionNumbers}
@@ -156,6 +156,6 @@ older-sync-refused s q before after r older b a h f =
     let x = all-stored s (q .id) b in
     let one : List Row = before ++ (r ∷ after) in
     let two : List Row = before ++ (rowWithSync r older ∷ after) in
-    subst StaleOrExpired (sym (answer-rows s q (x .0) two (x .1) (rowWithSyncs before after r older a h)))
+    subst StaleOrExpired (sym (answer-rows s q (x .0) two (x .1) (older-rows before after r older a h)))
     (older-answers q (x .0) (formedBefore q && leb (q .clock .0) (2 ^ 53)) (leaseUnder one (q .id)) (leaseUnder two (q .id)) (r .lease)
     older h (under-older before after r older (q .id)) (subst StaleOrExpired (answer-rows s q (x .0) one (x .1) a) f))

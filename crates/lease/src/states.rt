@@ -6,7 +6,6 @@ use lease_spec::sizes::LENGTH_END;
 use lease_spec::sizes::LONGEST_SKEW;
 use time::Margin;
 use time::Milliseconds;
-use time::Seconds;
 ghost use mathlib.Core.Path.{_≡_};
 ghost use mathlib.Core.Bool.{true};
 ghost use Rattle.time.specs.Time.{milliseconds};
@@ -21,19 +20,19 @@ pub(crate) fn is_within(lease: Lease) -> bool
     let grace = lease.grace;
     let skew = lease.skew;
     let tolerance = lease.tolerance;
-    if Milliseconds(LATEST).is_before(last_sync) {
+    if LATEST.is_before(last_sync) {
         return false;
     }
-    if !ttl.is_before(Seconds(LENGTH_END)) {
+    if !ttl.is_before(LENGTH_END) {
         return false;
     }
-    if !grace.is_before(Seconds(LENGTH_END)) {
+    if !grace.is_before(LENGTH_END) {
         return false;
     }
-    if Milliseconds(LONGEST_SKEW).is_before(skew) {
+    if LONGEST_SKEW.is_before(skew) {
         return false;
     }
-    !Milliseconds(LONGEST_SKEW).is_before(tolerance)
+    !LONGEST_SKEW.is_before(tolerance)
 }
 
 // Whether the last sync lies too far after the clock.
@@ -105,7 +104,7 @@ pub(crate) fn state(lease: Lease, clock: Milliseconds) -> LeaseState
     if !is_within(lease) {
         return LeaseState::Outside;
     }
-    if Milliseconds(LATEST).is_before(clock) {
+    if LATEST.is_before(clock) {
         return LeaseState::Outside;
     }
     state_within(lease, clock)

@@ -1,4 +1,6 @@
 // The sizes and places of a row of the lease table in bytes, and the limits of its numbers, each named once.
+use time::Milliseconds;
+use time::Seconds;
 
 // The bytes of a row: id (16), flag (1), zero (7), then five numbers of 8.
 pub const LEASE_SIZE: usize = 64;
@@ -26,11 +28,11 @@ pub const TOLERANCE_PLACE: usize = 56;
 
 pub const NUMBER_WIDTH: usize = 8;
 
-// The latest moment that a last sync or the clock may have, in milliseconds: 2^53.
-pub const LATEST: u64 = 9007199254740992;
+// The latest moment that a last sync or the clock may have: 2^53.
+pub const LATEST: Milliseconds = Milliseconds(9007199254740992);
 
-// What a ttl or a grace is below, in seconds: 2^32.
-pub const LENGTH_END: u64 = 4294967296;
+// What a ttl or a grace is below: 2^32.
+pub const LENGTH_END: Seconds = Seconds(4294967296);
 
-// The most that a skew or a tolerance may be, in milliseconds: one day.
-pub const LONGEST_SKEW: u64 = 86400000;
+// The most that a skew or a tolerance may be: one day.
+pub const LONGEST_SKEW: Milliseconds = Milliseconds(86400000);

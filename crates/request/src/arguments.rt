@@ -5,7 +5,6 @@ use descriptor_spec::sizes::ID_SIZE;
 use lease::LeaseFound;
 use lease_spec::sizes::LATEST;
 use revocation_spec::sizes::REVOCATION_SIZE;
-use time::Milliseconds;
 ghost use mathlib.Core.Path.{_≡_};
 ghost use mathlib.Core.List.{[]};
 ghost use Rattle.request_spec.specs.Request.{requestOf, argumentsOk};
@@ -65,7 +64,7 @@ pub(crate) fn check(
         return LeaseFound::Malformed;
     }
     let clock = environment.clock;
-    if Milliseconds(LATEST).is_before(clock) {
+    if LATEST.is_before(clock) {
         return LeaseFound::Malformed;
     }
     lease::find(leases, id)

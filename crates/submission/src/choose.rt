@@ -33,14 +33,14 @@ pub(crate) enum Admission {
     Admitted,
 }
 
-// How far ahead a descriptor may begin: one day, in seconds.
-const LONGEST_LEAD: u64 = 86400;
+// How far ahead a descriptor may begin: one day.
+const LONGEST_LEAD: Seconds = Seconds(86400);
 
 // The beginning, the issuer, the key and the signature of a body that reads.
 fn admit(not_before: Seconds, clock: Seconds, verdict: u64, window: Window) -> Admission
     ensures { λ r. ⌜ r ≡ admitted («not_before» .0) (clock .0) verdict window ⌝ }
 {
-    let latest = clock.plus_at_most(Seconds(LONGEST_LEAD), not_before);
+    let latest = clock.plus_at_most(LONGEST_LEAD, not_before);
     if latest.is_before(not_before) {
         return Admission::Refused(Submission::Validity);
     }

@@ -6,15 +6,15 @@ use native.Mathlib.Omega.{arith}
 use lib.IntN.{ℤ, pos, _-ℤ_}
 use lib.Dec.{leb, ltb}
 use mir.Syntax.{w64}
-use mir.Val.{Fits, SFits, toZ, ofZ}
+use mir.Val.{SFits, toZ, ofZ}
 use mir.ValLaws.{toZ-ofZ}
 use borrow.Author.Tests.{not-true, not-false, ltb-true, ltb-false, leb-true, le-leb, lt-leb}
 use Rattle.octets.proofs.Tests.{by-cond}
 use Rattle.time.specs.declared.Margin.{Margin}
 use Rattle.time.specs.declared.Seconds.{Seconds}
 use Rattle.time.specs.declared.Milliseconds.{Milliseconds}
-use Rattle.time.specs.Time.{milliseconds, perSecond, inMilliseconds}
-use Rattle.time.proofs.Promises.{small-scaled}
+use Rattle.time.specs.Time.{milliseconds, perSecond, inMilliseconds, sumHeld}
+use Rattle.time.proofs.Promises.{small-scaled, sum-exactly}
 use Rattle.lease_spec.proofs.Laws.{tests-within}
 use Rattle.lease_spec.specs.declared.Lease.{Lease}
 use Rattle.lease_spec.specs.declared.LeaseState.{LeaseState}
@@ -87,46 +87,51 @@ clock-limit n e = leb-true n latest e
 
 -- ---- the moments at which the state changes
 
--- the clock and the skew have a sum
-pub clock-sum : (l : Lease) (n : ℕ) → leaseOk l ≡ true → clockOk n ≡ true → Fits w64 (n + l .skew .0)
-clock-sum l n ok at = omega (arith, tests-within l ok, clock-limit n at)
+-- milliseconds whose sum is below 2^64 have that sum
+added : (t more : Milliseconds) {r : Milliseconds} → r ≡ sumHeld t more → t .0 + more .0 < 2 ^ 64 → r .0 ≡ t .0 + more .0
+added t more e h = ap (λ (x : Milliseconds). x .0) e ∙ sum-exactly t more .0 h
+
+-- a last sync after the clock with the skew is too far after the clock
+pub future-is : (l : Lease) (n : Milliseconds) → leaseOk l ≡ true → clockOk (n .0) ≡ true → {r : Milliseconds} → r ≡ sumHeld n (l .skew)
+    → {t : Bool} → t ≡ ltb (r .0) (l .«last_sync» .0) → t ≡ isFuture l (n .0)
+unfolding isFuture
+future-is l n ok at er et =
+    et ∙ ap (λ (k : ℕ). ltb k (l .«last_sync» .0)) (added n (l .skew) er (omega (arith, tests-within l ok, clock-limit (n .0) at)))
 
 -- a length of time below 2^32 s has 1,000 times as many milliseconds
 scaled : (s : Seconds) (t : Milliseconds) → s .0 < 2 ^ 32 → t ≡ inMilliseconds s → t .0 ≡ s .0 * perSecond
 scaled s t h e = let f : t .0 ≡ inMilliseconds s .0 = ap (λ (x : Milliseconds). x .0) e in omega (arith, small-scaled s h)
 
-module _ (l : Lease) (ok : leaseOk l ≡ true) {t : Milliseconds} (et : t ≡ inMilliseconds (l .ttl)) where
-  -- the last sync and the ttl have a sum
-  pub sync-sum : Fits w64 (l .«last_sync» .0 + t .0)
-  sync-sum = omega (arith, tests-within l ok, scaled (l .ttl) t (tests-within l ok .ttl) et)
+module _ (l : Lease) (ok : leaseOk l ≡ true) {t : Milliseconds} (et : t ≡ inMilliseconds (l .ttl)) {p : Milliseconds}
+    (ep : p ≡ sumHeld (l .«last_sync») t) where
+  -- the last sync and the ttl are added
+  sync-sum : p .0 ≡ l .«last_sync» .0 + l .ttl .0 * perSecond
+  sync-sum =
+      let f = scaled (l .ttl) t (tests-within l ok .ttl) et in
+      let g = added (l .«last_sync») t ep (omega (arith, tests-within l ok, f)) in
+      omega (arith, f, g)
 
-  -- so have these two and the tolerance
-  pub active-sum : Fits w64 (l .«last_sync» .0 + t .0 + l .tolerance .0)
-  active-sum = omega (arith, tests-within l ok, scaled (l .ttl) t (tests-within l ok .ttl) et)
-
-  -- their sum is the last active millisecond
-  pub active-is : milliseconds (l .«last_sync» .0 + t .0 + l .tolerance .0) ≡ milliseconds (lastActive l)
+  -- with the tolerance they are the last active millisecond
+  pub active-is : {q : Milliseconds} → q ≡ sumHeld p (l .tolerance) → q ≡ milliseconds (lastActive l)
   unfolding lastActive
-  active-is =
-      ap (λ (n : ℕ). milliseconds (l .«last_sync» .0 + n + l .tolerance .0)) (scaled (l .ttl) t (tests-within l ok .ttl) et)
+  active-is eq =
+      let f = added p (l .tolerance) eq (omega (arith, tests-within l ok, sync-sum)) in
+      ap milliseconds (omega (arith, sync-sum, f))
 
-  module _ {g : Milliseconds} (eg : g ≡ inMilliseconds (l .grace)) where
-    -- the last sync, the ttl and the grace have a sum
-    pub grace-sum : Fits w64 (l .«last_sync» .0 + t .0 + g .0)
+  module _ {g : Milliseconds} (eg : g ≡ inMilliseconds (l .grace)) {q : Milliseconds} (eq : q ≡ sumHeld p g) where
+    -- the grace is added to them
+    grace-sum : q .0 ≡ l .«last_sync» .0 + l .ttl .0 * perSecond + l .grace .0 * perSecond
     grace-sum =
-        omega (arith, tests-within l ok, scaled (l .ttl) t (tests-within l ok .ttl) et, scaled (l .grace) g (tests-within l ok .grace) eg)
+        let f = scaled (l .grace) g (tests-within l ok .grace) eg in
+        let h = added p g eq (omega (arith, tests-within l ok, sync-sum, f)) in
+        omega (arith, sync-sum, f, h)
 
-    -- so have these three and the tolerance
-    pub stale-sum : Fits w64 (l .«last_sync» .0 + t .0 + g .0 + l .tolerance .0)
-    stale-sum =
-        omega (arith, tests-within l ok, scaled (l .ttl) t (tests-within l ok .ttl) et, scaled (l .grace) g (tests-within l ok .grace) eg)
-
-    -- their sum is the last stale millisecond
-    pub stale-is : milliseconds (l .«last_sync» .0 + t .0 + g .0 + l .tolerance .0) ≡ milliseconds (lastStale l)
+    -- with the tolerance these three are the last stale millisecond
+    pub stale-is : {r : Milliseconds} → r ≡ sumHeld q (l .tolerance) → r ≡ milliseconds (lastStale l)
     unfolding lastStale
-    stale-is =
-        ap₂ (λ (m n : ℕ). milliseconds (l .«last_sync» .0 + m + n + l .tolerance .0)) (scaled (l .ttl) t (tests-within l ok .ttl) et)
-        (scaled (l .grace) g (tests-within l ok .grace) eg)
+    stale-is er =
+        let f = added q (l .tolerance) er (omega (arith, tests-within l ok, grace-sum)) in
+        ap milliseconds (omega (arith, grace-sum, f))
 
 -- ---- the margin
 

@@ -1,4 +1,4 @@
-// The state of a lease. Within the limits no sum is more than 2^54, so nothing here wraps.
+// The state of a lease. Within the limits no sum is more than 2^54, so that each is exact.
 use crate::Lease;
 use crate::LeaseState;
 use lease_spec::sizes::LATEST;
@@ -42,7 +42,7 @@ fn is_future(lease: Lease, clock: Milliseconds) -> bool
 {
     let last_sync = lease.last_sync;
     let skew = lease.skew;
-    Milliseconds(clock.0 + skew.0).is_before(last_sync)
+    clock.plus(skew).is_before(last_sync)
 }
 
 // The last active millisecond.
@@ -53,7 +53,7 @@ fn last_active(lease: Lease) -> Milliseconds
     let last_sync = lease.last_sync;
     let ttl = lease.ttl.to_milliseconds();
     let tolerance = lease.tolerance;
-    Milliseconds(last_sync.0 + ttl.0 + tolerance.0)
+    last_sync.plus(ttl).plus(tolerance)
 }
 
 // The last stale millisecond.
@@ -65,7 +65,7 @@ fn last_stale(lease: Lease) -> Milliseconds
     let ttl = lease.ttl.to_milliseconds();
     let grace = lease.grace.to_milliseconds();
     let tolerance = lease.tolerance;
-    Milliseconds(last_sync.0 + ttl.0 + grace.0 + tolerance.0)
+    last_sync.plus(ttl).plus(grace).plus(tolerance)
 }
 
 // How long it is from the clock to the last active millisecond.

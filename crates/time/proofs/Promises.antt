@@ -1,5 +1,5 @@
 -- The promises of specs/Promises.antt, each by its law. Assumes nothing.
-use Rattle.time.specs.Promises.{RoundedDown, ScaledExactly, SmallScaled, ThereAndBack}
+use Rattle.time.specs.Promises.{RoundedDown, ScaledExactly, SmallScaled, ThereAndBack, CutExactly, SumExactly}
 use Rattle.time.proofs.TimeLaws as laws
 
 pub rounded-down : RoundedDown
@@ -13,3 +13,9 @@ small-scaled = laws.small-scaled
 
 pub there-and-back : ThereAndBack
 there-and-back = laws.there-and-back
+
+pub cut-exactly : CutExactly
+cut-exactly = laws.cut-exactly
+
+pub sum-exactly : SumExactly
+sum-exactly = laws.sum-exactly

@@ -30,3 +30,7 @@ inMilliseconds t = milliseconds (min (t .0 * perSecond) mostHeld)
 -- the smaller of an end and a sum
 unfoldable pub plusAtMost : Seconds → Seconds → Seconds → Seconds
 plusAtMost t more end = seconds (min (end .0) (t .0 + more .0))
+
+-- the sum of two numbers of milliseconds, or the most that 64 bits hold where that is less
+unfoldable pub sumHeld : Milliseconds → Milliseconds → Milliseconds
+sumHeld t more = milliseconds (min (t .0 + more .0) mostHeld)

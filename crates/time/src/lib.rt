@@ -2,7 +2,7 @@
 // specs/Promises.antt.
 ghost use mathlib.Core.Path.{_≡_};
 ghost use lib.Dec.{ltb};
-ghost use Rattle.time.specs.Time.{wholeSeconds, inMilliseconds, plusAtMost};
+ghost use Rattle.time.specs.Time.{wholeSeconds, inMilliseconds, plusAtMost, sumHeld};
 
 // A number of seconds: a moment, counted from 1970, or a length of time.
 pub struct Seconds(pub u64);
@@ -60,6 +60,16 @@ impl Milliseconds {
         ensures { λ r. ⌜ r ≡ ltb (self .0) (other .0) ⌝ }
     {
         self.0 < other.0
+    }
+
+    // The sum, or the most that 64 bits hold where it is more.
+    pub fn plus(self, more: Milliseconds) -> Milliseconds
+        ensures { λ r. ⌜ r ≡ sumHeld self more ⌝ }
+    {
+        if MOST - self.0 < more.0 {
+            return Milliseconds(MOST);
+        }
+        Milliseconds(self.0 + more.0)
     }
 
     // The whole seconds, rounded down.

@@ -1,20 +1,16 @@
 -- Laws of the state of a lease (specs/Lease.antt of `lease_spec`), in the code's own form. Assumes nothing.
-use mathlib.Core.Path.{_≡_, refl, sym, ap, ap₂, _∙_, subst}
+use mathlib.Core.Path.{_≡_, refl, sym, ap, _∙_}
 use mathlib.Core.Bool.{Bool, true, false, not}
-use Prim.Native.Nat.{ℕ, zero, suc, _+_, _*_, _^_, _≤_, _<_}
+use Prim.Native.Nat.{ℕ, _+_, _*_, _^_, _≤_, _<_}
 use native.Mathlib.Omega.{arith}
 use lib.IntN.{ℤ, pos, _-ℤ_}
 use lib.Dec.{leb, ltb}
-use mir.Syntax.{w64}
-use mir.Val.{SFits, toZ, ofZ}
-use mir.ValLaws.{toZ-ofZ}
 use borrow.Author.Tests.{not-true, not-false, ltb-true, ltb-false, leb-true, le-leb, lt-leb}
-use Rattle.octets.proofs.Tests.{by-cond}
 use Rattle.time.specs.declared.Margin.{Margin}
 use Rattle.time.specs.declared.Seconds.{Seconds}
 use Rattle.time.specs.declared.Milliseconds.{Milliseconds}
-use Rattle.time.specs.Time.{milliseconds, perSecond, inMilliseconds, sumHeld}
-use Rattle.time.proofs.Promises.{small-scaled, sum-exactly}
+use Rattle.time.specs.Time.{milliseconds, perSecond, inMilliseconds, sumHeld, marginBetween}
+use Rattle.time.proofs.Promises.{small-scaled, sum-exactly, until-exactly}
 use Rattle.lease_spec.proofs.Laws.{tests-within}
 use Rattle.lease_spec.specs.declared.Lease.{Lease}
 use Rattle.lease_spec.specs.declared.LeaseState.{LeaseState}
@@ -135,59 +131,20 @@ module _ (l : Lease) (ok : leaseOk l ≡ true) {t : Milliseconds} (et : t ≡ in
 
 -- ---- the margin
 
--- a number below 2^62 is a signed one of 64 bits
-pos-fits : (n : ℕ) → n < 2 ^ 62 → SFits w64 (pos n)
-pos-fits n h = record { sfits = omega arith }
-
--- so is the difference of two
-apart-fits : (a b : ℕ) → a < 2 ^ 62 → b < 2 ^ 62 → SFits w64 (pos a -ℤ pos b)
-apart-fits a zero h k = record { sfits = omega arith }
-apart-fits a (suc b) h k =
-    by-cond (SFits w64) (ltb a (suc b)) (λ e. record { sfits = omega arith }) (λ e. record { sfits = omega arith })
-
--- the number of 64 bits is read back as that number
-read-back : (n : ℕ) → n < 2 ^ 62 → toZ w64 n ≡ pos n
-read-back n h = toZ-ofZ w64 (pos n) (pos-fits n h)
-
--- what is subtracted are the two numbers
-apart-is : (a b : ℕ) → a < 2 ^ 62 → b < 2 ^ 62 → toZ w64 a -ℤ toZ w64 b ≡ pos a -ℤ pos b
-apart-is a b h k = ap₂ (λ (x y : ℤ). x -ℤ y) (read-back a h) (read-back b k)
-
 -- a margin of so many milliseconds
-abbrev pub marginOfNumber : ℤ → Margin
+abbrev marginOfNumber : ℤ → Margin
 marginOfNumber z = record { 0 = z }
 
-module _ (l : Lease) (n : ℕ) (end : Milliseconds) (ok : leaseOk l ≡ true) (at : clockOk n ≡ true)
-    (e : end ≡ milliseconds (lastActive l)) where
-  -- the last active millisecond is below 2^62
-  end-small : end .0 < 2 ^ 62
-  unfolding lastActive
-  end-small = let f : end .0 ≡ lastActive l = ap (λ (x : Milliseconds). x .0) e in omega (arith, tests-within l ok)
-
-  -- so is the clock
-  clock-small : n < 2 ^ 62
-  clock-small = omega (arith, clock-limit n at)
-
-  -- the last active millisecond is a signed number of 64 bits
-  pub end-fits : SFits w64 (pos (end .0))
-  end-fits = pos-fits (end .0) end-small
-
-  -- so is the clock
-  pub clock-fits : SFits w64 (pos n)
-  clock-fits = pos-fits n clock-small
-
-  -- and their difference
-  pub margin-fits : SFits w64 (toZ w64 (end .0) -ℤ toZ w64 n)
-  margin-fits = subst (SFits w64) (sym (apart-is (end .0) n end-small clock-small)) (apart-fits (end .0) n end-small clock-small)
-
-  -- which is the margin
-  pub margin-is : marginOfNumber (toZ w64 (ofZ w64 (toZ w64 (end .0) -ℤ toZ w64 n))) ≡ marginOf l n
-  unfolding marginOf
-  margin-is =
-      ap marginOfNumber
-      (toZ-ofZ w64 (toZ w64 (end .0) -ℤ toZ w64 n) margin-fits
-      ∙ apart-is (end .0) n end-small clock-small
-      ∙ ap (λ (x : Milliseconds). pos (x .0) -ℤ pos n) e)
+-- how long it is from the clock to the last active millisecond is the margin
+pub margin-is : (l : Lease) (n : Milliseconds) → leaseOk l ≡ true → clockOk (n .0) ≡ true → {end : Milliseconds}
+    → end ≡ milliseconds (lastActive l) → {m : Margin} → m ≡ marginBetween n end → m ≡ marginOf l (n .0)
+unfolding marginOf lastActive
+margin-is l n ok at {end} ee {m} em =
+    let f : end .0 ≡ lastActive l = ap (λ (x : Milliseconds). x .0) ee in
+    em
+    ∙ ap marginOfNumber
+    (until-exactly n end .0 (omega (arith, tests-within l ok)) (omega (arith, clock-limit (n .0) at))
+    ∙ ap (λ (k : ℕ). pos k -ℤ pos (n .0)) f)
 
 -- ---- the state
 

@@ -4,12 +4,11 @@ use crate::LeaseState;
 use lease_spec::sizes::LATEST;
 use lease_spec::sizes::LENGTH_END;
 use lease_spec::sizes::LONGEST_SKEW;
-use time::Margin;
 use time::Milliseconds;
 ghost use mathlib.Core.Path.{_≡_};
 ghost use mathlib.Core.Bool.{true};
 ghost use Rattle.time.specs.Time.{milliseconds};
-ghost use Rattle.lease_spec.specs.Lease.{leaseOk, clockOk, lastActive, lastStale, isFuture, marginOf, stateWithin, stateOf};
+ghost use Rattle.lease_spec.specs.Lease.{leaseOk, clockOk, lastActive, lastStale, isFuture, stateWithin, stateOf};
 
 // Whether the numbers of the lease are within the limits.
 pub(crate) fn is_within(lease: Lease) -> bool
@@ -68,14 +67,6 @@ fn last_stale(lease: Lease) -> Milliseconds
     last_sync.plus(ttl).plus(grace).plus(tolerance)
 }
 
-// How long it is from the clock to the last active millisecond.
-fn margin(lease: Lease, end: Milliseconds, clock: Milliseconds) -> Margin
-    requires { ⌜ (leaseOk lease ≡ true) × (clockOk (clock .0) ≡ true) × (end ≡ milliseconds (lastActive lease)) ⌝ }
-    ensures { λ r. ⌜ r ≡ marginOf lease (clock .0) ⌝ }
-{
-    Margin(end.0 as i64 - clock.0 as i64)
-}
-
 // The state of a lease within the limits, at a clock within its limit.
 fn state_within(lease: Lease, clock: Milliseconds) -> LeaseState
     requires { ⌜ (leaseOk lease ≡ true) × (clockOk (clock .0) ≡ true) ⌝ }
@@ -89,10 +80,10 @@ fn state_within(lease: Lease, clock: Milliseconds) -> LeaseState
     }
     let end = last_active(lease);
     if !end.is_before(clock) {
-        return LeaseState::Active(margin(lease, end, clock));
+        return LeaseState::Active(clock.until(end));
     }
     if !last_stale(lease).is_before(clock) {
-        return LeaseState::Stale(margin(lease, end, clock));
+        return LeaseState::Stale(clock.until(end));
     }
     LeaseState::Expired
 }

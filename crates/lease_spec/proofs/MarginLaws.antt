@@ -1,63 +1,55 @@
 -- The difference of two numbers as a signed number, by its two cases, and the margin of a lease (specs/Lease.antt). Assumes nothing.
 use mathlib.Core.Path.{_≡_, sym, ap, _∙_}
 use mathlib.Core.Logic.{_↔_}
-use Prim.Native.Nat.{ℕ, zero, suc, _+_, _-_, _^_, _≤_, _<_}
+use Prim.Native.Nat.{ℕ, suc, _+_, _^_, _≤_, _<_}
 use native.Mathlib.Omega.{arith}
-use lib.Dec.{ltb, leb→le, le→leb, ltb→lt, lt→ltb}
+use lib.Dec.{leb→le, le→leb, ltb→lt, lt→ltb}
 use lib.IntN.{ℤ, pos, negsuc, _+ℤ_, _-ℤ_, pos-ne-negsuc, -ℤ-+ℤ-cancel}
 use lib.Signed.{_≤ℤ_, _<ℤ_, leZ-yes, ltZ-yes, mag}
-use borrow.Author.Tests.{ltb-true, ltb-false}
-use Rattle.octets.proofs.Tests.{by-cond}
+use Rattle.time.proofs.Laws.{difference-by}
 use Rattle.lease_spec.specs.declared.Lease.{Lease}
 use Rattle.lease_spec.specs.Lease.{lastActive, lastStale, marginOf}
 use Rattle.lease_spec.specs.Promises.{activeEnd, staleEnd, MarginExact, MarginSign, MarginFits}
 
 -- ---- the difference of two numbers
 
--- what holds of a − b: a is k more than b, or b is k + 1 more than a
-sub-by : (P : ℤ → Type 0) (a b : ℕ) → ((k : ℕ) → a ≡ b + k → P (pos k)) → ((k : ℕ) → b ≡ a + suc k → P (negsuc k)) → P (pos a -ℤ pos b)
-sub-by P a zero more less = more (a + zero) (omega arith)
-sub-by P a (suc b) more less = by-cond P (ltb a (suc b))
-    (λ e. less (suc b - suc a) (omega (arith, ltb-true a (suc b) e)))
-    (λ e. more (a - suc b) (omega (arith, ltb-false a (suc b) e)))
-
 -- a number is below a difference
 pub below-sub : (n a b : ℕ) → (pos n <ℤ (pos a -ℤ pos b)) ↔ (n + b < a)
-below-sub n a b = sub-by (λ z. (pos n <ℤ z) ↔ (n + b < a)) a b
+below-sub n a b = difference-by (λ z. (pos n <ℤ z) ↔ (n + b < a)) a b
     (λ k e. (λ h. omega (arith, ltb→lt n k (h .lt)), λ h. ltZ-yes (lt→ltb n k (omega arith))))
     (λ k e. (λ h. absurd (h .lt), λ h. absurd (omega arith)))
 
 -- a difference is at most a number
 pub sub-most : (a b n : ℕ) → ((pos a -ℤ pos b) ≤ℤ pos n) ↔ (a ≤ n + b)
-sub-most a b n = sub-by (λ z. (z ≤ℤ pos n) ↔ (a ≤ n + b)) a b
+sub-most a b n = difference-by (λ z. (z ≤ℤ pos n) ↔ (a ≤ n + b)) a b
     (λ k e. (λ h. omega (arith, leb→le k n (h .le)), λ h. leZ-yes (le→leb k n (omega arith))))
     (λ k e. (λ h. omega arith, λ h. leZ-yes tt))
 
 -- a difference is not below zero
 zero-sub : (a b : ℕ) → (pos 0 ≤ℤ (pos a -ℤ pos b)) ↔ (b ≤ a)
-zero-sub a b = sub-by (λ z. (pos 0 ≤ℤ z) ↔ (b ≤ a)) a b
+zero-sub a b = difference-by (λ z. (pos 0 ≤ℤ z) ↔ (b ≤ a)) a b
     (λ k e. (λ h. omega arith, λ h. leZ-yes (le→leb 0 k (omega arith))))
     (λ k e. (λ h. absurd (h .le), λ h. absurd (omega arith)))
 
 -- a difference is below zero
 sub-negative : (a b : ℕ) → ((pos a -ℤ pos b) <ℤ pos 0) ↔ (a < b)
-sub-negative a b = sub-by (λ z. (z <ℤ pos 0) ↔ (a < b)) a b
+sub-negative a b = difference-by (λ z. (z <ℤ pos 0) ↔ (a < b)) a b
     (λ k e. (λ h. absurd (omega (arith, ltb→lt k 0 (h .lt))), λ h. absurd (omega arith)))
     (λ k e. (λ h. omega arith, λ h. ltZ-yes tt))
 
 -- a difference is zero
 sub-zero : (a b : ℕ) → (pos a -ℤ pos b ≡ pos 0) ↔ (b ≡ a)
-sub-zero a b = sub-by (λ z. (z ≡ pos 0) ↔ (b ≡ a)) a b
+sub-zero a b = difference-by (λ z. (z ≡ pos 0) ↔ (b ≡ a)) a b
     (λ k e. (λ h. omega (arith, ap mag h), λ h. ap pos (omega arith)))
     (λ k e. (λ h. absurd (pos-ne-negsuc 0 k (sym h)), λ h. absurd (omega arith)))
 
 -- a difference is not below −(m + 1)
 above-negsuc : (a b m : ℕ) → b ≤ a + suc m → negsuc m ≤ℤ (pos a -ℤ pos b)
-above-negsuc a b m h = sub-by (λ z. negsuc m ≤ℤ z) a b (λ k e. leZ-yes tt) (λ k e. leZ-yes (le→leb k m (omega arith)))
+above-negsuc a b m h = difference-by (λ z. negsuc m ≤ℤ z) a b (λ k e. leZ-yes tt) (λ k e. leZ-yes (le→leb k m (omega arith)))
 
 -- a difference is below a number
 sub-below : (a b n : ℕ) → a < n + b → (pos a -ℤ pos b) <ℤ pos n
-sub-below a b n h = sub-by (λ z. z <ℤ pos n) a b (λ k e. ltZ-yes (lt→ltb k n (omega arith))) (λ k e. ltZ-yes tt)
+sub-below a b n h = difference-by (λ z. z <ℤ pos n) a b (λ k e. ltZ-yes (lt→ltb k n (omega arith))) (λ k e. ltZ-yes tt)
 
 -- ---- the margin
 

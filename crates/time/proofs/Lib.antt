@@ -1,3 +1,4 @@
 pub mod TimeLaws
+pub mod UntilLaws
 pub mod Promises
 pub mod Laws

@@ -1,6 +1,7 @@
 -- The promises of specs/Promises.antt, each by its law. Assumes nothing.
-use Rattle.time.specs.Promises.{RoundedDown, ScaledExactly, SmallScaled, ThereAndBack, CutExactly, SumExactly}
+use Rattle.time.specs.Promises.{RoundedDown, ScaledExactly, SmallScaled, ThereAndBack, CutExactly, SumExactly, UntilExactly}
 use Rattle.time.proofs.TimeLaws as laws
+use Rattle.time.proofs.UntilLaws as until
 
 pub rounded-down : RoundedDown
 rounded-down = laws.rounded-down
@@ -19,3 +20,6 @@ cut-exactly = laws.cut-exactly
 
 pub sum-exactly : SumExactly
 sum-exactly = laws.sum-exactly
+
+pub until-exactly : UntilExactly
+until-exactly = until.until-exactly

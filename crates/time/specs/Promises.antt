@@ -1,9 +1,10 @@
 -- What is promised of units of time, and nothing else. Each statement `NameOfIt` is proved in proofs/Promises.antt as `name-of-it`.
 use mathlib.Core.Path.{_≡_}
 use Prim.Native.Nat.{_+_, _*_, _≤_, _<_, _^_, min}
+use lib.IntN.{pos, _-ℤ_}
 use Rattle.time.specs.declared.Seconds.{Seconds}
 use Rattle.time.specs.declared.Milliseconds.{Milliseconds}
-use Rattle.time.specs.Time.{wholeSeconds, inMilliseconds, plusAtMost, sumHeld}
+use Rattle.time.specs.Time.{wholeSeconds, inMilliseconds, plusAtMost, sumHeld, marginBetween}
 
 -- 1,000 times the whole seconds are not more than the milliseconds, and with one second more they would be
 abbrev pub RoundedDown : Type 0
@@ -30,3 +31,10 @@ CutExactly = (t more end : Seconds) → plusAtMost t more end .0 ≡ min (end .0
 abbrev pub SumExactly : Type 0
 SumExactly = (t more : Milliseconds) → (t .0 + more .0 < 2 ^ 64 → sumHeld t more .0 ≡ t .0 + more .0)
     × (2 ^ 64 ≤ t .0 + more .0 → sumHeld t more .0 + 1 ≡ 2 ^ 64)
+
+-- how long it is from a moment to an end is their difference, where that is below 2^63 either way; else it is 2^63 − 1 that way
+abbrev pub UntilExactly : Type 0
+UntilExactly = (t end : Milliseconds)
+    → (end .0 < t .0 + 2 ^ 63 → t .0 < end .0 + 2 ^ 63 → marginBetween t end .0 ≡ pos (end .0) -ℤ pos (t .0))
+    × (t .0 + 2 ^ 63 ≤ end .0 → marginBetween t end .0 ≡ pos 9223372036854775807)
+    × (end .0 + 2 ^ 63 ≤ t .0 → marginBetween t end .0 ≡ pos 0 -ℤ pos 9223372036854775807)

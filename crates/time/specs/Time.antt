@@ -1,7 +1,9 @@
 -- Units of time and what leads from one to the other. Document 02, §4: milliseconds and seconds must not be mixable by accident.
-use Prim.Native.Nat.{ℕ, _+_, _*_, _/_, min}
+use Prim.Native.Nat.{ℕ, _+_, _-_, _*_, _/_, min}
+use lib.IntN.{pos, _-ℤ_}
 use Rattle.time.specs.declared.Seconds.{Seconds}
 use Rattle.time.specs.declared.Milliseconds.{Milliseconds}
+use Rattle.time.specs.declared.Margin.{Margin}
 
 -- so many seconds
 abbrev pub seconds : ℕ → Seconds
@@ -34,3 +36,12 @@ plusAtMost t more end = seconds (min (end .0) (t .0 + more .0))
 -- the sum of two numbers of milliseconds, or the most that 64 bits hold where that is less
 unfoldable pub sumHeld : Milliseconds → Milliseconds → Milliseconds
 sumHeld t more = milliseconds (min (t .0 + more .0) mostHeld)
+
+-- the most that a margin has, either way: 2^63 − 1
+abbrev pub mostMargin : ℕ
+mostMargin = 9223372036854775807
+
+-- how long it is from a moment to an end, and at most the most either way: how far the end lies ahead less how far it lies back, of which
+-- one is zero
+unfoldable pub marginBetween : Milliseconds → Milliseconds → Margin
+marginBetween t end = record { 0 = pos (min (end .0 - t .0) mostMargin) -ℤ pos (min (t .0 - end .0) mostMargin) }

@@ -1,8 +1,9 @@
 // Units of time, one struct for each, so that seconds and milliseconds cannot be passed for each other. What is promised of them is in
 // specs/Promises.antt.
 ghost use mathlib.Core.Path.{_≡_};
+ghost use Prim.Native.Nat.{min};
 ghost use lib.Dec.{ltb};
-ghost use Rattle.time.specs.Time.{wholeSeconds, inMilliseconds, plusAtMost, sumHeld};
+ghost use Rattle.time.specs.Time.{wholeSeconds, inMilliseconds, plusAtMost, sumHeld, mostMargin, marginBetween};
 
 // A number of seconds: a moment, counted from 1970, or a length of time.
 pub struct Seconds(pub u64);
@@ -21,6 +22,19 @@ const MOST_SECONDS: u64 = 18446744073709551;
 
 // The most that 64 bits hold.
 const MOST: u64 = 18446744073709551615;
+
+// The most that a margin has, either way.
+const MOST_MARGIN: u64 = 9223372036854775807;
+
+// The number, or the most that a margin has where that is less.
+fn margin_held(n: u64) -> u64
+    ensures { λ r. ⌜ r ≡ min n mostMargin ⌝ }
+{
+    if MOST_MARGIN < n {
+        return MOST_MARGIN;
+    }
+    n
+}
 
 impl Seconds {
     // Whether this is before the other.
@@ -70,6 +84,16 @@ impl Milliseconds {
             return Milliseconds(MOST);
         }
         Milliseconds(self.0 + more.0)
+    }
+
+    // How long it is from this moment to the end, below zero where the end has passed, and at most 2^63 − 1 either way.
+    pub fn until(self, end: Milliseconds) -> Margin
+        ensures { λ r. ⌜ r ≡ marginBetween self end ⌝ }
+    {
+        if end.0 < self.0 {
+            return Margin(0 - margin_held(self.0 - end.0) as i64);
+        }
+        Margin(margin_held(end.0 - self.0) as i64)
     }
 
     // The whole seconds, rounded down.

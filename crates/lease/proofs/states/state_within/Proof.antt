@@ -1,6 +1,6 @@
 -- `state_within` meets its contract. Assumes nothing.
 use borrow.Author.Needs.{needs}
-use Rattle.lease.proofs.StateCode.{state-revoked, state-future, state-active, state-stale, state-expired}
+use Rattle.lease.proofs.StateCode.{margin-is, state-revoked, state-future, state-active, state-stale, state-expired}
 use Rattle.lease.proofs.states.state_within.Statement.{statement}
 use Rattle.lease.proofs.states.state_within.Tie as tie
 
@@ -15,8 +15,9 @@ returns-3 c =
     let b = c .before .before in
     let e = b .before .before in
     let f = e .before in
+    let p = f .before .before .pre in
     state-active _ _ (f .before .if1 .left) (f .is-future .ensures) (e .if2 .left) (b .before .last-active .ensures)
-    (b .is-before .ensures) (c .before .if3 .taken) (c .margin .ensures)
+    (b .is-before .ensures) (c .before .if3 .taken) (margin-is _ _ (p .0) (p .1) (b .before .last-active .ensures) (c .until .ensures))
 
 returns-4 : tie.Need-returns-4
 returns-4 c =
@@ -25,9 +26,10 @@ returns-4 c =
     let b = k .before in
     let e = b .before .before in
     let f = e .before in
+    let p = f .before .before .pre in
     state-stale _ _ (f .before .if1 .left) (f .is-future .ensures) (e .if2 .left) (b .before .last-active .ensures)
     (b .is-before .ensures) (k .if3 .left) (b2 .before .last-stale .ensures) (b2 .is-before2 .ensures) (c .before .if4 .taken)
-    (c .margin2 .ensures)
+    (margin-is _ _ (p .0) (p .1) (b .before .last-active .ensures) (c .until2 .ensures))
 
 returns-5 : tie.Need-returns-5
 returns-5 c =

@@ -146,7 +146,12 @@ differ-more : (s : List ℕ) (n i : ℕ) → 0 < i → i ≤ n → idsDiffer (ro
 unfolding idsDiffer rowAt
 differ-more s n i pos h d t e = ap idsDiffer (rows-turn s i n pos h) ∙ rw (e, d) (and-true (not t))
 
--- the low number that is read is that of the id of row i - 1
+-- the high number that is read is that of the id of row i - 1
+high-is : (s : List ℕ) (n i : ℕ) → leaseSize * n ≤ length s → 0 < i → i ≤ n → {h : ℕ}
+    → h ≡ numberIn s (leaseSize * (i - 1)) numberWidth → h ≡ highOf s (i - 1)
+high-is s n i room pos h e = e ∙ number-in s (leaseSize * (i - 1)) numberWidth (omega arith) (omega arith)
+
+-- so is the low number
 low-is : (s : List ℕ) (n i : ℕ) → leaseSize * n ≤ length s → 0 < i → i ≤ n → {l : ℕ}
     → l ≡ numberIn s (leaseSize * (i - 1) + numberWidth) numberWidth → l ≡ lowOf s (i - 1)
 low-is s n i room pos h e = e ∙ number-in s (leaseSize * (i - 1) + numberWidth) numberWidth (omega arith) (omega arith)
@@ -175,14 +180,11 @@ module _ (s : List ℕ) (n i high low : ℕ) (room : leaseSize * n ≤ length s)
     (eh : h ≡ numberIn s (leaseSize * (i - 1)) numberWidth)
     (el : l ≡ numberIn s (leaseSize * (i - 1) + numberWidth) numberWidth) {b : Bool} (eb : b ≡ below h l high low)
     (fb : not b ≡ false) where
-  -- the high number that is read is that of the id of row i - 1
-  high-is : h ≡ highOf s (i - 1)
-  high-is = eh ∙ number-in s (leaseSize * (i - 1)) numberWidth (omega arith) (omega (arith, d .inside))
-
   -- its id is below the two numbers
   below-is : below (highOf s (i - 1)) (lowOf s (i - 1)) high low ≡ true
   below-is =
-      sym (ap₂ (λ (x y : ℕ). below x y high low) high-is (low-is s n i room pos (d .inside) el)) ∙ sym eb ∙ not-false b fb
+      sym (ap₂ (λ (x y : ℕ). below x y high low) (high-is s n i room pos (d .inside) eh) (low-is s n i room pos (d .inside) el))
+      ∙ sym eb ∙ not-false b fb
 
   -- so it is in none of the rows from row i on
   below-absent : hasId (rowsFrom s i (n - i)) (idOf s (i - 1)) ≡ false
@@ -196,7 +198,7 @@ module _ (s : List ℕ) (n i high low : ℕ) (room : leaseSize * n ≤ length s)
   ascends-more = record {
     inside = omega (arith, d .inside);
     differ = differ-more s n i pos (d .inside) (d .differ) false below-absent;
-    least = rw (high-is, low-is s n i room pos (d .inside) el)
+    least = rw (high-is s n i room pos (d .inside) eh, low-is s n i room pos (d .inside) el)
         (from-less (λ (j : ℕ). below (highOf s j) (lowOf s j) (highOf s (i - 1)) (lowOf s (i - 1)) ≡ false) i n
         (below-self (highOf s (i - 1)) (lowOf s (i - 1)))
         (λ j p q. below-less (highOf s (i - 1)) (lowOf s (i - 1)) high low (highOf s j) (lowOf s j) below-is (d .least j p q)));
@@ -208,9 +210,13 @@ module _ (s : List ℕ) (n i high low : ℕ) (room : leaseSize * n ≤ length s)
 abbrev pub slots : ℕ
 slots = 8192
 
--- the slot of row j, by the low number of its id
+-- the slot of an id, by its two numbers
+abbrev pub slotBy : ℕ → ℕ → ℕ
+slotBy high low = (high % slots + low % slots) % slots
+
+-- the slot of row j
 abbrev pub slotOf : List ℕ → ℕ → ℕ
-slotOf s j = lowOf s j % slots
+slotOf s j = slotBy (highOf s j) (lowOf s j)
 
 -- a slot that is marked stays so where a slot is marked
 mark-stays : (seen : List Bool) (k m : ℕ) → k < length seen → getD seen m false ≡ true → getD (set seen k true) m false ≡ true
@@ -240,29 +246,30 @@ marked-begin s n seen e = record {
 pub marked-end : (s : List ℕ) (n i : ℕ) (seen : List Bool) → Marked s n i seen → i ≡ 0 → true ≡ idsDiffer (rowsFrom s 0 n)
 marked-end s n i seen d e = sym (d .differ) ∙ ap idsDiffer (rows-all s i n e)
 
-module _ (s : List ℕ) (n i : ℕ) (seen : List Bool) (room : leaseSize * n ≤ length s) (d : Marked s n i seen) (pos : 0 < i) {l : ℕ}
-    (el : l ≡ numberIn s (leaseSize * (i - 1) + numberWidth) numberWidth) where
+module _ (s : List ℕ) (n i : ℕ) (seen : List Bool) (room : leaseSize * n ≤ length s) (d : Marked s n i seen) (pos : 0 < i) {h l : ℕ}
+    (eh : h ≡ numberIn s (leaseSize * (i - 1)) numberWidth) (el : l ≡ numberIn s (leaseSize * (i - 1) + numberWidth) numberWidth) where
   -- the slot that is looked at is that of row i - 1
-  slot-is : l % slots ≡ slotOf s (i - 1)
-  slot-is = ap (λ (k : ℕ). k % slots) (low-is s n i room pos (d .inside) el)
+  slot-is : slotBy h l ≡ slotOf s (i - 1)
+  slot-is = ap₂ slotBy (high-is s n i room pos (d .inside) eh) (low-is s n i room pos (d .inside) el)
 
   -- with row i - 1, whose slot is marked, the rows still have different ids where its id is in none of them
-  marked-more : hasId (rowsFrom s i (n - i)) (idOf s (i - 1)) ≡ false → Marked s n (i - 1) (set seen (l % slots) true)
+  marked-more : hasId (rowsFrom s i (n - i)) (idOf s (i - 1)) ≡ false → Marked s n (i - 1) (set seen (slotBy h l) true)
   marked-more e = record {
     inside = omega (arith, d .inside);
     size = simp length-set (d .size);
     differ = differ-more s n i pos (d .inside) (d .differ) false e;
-    marked = from-less (λ (j : ℕ). getD (set seen (l % slots) true) (slotOf s j) false ≡ true) i n
-        (ap (λ (k : ℕ). getD (set seen (l % slots) true) k false) (sym slot-is)
-        ∙ getD-set-same seen (l % slots) true false (omega (arith, d .size)))
-        (λ j p q. mark-stays seen (l % slots) (slotOf s j) (omega (arith, d .size)) (d .marked j p q));
+    marked = from-less (λ (j : ℕ). getD (set seen (slotBy h l) true) (slotOf s j) false ≡ true) i n
+        (ap (λ (k : ℕ). getD (set seen (slotBy h l) true) k false) (sym slot-is)
+        ∙ getD-set-same seen (slotBy h l) true false (omega (arith, d .size)))
+        (λ j p q. mark-stays seen (slotBy h l) (slotOf s j) (omega (arith, d .size)) (d .marked j p q));
   }
 
   -- an id whose slot was not marked is in none of the rows from row i on
-  pub marked-fresh : getD seen (l % slots) false ≡ false → Marked s n (i - 1) (set seen (l % slots) true)
+  pub marked-fresh : getD seen (slotBy h l) false ≡ false → Marked s n (i - 1) (set seen (slotBy h l) true)
   marked-fresh e =
       marked-more (id-absent s (idOf s (i - 1)) i (n - i)
-      (λ j p q f. false≢true (sym e ∙ ap (λ (k : ℕ). getD seen k false) (slot-is ∙ ap (λ (k : ℕ). k % slots) (sym (same-low s j (i - 1) f)))
+      (λ j p q f. false≢true (sym e
+      ∙ ap (λ (k : ℕ). getD seen k false) (slot-is ∙ sym (ap₂ slotBy (same-high s j (i - 1) f) (same-low s j (i - 1) f)))
       ∙ d .marked j p (omega (arith, d .inside)))))
 
   module _ {t : Bool}
@@ -282,5 +289,5 @@ module _ (s : List ℕ) (n i : ℕ) (seen : List Bool) (room : leaseSize * n ≤
         sym (differ-back s n (i - 1) (omega (arith, d .inside)) (differ-more s n i pos (d .inside) (d .differ) true (searched ∙ g)))
 
     -- another one is not
-    pub marked-other : t ≡ false → Marked s n (i - 1) (set seen (l % slots) true)
+    pub marked-other : t ≡ false → Marked s n (i - 1) (set seen (slotBy h l) true)
     marked-other g = marked-more (searched ∙ g)

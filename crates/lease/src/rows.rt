@@ -116,8 +116,8 @@ fn ids_ascend(table: &[u8], n: usize) -> bool
     true
 }
 
-// Whether no two of the n rows have one id. A table whose ids ascend is looked at once. In another one each row marks a slot, which the
-// low number of its id tells, and only an id whose slot is marked already is searched for among the rows after it.
+// Whether no two of the n rows have one id. A table whose ids ascend is looked at once. In another one each row marks a slot, which both
+// numbers of its id tell, and only an id whose slot is marked already is searched for among the rows after it.
 fn ids_differ(table: &[u8], n: usize) -> bool
     requires { ⌜ leaseSize * n ≤ length (now table) ⌝ }
     ensures { λ r. ⌜ r ≡ idsDiffer (rowsFrom (now (table .entry)) 0 n) ⌝ }
@@ -130,7 +130,9 @@ fn ids_differ(table: &[u8], n: usize) -> bool
     while 0 < i {
         i -= 1;
         let at = LEASE_SIZE * i;
-        let slot = number_at(table, at + NUMBER_WIDTH, NUMBER_WIDTH) as usize % SLOTS;
+        let high = number_at(table, at, NUMBER_WIDTH) as usize % SLOTS;
+        let low = number_at(table, at + NUMBER_WIDTH, NUMBER_WIDTH) as usize % SLOTS;
+        let slot = (high + low) % SLOTS;
         let again = seen[slot];
         seen[slot] = true;
         if again {

@@ -22,23 +22,23 @@ loop-holds c = marked-begin _ _ _ refl
 returns-2 : tie.Need-returns-2 Inv-loop μ-loop
 returns-2 c =
     let r = c .before .before .before .before in
-    let t = r .before in
+    let t = r .before .before in
     marked-twice _ _ _ _ (t .before .before .before .before .before .pre) (t .before .loop .inv) (t .loop-test .taken)
-    (r .number-at .ensures .0) (c .before .has-id .ensures) (c .if3 .taken)
+    (r .before .number-at .ensures .0) (r .number-at2 .ensures .0) (c .before .has-id .ensures) (c .if3 .taken)
 
 loop-again : tie.Need-loop-again Inv-loop μ-loop
 loop-again c =
     let r = c .before .before .before .before in
-    let t = r .before in
+    let t = r .before .before in
     marked-other _ _ _ _ (t .before .before .before .before .before .pre) (t .before .loop .inv) (t .loop-test .taken)
-    (r .number-at .ensures .0) (c .before .has-id .ensures) (c .if3 .left)
+    (r .before .number-at .ensures .0) (r .number-at2 .ensures .0) (c .before .has-id .ensures) (c .if3 .left)
 
 loop-again-2 : tie.Need-loop-again-2 Inv-loop μ-loop
 loop-again-2 c =
     let r = c .before in
-    let t = r .before in
+    let t = r .before .before in
     marked-fresh _ _ _ _ (t .before .before .before .before .before .pre) (t .before .loop .inv) (t .loop-test .taken)
-    (r .number-at .ensures .0) (c .if2 .left)
+    (r .before .number-at .ensures .0) (r .number-at2 .ensures .0) (c .if2 .left)
 
 returns-3 : tie.Need-returns-3 Inv-loop μ-loop
 returns-3 c = marked-end _ _ _ _ (c .before .loop .inv) (omega arith)
@@ -46,7 +46,7 @@ returns-3 c = marked-end _ _ _ _ (c .before .loop .inv) (omega arith)
 pub ids-differ-spec : {M : Type 1} → statement M
 ids-differ-spec =
     tie.close
-    (tie.spec Inv-loop μ-loop (λ c κs. search needs) returns loop-holds (λ c. search needs) (λ c. search needs) (λ c. search needs)
-    (λ c κs. search needs) (λ c. search needs) (λ c. search needs) (λ c. search needs) (λ c. search needs) (λ c. search needs)
-    (λ c. search needs) (λ c. search needs) (λ c κs. search needs) returns-2 (λ c. search needs) loop-again (λ c. search needs)
-    loop-again-2 returns-3)
+    (tie.spec Inv-loop μ-loop (λ c κs. search needs) returns loop-holds (λ c. search needs) (λ c. search needs)
+    (λ c κs. search needs) (λ c. search needs) (λ c κs. search needs) (λ c. search needs) (λ c. search needs) (λ c. search needs)
+    (λ c. search needs) (λ c. search needs) (λ c. search needs) (λ c. search needs) (λ c. search needs) (λ c κs. search needs)
+    returns-2 (λ c. search needs) loop-again (λ c. search needs) loop-again-2 returns-3)

@@ -6,7 +6,7 @@ CARGO := cargo --offline
 # cargo's own folder, where it is not on the path
 export PATH := $(PATH):$(shell getent passwd "$$(id -u)" | cut -d: -f6)/.cargo/bin
 
-.PHONY: test lib install example match lines bench promises layers edits header calls rows differential vectors stored encoder tools
+.PHONY: test lib install example match lines bench promises layers edits units header calls rows differential vectors stored encoder tools
 
 # proves every crate of crates.txt from nothing, tries the must-fail edits, runs the programs, and compares the library with ordinary Rust
 test:
@@ -62,6 +62,10 @@ layers: tools
 # each must-fail edit still fits its file
 edits: tools
 	tests/edits
+
+# a unit of time is opened where numbers go out, and nowhere else
+units: tools
+	tests/units
 
 # the encoder of the scripts that make the stored vectors, from Debian where it is missing
 encoder:

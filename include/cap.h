@@ -184,7 +184,8 @@ uint64_t cap_submit(uint8_t *image, size_t image_len, const uint8_t *descriptor,
  *     at 48   D, future skew, in milliseconds, at most 86,400,000
  *     at 56   E, tolerance, in milliseconds, at most 86,400,000
  * A table with another length, a row of any id that is not so, or two rows with one id is answered 15; so is a now_ms above 2^53, with any table. Rows in
- * ascending order of id (bytewise) are checked fastest; any order is allowed and gets the same answer.
+ * ascending order of id (bytewise) are checked in one pass; any order is allowed and gets the same answer, but with many thousand rows in another order
+ * the time may grow with the square of their number.
  * The steps of the lease come last, for the row with the id that is asked for. With N = now_ms: 26 where it is revoked; 23 where N < L - D; granted where
  * N <= L + 1000 T + E; 24 where N <= L + 1000 T + 1000 G + E; else 25. The margin is L + 1000 T + E - N. An id without a row is decided without these steps.
  * A list or a table without rows is passed as any empty slice, as CAP_EMPTY. */

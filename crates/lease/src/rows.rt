@@ -1,4 +1,4 @@
-// The lease table: its rows, and the lease under an id. The rows are looked at from the last to the first, as the definitions go.
+// The lease table: its rows, and the lease under an id. A loop over all rows goes from the last to the first, as the definitions do.
 use crate::Lease;
 use crate::LeaseFound;
 use crate::LeaseRead;
@@ -94,7 +94,7 @@ fn is_below(high: u64, low: u64, other_high: u64, other_low: u64) -> bool
     high < other_high
 }
 
-// Whether the ids of the n rows are seen to ascend, from the last to the first; then no two have one id.
+// Whether each id of the n rows is below the one after it; then no two rows have one id.
 fn ids_ascend(table: &[u8], n: usize) -> bool
     requires { ⌜ leaseSize * n ≤ length (now table) ⌝ }
     ensures { λ r. ⌜ (r ≡ true → idsDiffer (rowsFrom (now (table .entry)) 0 n) ≡ true) ⌝ }

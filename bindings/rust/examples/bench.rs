@@ -86,24 +86,42 @@ fn request(rows: u64, revoked: u64) {
     race_requests(&case, &models, "lab/room-000/camera/front", &list, &[]);
 }
 
-/// Requests for the last of 64 rows: without a lease table, and with its lease among 64 or 1,024, in ascending order of ids and in
-/// a random one.
+/// Requests for the last of 64 rows: without a lease table, and with its lease among 64 or 1,024, whose other ids are random, in
+/// ascending order of ids and in a random one.
 fn requests_with_leases() {
     let models: Vec<Model> = (0..64).map(|number| rooms(1).numbered(number)).collect();
-    let ask = |order: &str, leases: &[LeaseRow]| {
-        let case = format!("request, rows 64, leases {}{order}", leases.len());
-        let table = lease_table(leases);
-        race_requests(&case, &models, "lab/room-000/camera/front", &[], &table);
-    };
-    let id = |number| rooms(1).numbered(number).id;
-    let ascending = (0..1024).map(|number| LeaseRow::synced(&id(number), 2_450_000));
-    let mut leases: Vec<LeaseRow> = ascending.collect();
-    for count in [0, 64, 1024] {
-        ask("", &leases[..count]);
-    }
     let mut random = Random::new(1);
-    (1..leases.len()).for_each(|at| leases.swap(at, random.below(at + 1)));
-    ask(", random", &leases);
+    for (count, ascending) in [
+        (0, true),
+        (64, true),
+        (64, false),
+        (1024, true),
+        (1024, false),
+    ] {
+        let mut leases: Vec<LeaseRow> = (0..count)
+            .map(|at| match at {
+                0 => models[63].id.to_vec(),
+                _ => [random.number(), random.number()]
+                    .map(u64::to_be_bytes)
+                    .concat(),
+            })
+            .map(|id| LeaseRow::synced(&id, 2_450_000))
+            .collect();
+        if ascending {
+            leases.sort_by(|one, other| one.id.cmp(&other.id));
+        } else {
+            (1..count).for_each(|at| leases.swap(at, random.below(at + 1)));
+        }
+        let order = if ascending { "" } else { ", random" };
+        let case = format!("request, rows 64, leases {count}{order}");
+        race_requests(
+            &case,
+            &models,
+            "lab/room-000/camera/front",
+            &[],
+            &lease_table(&leases),
+        );
+    }
 }
 
 /// Requests for a row of 256 grants: where the first alone serves, where the last alone does, and where all do, the most exact

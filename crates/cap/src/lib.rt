@@ -132,7 +132,7 @@ pub extern "C" fn cap_request(
         × AreBytes (now (terminal .entry)) × AreBytes (now (resource .entry)) × AreBytes (now (revoked .entry))
         × AreBytes (now (leases .entry)) ⌝ }
 {
-    let environment = Environment {
+    let host = Environment {
         clock: Milliseconds(now_ms),
         session: Seconds(session_length),
         verdict,
@@ -147,7 +147,7 @@ pub extern "C" fn cap_request(
         mode,
         revoked,
         leases,
-        environment,
+        host,
     );
     numbers::of_decision(decision)
 }

@@ -18,13 +18,13 @@ fn well_formed(
     resource: &[u8],
     mode: u64,
     revoked: &[u8],
-    environment: Environment,
+    host: Environment,
 ) -> bool
     ensures { λ r. ⌜ r ≡ argumentsOk
-        (requestOf (now (id .entry)) (now (fay .entry)) (now (terminal .entry)) (now (resource .entry)) mode (environment .clock)
-        (environment .session) (now (revoked .entry)) [] (environment .verdict) (environment .window)) ⌝ }
+        (requestOf (now (id .entry)) (now (fay .entry)) (now (terminal .entry)) (now (resource .entry)) mode (host .clock)
+        (host .session) (now (revoked .entry)) [] (host .verdict) (host .window)) ⌝ }
 {
-    if 2 < environment.verdict {
+    if 2 < host.verdict {
         return false;
     }
     if HIGHEST_MODE < mode {
@@ -54,16 +54,16 @@ pub(crate) fn check(
     mode: u64,
     revoked: &[u8],
     leases: &[u8],
-    environment: Environment,
+    host: Environment,
 ) -> LeaseFound
     ensures { λ r. ⌜ r ≡ checkedOf
-        (requestOf (now (id .entry)) (now (fay .entry)) (now (terminal .entry)) (now (resource .entry)) mode (environment .clock)
-        (environment .session) (now (revoked .entry)) (now (leases .entry)) (environment .verdict) (environment .window)) ⌝ }
+        (requestOf (now (id .entry)) (now (fay .entry)) (now (terminal .entry)) (now (resource .entry)) mode (host .clock)
+        (host .session) (now (revoked .entry)) (now (leases .entry)) (host .verdict) (host .window)) ⌝ }
 {
-    if !well_formed(id, fay, terminal, resource, mode, revoked, environment) {
+    if !well_formed(id, fay, terminal, resource, mode, revoked, host) {
         return LeaseFound::Malformed;
     }
-    let clock = environment.clock;
+    let clock = host.clock;
     if LATEST.is_before(clock) {
         return LeaseFound::Malformed;
     }

@@ -93,24 +93,24 @@ fn signed(
     mask: u64,
     not_after: Seconds,
     found: LeaseFound,
-    environment: Environment,
+    host: Environment,
 ) -> Decision
-    requires { ⌜ FoundFits found × (clockOk (environment .clock .0) ≡ true) ⌝ }
-    ensures { λ r. ⌜ r ≡ signedBy grant mask «not_after» found environment ⌝ }
+    requires { ⌜ FoundFits found × (clockOk (host .clock .0) ≡ true) ⌝ }
+    ensures { λ r. ⌜ r ≡ signedBy grant mask «not_after» found host ⌝ }
 {
-    let now = environment.clock;
+    let now = host.clock;
     let clock = now.to_seconds();
-    let verdict = environment.verdict;
+    let verdict = host.verdict;
     if verdict == 2 {
         return Decision::KeyInvalid;
     }
-    if !steps::key_open(environment.window, clock) {
+    if !steps::key_open(host.window, clock) {
         return Decision::KeyInvalid;
     }
     if verdict == 1 {
         return Decision::BadSignature;
     }
-    let end = clock.plus_at_most(environment.session, not_after);
+    let end = clock.plus_at_most(host.session, not_after);
     crate::leased::leased(found, now, grant, mask, end)
 }
 
@@ -126,16 +126,16 @@ pub(crate) fn on_body(
     mode: u64,
     revoked: &[u8],
     found: LeaseFound,
-    environment: Environment,
+    host: Environment,
 ) -> Decision
     requires { ⌜ (resourceOk (now resource) ≡ true) × (mode ≤ highestMode) × BodyFits (now body) fields
-        × FoundFits found × (clockOk (environment .clock .0) ≡ true) ⌝ }
+        × FoundFits found × (clockOk (host .clock .0) ≡ true) ⌝ }
     ensures { λ r. ⌜ r ≡ decidedOn
-        (requestOf (now (id .entry)) (now (fay .entry)) (now (terminal .entry)) (now (resource .entry)) mode (environment .clock)
-        (environment .session) (now (revoked .entry)) [] (environment .verdict) (environment .window)) (leaseIn found)
+        (requestOf (now (id .entry)) (now (fay .entry)) (now (terminal .entry)) (now (resource .entry)) mode (host .clock)
+        (host .session) (now (revoked .entry)) [] (host .verdict) (host .window)) (leaseIn found)
         (now (body .entry)) fields ⌝ }
 {
-    let now = environment.clock;
+    let now = host.clock;
     let clock = now.to_seconds();
     if revocation::is_revoked(revoked, id, clock) {
         return Decision::Revoked;
@@ -146,7 +146,7 @@ pub(crate) fn on_body(
             mask,
             fields.not_after,
             found,
-            environment,
+            host,
         ),
         Applicability::Refused(refusal) => refusal,
     }

@@ -36,22 +36,13 @@ pub fn request(
     mode: u64,
     revoked: &[u8],
     leases: &[u8],
-    environment: Environment,
+    host: Environment,
 ) -> Decision
     ensures { λ r. ⌜ r ≡ decisionOf (now (image .entry))
-        (requestOf (now (id .entry)) (now (fay .entry)) (now (terminal .entry)) (now (resource .entry)) mode (environment .clock)
-        (environment .session) (now (revoked .entry)) (now (leases .entry)) (environment .verdict) (environment .window)) ⌝ }
+        (requestOf (now (id .entry)) (now (fay .entry)) (now (terminal .entry)) (now (resource .entry)) mode (host .clock)
+        (host .session) (now (revoked .entry)) (now (leases .entry)) (host .verdict) (host .window)) ⌝ }
 {
-    let found = arguments::check(
-        id,
-        fay,
-        terminal,
-        resource,
-        mode,
-        revoked,
-        leases,
-        environment,
-    );
+    let found = arguments::check(id, fay, terminal, resource, mode, revoked, leases, host);
     if arguments::is_malformed(found) {
         return Decision::Malformed;
     }
@@ -73,7 +64,7 @@ pub fn request(
                     mode,
                     revoked,
                     found,
-                    environment,
+                    host,
                 )
             }
             Held::Missing => Decision::NotFound,

@@ -30,8 +30,8 @@ at1 c = at2 c .before
 abbrev asked : tie.Start → Request
 asked s =
     let a = s .args in
-    requestOf (a .id .now) (a .fay .now) (a .terminal .now) (a .resource .now) (a .mode) (a .environment .clock)
-    (a .environment .session) (a .revoked .now) (a .leases .now) (a .environment .verdict) (a .environment .window)
+    requestOf (a .id .now) (a .fay .now) (a .terminal .now) (a .resource .now) (a .mode) (a .host .clock)
+    (a .host .session) (a .revoked .now) (a .leases .now) (a .host .verdict) (a .host .window)
 
 -- the image is no longer than a number holds
 small : (k : tie.After-shared-slice-known) → length (k .before .args .image .now) < 2 ^ 64

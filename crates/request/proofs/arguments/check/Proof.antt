@@ -15,8 +15,8 @@ start c = c .before .before .before .before .before .before .before
 abbrev asked : tie.Start → Request
 asked s =
     let a = s .args in
-    requestOf (a .id .now) (a .fay .now) (a .terminal .now) (a .resource .now) (a .mode) (a .environment .clock)
-    (a .environment .session) (a .revoked .now) (a .leases .now) (a .environment .verdict) (a .environment .window)
+    requestOf (a .id .now) (a .fay .now) (a .terminal .now) (a .resource .now) (a .mode) (a .host .clock)
+    (a .host .session) (a .revoked .now) (a .leases .now) (a .host .verdict) (a .host .window)
 
 -- the arguments but for the clock and the table are well formed
 formed : (c : tie.Else1) → argumentsOk (asked (start (c .before))) ≡ true

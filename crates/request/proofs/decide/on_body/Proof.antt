@@ -15,7 +15,7 @@ start c = c .before .before .before .before .before .before .before .before .bef
 
 -- the list is looked at in seconds
 revoked : (c : tie.After-is-revoked) → c .is-revoked .result
-    ≡ isRevoked (revocationsOf (start c .args .revoked .now)) (start c .args .id .now) (wholeSeconds (start c .args .environment .clock) .0)
+    ≡ isRevoked (revocationsOf (start c .args .revoked .now)) (start c .args .id .now) (wholeSeconds (start c .args .host .clock) .0)
 revoked c =
     c .is-revoked .ensures
     ∙ ap (λ (t : Seconds). isRevoked (revocationsOf (start c .args .revoked .now)) (start c .args .id .now) (t .0))
@@ -25,7 +25,7 @@ revoked c =
 applied : (c : tie.After-check-descriptor) → let a = start (c .before .before) .args in
     c .check-descriptor .result
     ≡ applicabilityOf (a .body .now) (a .fields) (a .fay .now) (a .terminal .now) (a .resource .now) (a .mode)
-    (wholeSeconds (a .environment .clock) .0)
+    (wholeSeconds (a .host .clock) .0)
 applied c =
     let a = start (c .before .before) .args in
     c .check-descriptor .ensures

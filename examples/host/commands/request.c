@@ -45,7 +45,7 @@ static void find_body(request *r) {
 static cap_decision ask_gate(const request *r, const judgement *judged) {
     return cap_request(r->image.bytes, r->image.len, r->id, ID_LEN, (const uint8_t *)r->fay, strlen(r->fay), (const uint8_t *)r->terminal,
                        strlen(r->terminal), (const uint8_t *)r->resource, strlen(r->resource), r->mode, r->now_ms, r->session_length,
-                       r->revoked.bytes, r->revoked.len, r->leases.bytes, r->leases.len, judged->verdict, judged->valid_from, judged->has_valid_until,
+                       r->revoked.bytes, r->revoked.len, r->leases.rows.bytes, r->leases.rows.len, judged->verdict, judged->valid_from, judged->has_valid_until,
                        judged->valid_until);
 }
 

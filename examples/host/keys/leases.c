@@ -6,8 +6,6 @@
 
 #include "arguments.h"
 #include "cap.h"
-#include "files.h"
-#include "lines.h"
 #include "numbers.h"
 
 /* How many fields a line has, how many of them are numbers, and where a row has its flag and its numbers. */
@@ -20,7 +18,7 @@ static bool parse_status(const char *text, uint8_t *revoked) {
 }
 
 /* Makes a row from the fields of a line; answers what is wrong, or null. */
-static const char *row_from_fields(char *const fields[], size_t count, uint8_t row[CAP_LEASE_ROW]) {
+static const char *row_from_fields(char *const fields[], size_t count, uint8_t *row) {
     static const char *const wrong[NUMBERS] = {
         "the last sync isn't a number of milliseconds",
         "the ttl isn't a number of seconds",
@@ -48,27 +46,6 @@ static const char *row_from_fields(char *const fields[], size_t count, uint8_t r
     return NULL;
 }
 
-/* Adds a row to the table; answers what is wrong, or null. */
-static const char *add_row(lease_table *table, const uint8_t row[CAP_LEASE_ROW]) {
-    uint8_t *longer = realloc(table->bytes, table->len + CAP_LEASE_ROW);
-    if (longer == NULL) {
-        return "no memory";
-    }
-    memcpy(longer + table->len, row, CAP_LEASE_ROW);
-    table->bytes = longer;
-    table->len += CAP_LEASE_ROW;
-    return NULL;
-}
-
-/* Takes one line of a lease file into the table; answers what is wrong, or null. */
-static const char *take_line(void *taker, const char *path, char *line) {
-    char *fields[FIELDS];
-    uint8_t row[CAP_LEASE_ROW];
-    (void)path;
-    const char *wrong = row_from_fields(fields, cut_fields(line, fields, FIELDS), row);
-    return wrong != NULL ? wrong : add_row(taker, row);
-}
-
 /* Compares two rows by their ids. */
 static int compare_ids(const void *one, const void *other) {
     return memcmp(one, other, ID_LEN);
@@ -76,31 +53,23 @@ static int compare_ids(const void *one, const void *other) {
 
 /* Reads a lease file, or makes an empty table. */
 bool leases_read(const char *path, lease_table *table) {
+    static const row_form form = {"cannot keep the lease table", CAP_LEASE_ROW, FIELDS, row_from_fields};
     table->given = path != NULL;
-    table->len = 0;
-    table->bytes = malloc(CAP_LEASE_ROW);
-    if (table->bytes == NULL) {
-        tell_error("cannot keep the lease table", path == NULL ? "an empty one" : path, "no memory");
+    if (!rows_read(path, &form, &table->rows)) {
         return false;
     }
-    if (path != NULL && !lines_read(path, take_line, table)) {
-        leases_free(table);
-        return false;
-    }
-    qsort(table->bytes, table->len / CAP_LEASE_ROW, CAP_LEASE_ROW, compare_ids);
+    qsort(table->rows.bytes, table->rows.len / CAP_LEASE_ROW, CAP_LEASE_ROW, compare_ids);
     return true;
 }
 
 /* Frees the table. */
 void leases_free(lease_table *table) {
-    free(table->bytes);
-    table->bytes = NULL;
-    table->len = 0;
+    rows_free(&table->rows);
 }
 
 /* Finds the lease of a descriptor id. */
 bool leases_find(const lease_table *table, const uint8_t *id, lease *found) {
-    const uint8_t *row = bsearch(id, table->bytes, table->len / CAP_LEASE_ROW, CAP_LEASE_ROW, compare_ids);
+    const uint8_t *row = bsearch(id, table->rows.bytes, table->rows.len / CAP_LEASE_ROW, CAP_LEASE_ROW, compare_ids);
     if (row == NULL) {
         return false;
     }

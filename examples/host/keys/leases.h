@@ -12,15 +12,15 @@
 #define HOST_LEASES_H
 
 #include <stdbool.h>
-#include <stddef.h>
 #include <stdint.h>
 
-/* The table as the gate takes it: rows of CAP_LEASE_ROW bytes, in ascending order of their ids, in which the gate checks them fastest. `bytes` is
- * never null after a successful read; `given` says whether there is a lease file, be it without a lease. */
+#include "rows.h"
+
+/* The table as the gate takes it: rows of CAP_LEASE_ROW bytes, in ascending order of their ids, in which the gate checks them fastest. `given` says
+ * whether there is a lease file, be it without a lease. */
 typedef struct lease_table {
     bool given;
-    uint8_t *bytes;
-    size_t len;
+    row_bytes rows;
 } lease_table;
 
 /* The numbers of a lease. */

@@ -11,14 +11,11 @@
 #define HOST_REVOCATIONS_H
 
 #include <stdbool.h>
-#include <stddef.h>
-#include <stdint.h>
 
-/* The list as the gate takes it: rows of 24 bytes, back to back. `bytes` is never null after a successful read. */
-typedef struct revocation_list {
-    uint8_t *bytes;
-    size_t len;
-} revocation_list;
+#include "rows.h"
+
+/* The list as the gate takes it: rows of 24 bytes. */
+typedef row_bytes revocation_list;
 
 /* Reads a revocation file, or makes an empty list where the path is null; answers false, and has told why, where it cannot. */
 bool revocations_read(const char *path, revocation_list *list);

@@ -17,13 +17,14 @@ use Rattle.descriptor_spec.specs.declared.Fields.{Fields}
 use Rattle.descriptor_spec.specs.declared.Reading.the-variants.{Read}
 use Rattle.image_spec.specs.declared.layout.Layout.{Layout}
 use Rattle.descriptor_spec.specs.Allowed.{idSize}
-use Rattle.image_spec.specs.Layout.{maskWidth, maskPlace, zeroPlace, rowSize, zeroSize, rowPlace, LayoutOk}
-use Rattle.image_spec.specs.Image.{Row, rowOf, reading, idOf, row, hasId}
-use Rattle.image_spec.specs.Check.{rowId, rowOffset, rowLength, idAmong, rowFits, rowAt}
+use Rattle.image_spec.specs.Layout.{maskWidth, maskPlace, zeroPlace, rowSize, zeroSize, rowPlace, momentPlace, momentSize, LayoutOk}
+use Rattle.image_spec.specs.Image.{Row, reading, idOf, row, hasId, MomentOk}
+use Rattle.image_spec.specs.Check.{rowId, rowOffset, rowLength, rowMoment, idAmong, rowFits, rowAt}
 use Rattle.image_spec.specs.Laws.{BodyIn}
 use Rattle.image_spec.proofs.BodyLaws.{read-in}
 use Rattle.image_spec.proofs.RowOkLaws.{RowOk, row-is, among-suc, hit-suc}
 use Rattle.image_spec.proofs.RowLaws.{id-read, modes-read, RowSays, row-says, says-row}
+use Rattle.octets.proofs.NumberLaws.{number-below}
 use Rattle.octets.proofs.SameLaws.{same-equal, equal-same}
 use Rattle.octets.proofs.PartLaws.{part-part}
 use Rattle.image_spec.proofs.ListLaws.{has-snoc}
@@ -95,6 +96,7 @@ module _ (l : Layout) (ok : LayoutOk l) where
   pub record Stands (s : List ℕ) (seen : List Row) (i at : ℕ) (b : Row) (f : Fields) : Type 0 where
     pub reads : reading (b .body) ≡ Read f
     pub new : hasId (idOf (b .body)) seen ≡ false
+    pub dated : MomentOk l b
     pub has-row : Has s (rowPlace l i) (row l at b)
     pub has-body : Has s at (b .body)
 
@@ -105,7 +107,7 @@ module _ (l : Layout) (ok : LayoutOk l) where
   row-sound s seen i at f next bytes room p e =
       let r : ℕ = rowPlace l i in
       let n : ℕ = rowLength s r in
-      let b : Row = rowOf (part s at n) in
+      let b : Row = record { body = part s at n; used = rowMoment l s r } in
       let k : RowOk l s i at f next = row-is l s i at f next e in
       let q : Fits s r at f = fits-says s r at f (k .fits) in
       let h = part-has s at n (k .inside) in
@@ -116,6 +118,7 @@ module _ (l : Layout) (ok : LayoutOk l) where
         record {
           reads = k .reads;
           new = ap (λ (x : List ℕ). hasId x seen) (sym d) ∙ sym (p .ids (rowId s r)) ∙ k .new;
+          dated = record { fits = number-below s (r + momentPlace l) (momentSize l) bytes };
           has-row = says-row l ok s r at b bytes (record {
             inside = room;
             id = d;
@@ -123,6 +126,7 @@ module _ (l : Layout) (ok : LayoutOk l) where
             size = sym (h .1);
             mask = q .mask ∙ sym (modes-read (b .body) f (k .reads));
             zeros = q .zeros;
+            moment = refl;
           });
           has-body = h .0;
         },
@@ -133,7 +137,7 @@ module _ (l : Layout) (ok : LayoutOk l) where
   pub stands-says : (s : List ℕ) (seen : List Row) (i at : ℕ) (b : Row) (f : Fields) → at < 4294967296 → Stands s seen i at b f
       → RowSays l ok s (rowPlace l i) at b
   stands-says s seen i at b f small h = row-says l ok s (rowPlace l i) at b small (omega (arith, read-in (b .body) f (h .reads) .short))
-      (h .has-row)
+      (h .dated) (h .has-row)
 
   -- a body that stands with its row passes the check
   pub row-complete : (s : List ℕ) (seen : List Row) (i at : ℕ) (b : Row) (f : Fields) → at < 4294967296 → Past s seen i

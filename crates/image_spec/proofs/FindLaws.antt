@@ -30,7 +30,7 @@ module _ (l : Layout) (ok : LayoutOk l) where
   pub held-in : (s id : List ℕ) (bs : List Row) → Holds l s bs → HeldIs s id bs (heldIn l id bs)
   unfolding heldIn
   held-in s id bs h = let g : Run l ok s [] 0 (rowPlace l (length bs)) bs = holds-run l ok s bs h in held-is s id
-      (rowPlace l (length bs)) [] bs
+      (rowPlace l (length bs)) bs
       (g .each) (g .has-bodies)
 
   -- `CheckTellsFor`
@@ -85,7 +85,7 @@ module _ (l : Layout) (ok : LayoutOk l) where
     where
       fits : (h : Held) → HeldIs s id (rowsHeld l s) h → HeldFits s h
       fits Missing k = tt
-      fits (Body at len f) k = (k .inside, k .reads)
+      fits (Body row at len f) k = (k .inside, k .reads)
 
       go : (v : ImageCheck) → checkOf l s id ≡ v → CheckFits s v
       go (Sound n end h) e =

@@ -34,18 +34,18 @@ use Rattle.image_spec.proofs.RaiseLaws.{rows-raised, with-row, header-c
 
 module _ (l : Layout) (ok : LayoutOk l) where
   -- what is written, from what each write leaves
-  writes : (d : List ℕ) (n end : ℕ) (b : List ℕ) (id mask : ℕ) (d₁ d₃ d₄ d₅ : List ℕ) → movedUp d (rowPlace l n) end (rowSize l) ≡ d₁
-      → withRow l (raised l d₁ n 0) (rowPlace l n) (end + rowSize l) b id mask ≡ d₃ → putAt d₃ (end + rowSize l) b ≡ d₄
+  writes : (d : List ℕ) (n end : ℕ) (b : List ℕ) (id mask used : ℕ) (d₁ d₃ d₄ d₅ : List ℕ) → movedUp d (rowPlace l n) end (rowSize l) ≡ d₁
+      → withRow l (raised l d₁ n 0) (rowPlace l n) (end + rowSize l) b id mask used ≡ d₃ → putAt d₃ (end + rowSize l) b ≡ d₄
       → putAt d₄ countPlace (bigEndian headerWidth (n + 1)) ≡ d₅
-      → grown l d n end b id mask ≡ d₅
+      → grown l d n end b id mask used ≡ d₅
   unfolding grown
-  writes d n end b id mask d₁ d₃ d₄ d₅ e₁ e₃ e₄ e₅ = rw (e₁, e₃, e₄) e₅
+  writes d n end b id mask used d₁ d₃ d₄ d₅ e₁ e₃ e₄ e₅ = rw (e₁, e₃, e₄) e₅
 
   -- in the image of the rows bs, with room for a row and its body, the writes leave the image of those rows and the new one, and the old
   -- bytes beyond its end
   grown-image : (d : List ℕ) (bs : List Row) (b : Row) (f : Fields) → Holds l d bs → reading (b .body) ≡ Read f
       → length (imageOf l bs) + rowSize l + length (b .body) ≤ length d
-      → grown l d (length bs) (length (imageOf l bs)) (b .body) (f .id) (f .mask) ≡ withBody l d bs b
+      → grown l d (length bs) (length (imageOf l bs)) (b .body) (f .id) (f .mask) (b .used) ≡ withBody l d bs b
   unfolding moved withBody
   grown-image d bs b f h e room =
       let n : ℕ = length bs in
@@ -114,7 +114,7 @@ module _ (l : Layout) (ok : LayoutOk l) where
       let rest : drop m d₅ ≡ drop m d
       = k₅ .after m (omega arith) ∙ k₄ .after m (omega arith) ∙ k₃ .after m (omega arith) ∙ k₂ .after m (omega arith)
       ∙ k₁ .after m (omega arith) in
-      writes d n end (b .body) (f .id) (f .mask) d₁ d₃ d₄ d₅ e₁ (with-row l ok d₂ start at b f e (omega arith))
+      writes d n end (b .body) (f .id) (f .mask) (b .used) d₁ d₃ d₄ d₅ e₁ (with-row l ok d₂ start at b f e (omega arith))
       (put-fits d₃ at (b .body) f₄) (put-fits d₄ countPlace count f₅)
       ∙ has-front d₅ larger has
       ∙ ap (λ (x : List ℕ). larger ++ x) rest
@@ -157,7 +157,7 @@ module _ (l : Layout) (ok : LayoutOk l) where
       (rw t, rw t (go (hasRoom l d bs b) refl))
     where
       go : (t : Bool) → hasRoom l d bs b ≡ t
-          → cond t (grown l d (length bs) (length (imageOf l bs)) (b .body) (f .id) (f .mask)) d ≡ cond t (withBody l d bs b) d
+          → cond t (grown l d (length bs) (length (imageOf l bs)) (b .body) (f .id) (f .mask) (b .used)) d ≡ cond t (withBody l d bs b) d
       go true u = grown-image d bs b f h e (room-says d bs b u .1)
       go false u = refl
 
@@ -165,8 +165,8 @@ module _ (l : Layout) (ok : LayoutOk l) where
   pub one-more : OneMoreFor l
   unfolding withBody
   one-more = record {
-    holds = λ d bs b h room reads new. record {
-      rows = bodies-more l ok bs b (h .rows) (room-says d bs b room .0) reads new;
+    holds = λ d bs b h room reads new dated. record {
+      rows = bodies-more l ok bs b (h .rows) (room-says d bs b room .0) reads new dated;
       rest = drop (length (imageOf l (bs ++ (b ∷ [])))) d;
       whole = refl;
     };

@@ -1,9 +1,11 @@
 -- The statements of specs/Laws.antt, each from its law. Assumes nothing.
-use Rattle.image_spec.specs.Layout.{edition1}
 use Rattle.image_spec.specs.Laws.{RowsInOrder, OffsetsFit, RowNext, ReadIn, BodyRead, EncodingRead, BodyWithExactly, RowsNamed}
 use Rattle.image_spec.specs.Laws.{CheckTells, CheckSays}
 use Rattle.image_spec.specs.Laws.{CheckUnsound, EditionsChecked, CheckInside, BodyAdded, OneMore}
-use Rattle.image_spec.proofs.RowPlaceLaws.{edition1-ok, place-order, place-small}
+use Rattle.image_spec.specs.Laws.{Edition1Ok, Edition2Ok, NamedOk}
+use Rattle.image_spec.proofs.RowPlaceLaws.{place-order, place-small}
+use Rattle.image_spec.proofs.RowPlaceLaws as place1
+use Rattle.image_spec.proofs.NamedLaws as named
 use Rattle.image_spec.proofs.RowOkLaws as ok
 use Rattle.image_spec.proofs.BodyLaws as body
 use Rattle.image_spec.proofs.ReadLaws as read
@@ -36,32 +38,43 @@ encoding-read = read.encoding-read
 -- ---- the body with an id
 
 pub body-with-exactly : BodyWithExactly
-body-with-exactly = place.body-with-exactly edition1
+body-with-exactly = place.body-with-exactly
 
 pub rows-named : RowsNamed
-rows-named = found.rows-named edition1 edition1-ok
+rows-named = found.rows-named
 
 -- ---- what a check says
 
 pub check-tells : CheckTells
-check-tells = found.check-tells edition1 edition1-ok
+check-tells = found.check-tells
 
 pub check-says : CheckSays
-check-says = found.check-says edition1 edition1-ok
+check-says = found.check-says
 
 pub check-unsound : CheckUnsound
-check-unsound = found.check-unsound edition1 edition1-ok
+check-unsound = found.check-unsound
 
 pub editions-checked : EditionsChecked
-editions-checked = found.editions-checked edition1 edition1-ok
+editions-checked = found.editions-checked
 
 pub check-inside : CheckInside
-check-inside = found.check-inside edition1 edition1-ok
+check-inside = found.check-inside
 
 -- ---- one body more
 
 pub body-added : BodyAdded
-body-added = grow.body-added edition1 edition1-ok
+body-added = grow.body-added
 
 pub one-more : OneMore
-one-more = grow.one-more edition1 edition1-ok
+one-more = grow.one-more
+
+-- ---- the layouts
+
+pub edition1-ok : Edition1Ok
+edition1-ok = place1.edition1-ok
+
+pub edition2-ok : Edition2Ok
+edition2-ok = place1.edition2-ok
+
+pub named-ok : NamedOk
+named-ok = named.named-ok

@@ -1,16 +1,20 @@
 -- The layout of an image in document 01's numbers, and which bodies a buffer holds (specs/Image.antt). Assumes nothing.
 use mathlib.Core.Path.{_≡_, refl, sym, ap, ap₂, _∙_}
 use mathlib.Core.Bool.{true, false, false≢true}
-use mathlib.Core.List.{List, [], _∷_, _++_}
-use Prim.Native.Nat.{ℕ, _<_}
+use mathlib.Core.Logic.{_↔_}
+use mathlib.Core.List.{List, [], _∷_, _++_, append-assoc, append-nil}
+use Prim.Native.Nat.{ℕ, _^_, _≤_, _<_}
 use native.Mathlib.Omega.{arith}
 use lib.ListN.{length}
 use Rattle.octets.specs.Bytes.{same}
 use Rattle.octets.specs.Number.{bigEndian}
 use Rattle.exact.specs.Reads.{AllFrom}
-use Rattle.image_spec.specs.Layout.{bodyWidth, maskWidth, edition1, zeroSize, rowPlace}
-use Rattle.image_spec.specs.Image.{Row, idOf, modesOf, header, row, rowsOf, joined, imageOf, hasId, BodyOk, seenWith, bodyWith}
-use Rattle.image_spec.specs.Promises.{four, LayoutFixed, answerOf, Every, IdsDiffer, HoldsExactly, BodyOfId}
+use Rattle.image_spec.specs.Layout.{bodyWidth, maskWidth, edition1, edition2, mostRows, rowPlace}
+use Rattle.image_spec.specs.declared.layout.Layout.{Layout}
+use Rattle.image_spec.specs.Image.{Row, idOf, modesOf, header, row, rowsOf, joined, imageOf, hasId, BodyOk, seenWith, Every}
+use Rattle.image_spec.specs.Image.{MomentOk, Holds, bodyWith}
+use Rattle.image_spec.specs.Promises.{four, eight, firstRow, Layout1Fixed, Layout2Fixed, RowsInTurn, answerOf, IdsDiffer}
+use Rattle.image_spec.specs.Promises.{Holds1Exactly, Holds2Exactly, BodyOfId}
 use Rattle.image_spec.proofs.RowLaws.{id-length, modes-small}
 use Rattle.octets.proofs.Tests.{or-no-left, or-no-right, or-true}
 use Rattle.octets.proofs.SameLaws.{equal-same, not-same}
@@ -33,23 +37,43 @@ in-one : (n : ℕ) → n < 256 → bigEndian maskWidth n ≡ n ∷ []
 unfolding bigEndian
 in-one n h = cons (omega arith) refl
 
--- `LayoutFixed`
-pub layout-fixed : LayoutFixed
-unfolding header row rowsOf joined imageOf bigEndian rowPlace
-layout-fixed = (
+-- a number in 8 bytes
+in-eight : (n : ℕ) → bigEndian 8 n ≡ eight n
+unfolding bigEndian
+in-eight n =
+    cons (omega arith) (cons (omega arith) (cons (omega arith) (cons (omega arith) (cons (omega arith) (cons (omega arith)
+    (cons (omega arith) (cons (omega arith) refl)))))))
+
+-- the row of a body up to its moment
+first-row : (at : ℕ) (b m : List ℕ)
+    → idOf b ++ (bigEndian bodyWidth at ++ (bigEndian bodyWidth (length b) ++ (bigEndian maskWidth (modesOf b) ++ (bigEndian 7 0 ++ m))))
+    ≡ firstRow at b ++ m
+unfolding bigEndian
+first-row at b m =
+    ap (λ (l : List ℕ). idOf b ++ l)
+    (ap₂ (λ (x y : List ℕ). x ++ y) (in-four at)
+    (ap₂ (λ (x y : List ℕ). x ++ y) (in-four (length b))
+    (ap (λ (x : List ℕ). x ++ (bigEndian 7 0 ++ m)) (in-one (modesOf b) (omega (arith, modes-small b))))))
+    ∙ sym (append-assoc (idOf b) (four at ++ (four (length b) ++ (modesOf b ∷ 0 ∷ 0 ∷ 0 ∷ 0 ∷ 0 ∷ 0 ∷ 0 ∷ []))) m)
+
+-- `Layout1Fixed`
+pub layout1-fixed : Layout1Fixed
+unfolding header row imageOf bigEndian rowPlace
+layout1-fixed = (λ n. refl, λ at r. first-row at (r .body) [] ∙ append-nil (firstRow at (r .body)), λ rs. refl)
+
+-- `Layout2Fixed`
+pub layout2-fixed : Layout2Fixed
+unfolding header row imageOf bigEndian rowPlace
+layout2-fixed = (
   λ n. refl,
-  id-length,
-  λ at r. let b : List ℕ = r .body in
-      ap (λ (l : List ℕ). idOf b ++ l)
-      (ap₂ (λ (x y : List ℕ). x ++ y) (in-four at)
-      (ap₂ (λ (x y : List ℕ). x ++ y) (in-four (length b))
-      (ap (λ (x : List ℕ). x ++ bigEndian (zeroSize edition1) 0) (in-one (modesOf b) (omega (arith, modes-small b)))))),
-  λ at. refl,
-  λ at b bs. refl,
-  refl,
-  λ b bs. refl,
-  λ bs. refl,
+  λ at r. first-row at (r .body) (bigEndian 8 (r .used)) ∙ ap (λ (m : List ℕ). firstRow at (r .body) ++ m) (in-eight (r .used)),
+  λ rs. refl,
 )
+
+-- `RowsInTurn`
+pub rows-in-turn : RowsInTurn
+unfolding rowsOf joined
+rows-in-turn = (λ l at. refl, λ l at r rs. refl, refl, λ r rs. refl, id-length)
 
 -- ---- which bodies a buffer holds
 
@@ -102,12 +126,38 @@ unfolding hasId
 all-new [] = tt
 all-new (b ∷ bs) = (refl, all-new bs)
 
--- `HoldsExactly`
-pub holds-exactly : HoldsExactly
-holds-exactly s bs = (
-  λ h. (h .rows .few, all-read [] bs (h .rows .each), all-differ [] bs (h .rows .each), (h .rest, h .whole)),
-  λ x. record { rows = record { few = x .0; each = all-from [] bs (x .1) (x .2) (all-new bs) }; rest = x .3 .0; whole = x .3 .1 },
+-- what is so of each row, where one follows from the other
+every-to : (P Q : Row → Type 0) → ((r : Row) → P r → Q r) → (rs : List Row) → Every P rs → Every Q rs
+every-to P Q f [] a = tt
+every-to P Q f (r ∷ rs) a = (f r (a .0), every-to P Q f rs (a .1))
+
+-- a buffer holds rows exactly when they are so many at most, their bodies read, their ids differ, their moments fit, and it is their image
+holds-for : (l : Layout) (P : Row → Type 0) → ((r : Row) → MomentOk l r → P r) → ((r : Row) → P r → MomentOk l r)
+    → (s : List ℕ) (rs : List Row)
+    → Holds l s rs
+    ↔ ((length rs ≤ mostRows l) × Every (λ r. answerOf (r .body) ≡ 0) rs × IdsDiffer rs × Every P rs
+    × ((rest : List ℕ) × (s ≡ imageOf l rs ++ rest)))
+holds-for l P to from s rs = (
+  λ h. (h .rows .few, all-read [] rs (h .rows .each), all-differ [] rs (h .rows .each), every-to (MomentOk l) P to rs (h .rows .moments),
+      (h .rest, h .whole)),
+  λ x. record {
+    rows = record {
+      few = x .0;
+      each = all-from [] rs (x .1) (x .2) (all-new rs);
+      moments = every-to P (MomentOk l) from rs (x .3);
+    };
+    rest = x .4 .0;
+    whole = x .4 .1;
+  },
 )
+
+-- `Holds1Exactly`
+pub holds1-exactly : Holds1Exactly
+holds1-exactly = holds-for edition1 (λ r. r .used ≡ 0) (λ r m. omega (arith, m .fits)) (λ r e. record { fits = omega (arith, e) })
+
+-- `Holds2Exactly`
+pub holds2-exactly : Holds2Exactly
+holds2-exactly = holds-for edition2 (λ r. r .used < 2 ^ 64) (λ r m. m .fits) (λ r m. record { fits = m })
 
 -- `BodyOfId`
 pub body-of-id : BodyOfId

@@ -7,6 +7,7 @@ pub mod HeldLaws
 pub mod CheckLaws
 pub mod RunLaws
 pub mod SoundLaws
+pub mod NamedLaws
 pub mod FindLaws
 pub mod NewImageLaws
 pub mod ReadLaws

@@ -14,7 +14,7 @@ use Rattle.octets.proofs.Tests.{or-assoc}
 use Rattle.descriptor_spec.specs.declared.Fields.{Fields}
 use Rattle.descriptor_spec.specs.declared.Reading.{Reading}
 use Rattle.descriptor_spec.specs.declared.Reading.the-variants.{Read, Structure, Validity}
-use Rattle.image_spec.specs.Image.{Row, reading, isRead, idOf, joined, hasId, BodyOk, seenWith, bodyWith}
+use Rattle.image_spec.specs.Image.{Row, reading, isRead, idOf, joined, hasId, BodyOk, seenWith, Every, bodyWith}
 use Rattle.image_spec.proofs.BodyLaws.{read-in}
 
 -- ---- a body that reads
@@ -67,6 +67,11 @@ pub each-snoc : (seen bs : List Row) (b : Row) → AllFrom BodyOk seenWith seen 
 each-snoc seen [] b a o = (subst (λ (l : List Row). BodyOk l b) (append-nil seen) o, tt)
 each-snoc seen (x ∷ bs) b a o =
     (a .0, each-snoc (seen ++ (x ∷ [])) bs b (a .1) (subst (λ (l : List Row). BodyOk l b) (sym (append-assoc seen (x ∷ []) bs)) o))
+
+-- what is so of each row and of one more is so of them together
+pub every-snoc : (P : Row → Type 0) (bs : List Row) (b : Row) → Every P bs → P b → Every P (bs ++ (b ∷ []))
+every-snoc P [] b a p = (p, tt)
+every-snoc P (x ∷ bs) b a p = (a .0, every-snoc P bs b (a .1) p)
 
 -- ---- the body with an id
 

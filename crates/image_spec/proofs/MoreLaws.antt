@@ -11,10 +11,10 @@ use Rattle.octets.proofs.BytesLaws.{has-both}
 use Rattle.octets.proofs.OptionLaws.{none-some}
 use Rattle.image_spec.specs.declared.layout.Layout.{Layout}
 use Rattle.image_spec.specs.Layout.{rowSize, mostRows, rowPlace, LayoutOk}
-use Rattle.image_spec.specs.Image.{Row, reading, isRead, idOf, header, row, rowsOf, joined, imageOf, hasId, RowsOk, bodyWith}
+use Rattle.image_spec.specs.Image.{Row, reading, isRead, idOf, header, row, rowsOf, joined, imageOf, hasId, MomentOk, RowsOk, bodyWith}
 use Rattle.image_spec.proofs.RowPlaceLaws.{place-next}
 use Rattle.image_spec.proofs.RowLaws.{rows-end, image-length, joined-snoc, rows-snoc}
-use Rattle.image_spec.proofs.ListLaws.{each-snoc}
+use Rattle.image_spec.proofs.ListLaws.{each-snoc, every-snoc}
 use Rattle.image_spec.proofs.SoundLaws.{run-whole}
 
 -- an id that has no body is none of the bodies'
@@ -73,10 +73,11 @@ module _ (l : Layout) (ok : LayoutOk l) where
         has-bodies = subst (λ (k : ℕ). Has d k (joined more)) start bodies;
       })
 
-  -- fewer bodies than there may be rows and one more that reads, whose id none of them has, are allowed
+  -- fewer bodies than there may be rows and one more that reads, whose id none of them has and whose moment fits, are allowed
   pub bodies-more : (bs : List Row) (b : Row) → RowsOk l bs → length bs < mostRows l → isRead (reading (b .body)) ≡ true
-      → bodyWith (idOf (b .body)) bs ≡ none → RowsOk l (bs ++ (b ∷ []))
-  bodies-more bs b o few reads new = record {
+      → bodyWith (idOf (b .body)) bs ≡ none → MomentOk l b → RowsOk l (bs ++ (b ∷ []))
+  bodies-more bs b o few reads new dated = record {
     few = omega (arith, length-append bs (b ∷ []));
     each = each-snoc [] bs b (o .each) (record { reads = reads; new = none-has (idOf (b .body)) bs new });
+    moments = every-snoc (MomentOk l) bs b (o .moments) dated;
   }

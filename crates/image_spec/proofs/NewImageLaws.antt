@@ -10,7 +10,7 @@ use Rattle.octets.specs.Write.{over}
 use Rattle.octets.proofs.NumberLaws.{length-bigEndian}
 use Rattle.octets.proofs.OverLaws.{over-has, over-after, has-front}
 use Rattle.image_spec.specs.declared.layout.Layout.{Layout}
-use Rattle.image_spec.specs.Layout.{modeEdition, headerSize, headerWidth, modesPlace, countPlace, headerZero, edition1}
+use Rattle.image_spec.specs.Layout.{modeEdition, headerSize, headerWidth, modesPlace, countPlace, headerZero, edition2}
 use Rattle.image_spec.specs.Image.{header, rowsOf, joined, imageOf}
 use Rattle.image_spec.specs.NewImage.{newBytes, creationOf, afterNew}
 use Rattle.image_spec.specs.Promises.{NewImage}
@@ -34,6 +34,6 @@ fresh-header l d h =
 pub new-image : NewImage
 unfolding creationOf afterNew imageOf header rowsOf joined bigEndian
 new-image = (
-  λ d h. let e = le-ltb (length d) headerSize h in (rw e, rw e (fresh-header edition1 d h), rw e (fresh-header edition1 d h)),
+  λ d h. let e = le-ltb (length d) headerSize h in (rw e, rw e (fresh-header edition2 d h), rw e (fresh-header edition2 d h)),
   λ d h. let e = lt-ltb (length d) headerSize h in (rw e, rw e),
 )

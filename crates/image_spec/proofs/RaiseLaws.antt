@@ -17,6 +17,7 @@ use Rattle.image_spec.specs.declared.layout.Layout.{Layout}
 use Rattle.descriptor_spec.specs.Allowed.{idSize}
 use Rattle.image_spec.specs.Layout.{modeEdition, headerSize, headerWidth, editionPlace, modesPlace, countPlace, headerZero}
 use Rattle.image_spec.specs.Layout.{bodyWidth, maskWidth, offsetPlace, lengthPlace, maskPlace, zeroPlace, rowSize, zeroSize}
+use Rattle.image_spec.specs.Layout.{momentPlace, momentSize}
 use Rattle.image_spec.specs.Layout.{rowPlace, LayoutOk}
 use Rattle.image_spec.specs.Image.{Row, reading, idOf, modesOf, header, row, rowsOf, joined}
 use Rattle.image_spec.specs.Grow.{raised, withRow}
@@ -52,37 +53,51 @@ put-four d r p q t a b c e f g h room =
     (ap (over d r) whole)
 
 module _ (l : Layout) (ok : LayoutOk l) where
+  -- what the row of a body that lies below 2 ^ 32 says of its offset
+  pub row-offset : (d : List ℕ) (r at : ℕ) (b : Row) → at < 4294967296 → Has d r (row l at b)
+      → numberIn d (r + offsetPlace) bodyWidth ≡ at
+  row-offset d r at b small h =
+      let p : RowParts l ok d r at b = row-parts l ok d r at b h in
+      let i : r + rowSize l ≤ length d = omega (arith, has-fits d r (row l at b) (omega (arith, row-length l ok at b)) h, row-length l ok at b) in
+      number-in d (r + offsetPlace) bodyWidth (omega arith) (omega arith) ∙ number-of-has d (r + offsetPlace) bodyWidth at small
+      (omega arith) (p .offset)
+
+  -- another offset written over that of a row: the row of the body that lies there, and no other byte is changed
+  pub row-placed : (d : List ℕ) (r at to : ℕ) (b : Row) → Has d r (row l at b)
+      → Has (putAt d (r + offsetPlace) (bigEndian bodyWidth to)) r (row l to b)
+      × Kept d (putAt d (r + offsetPlace) (bigEndian bodyWidth to)) r (r + rowSize l)
+  row-placed d r at to b h =
+      let p : RowParts l ok d r at b = row-parts l ok d r at b h in
+      let u : length (row l at b) ≡ rowSize l = row-length l ok at b in
+      let i : r + rowSize l ≤ length d = omega (arith, has-fits d r (row l at b) (omega arith) h) in
+      let new : List ℕ = bigEndian bodyWidth to in
+      let m : length new ≡ bodyWidth = length-bigEndian bodyWidth to in
+      let fit : (r + offsetPlace) + length new ≤ length d = omega arith in
+      let d′ : List ℕ = over d (r + offsetPlace) new in
+      let k : Kept d d′ (r + offsetPlace) ((r + offsetPlace) + length new) = kept-over d (r + offsetPlace) new fit in
+      let q : RowParts l ok d′ r to b = record {
+        id = k .before r (idOf (b .body)) (omega (arith, id-length (b .body))) (p .id);
+        offset = over-has d (r + offsetPlace) new fit;
+        size = kept-has d d′ _ _ (r + lengthPlace) _ k (omega arith) (p .size);
+        mask = kept-has d d′ _ _ (r + maskPlace) _ k (omega arith) (p .mask);
+        zeros = kept-has d d′ _ _ (r + zeroPlace) _ k (omega arith) (p .zeros);
+        moment = kept-has d d′ _ _ (r + momentPlace l) _ k (omega arith) (p .moment);
+      } in
+      subst (λ (x : List ℕ). Has x r (row l to b) × Kept d x r (r + rowSize l)) (sym (put-fits d (r + offsetPlace) new fit)) (
+        parts-row l ok d′ r to b q,
+        kept-wide d d′ (r + offsetPlace) ((r + offsetPlace) + length new) r (r + rowSize l) k
+            (omega arith) (omega arith),
+      )
+
   -- the offset of a row raised by a row's size: the row of the body that lies so much higher, and no other byte is changed
   pub row-raised : (d : List ℕ) (r at : ℕ) (b : Row) → at < 4294967296 → Has d r (row l at b)
       → Has (putAt d (r + offsetPlace) (bigEndian bodyWidth (numberIn d (r + offsetPlace) bodyWidth + rowSize l))) r
       (row l (at + rowSize l) b)
       × Kept d (putAt d (r + offsetPlace) (bigEndian bodyWidth (numberIn d (r + offsetPlace) bodyWidth + rowSize l))) r (r + rowSize l)
   row-raised d r at b small h =
-      let p : RowParts l ok d r at b = row-parts l ok d r at b h in
-      let u : length (row l at b) ≡ rowSize l = row-length l ok at b in
-      let i : r + rowSize l ≤ length d = omega (arith, has-fits d r (row l at b) (omega arith) h) in
-      let v : numberIn d (r + offsetPlace) bodyWidth ≡ at
-      = number-in d (r + offsetPlace) bodyWidth (omega arith) (omega arith) ∙ number-of-has d (r + offsetPlace) bodyWidth at small
-      (omega arith) (p .offset) in
-      let new : List ℕ = bigEndian bodyWidth (at + rowSize l) in
-      let m : length new ≡ bodyWidth = length-bigEndian bodyWidth (at + rowSize l) in
-      let fit : (r + offsetPlace) + length new ≤ length d = omega arith in
-      let d′ : List ℕ = over d (r + offsetPlace) new in
-      let k : Kept d d′ (r + offsetPlace) ((r + offsetPlace) + length new) = kept-over d (r + offsetPlace) new fit in
-      let q : RowParts l ok d′ r (at + rowSize l) b = record {
-        id = k .before r (idOf (b .body)) (omega (arith, id-length (b .body))) (p .id);
-        offset = over-has d (r + offsetPlace) new fit;
-        size = kept-has d d′ _ _ (r + lengthPlace) _ k (omega arith) (p .size);
-        mask = kept-has d d′ _ _ (r + maskPlace) _ k (omega arith) (p .mask);
-        zeros = kept-has d d′ _ _ (r + zeroPlace) _ k (omega arith) (p .zeros);
-      } in
-      let e : putAt d (r + offsetPlace) (bigEndian bodyWidth (numberIn d (r + offsetPlace) bodyWidth + rowSize l)) ≡ d′
-      = ap (λ (n : ℕ). putAt d (r + offsetPlace) (bigEndian bodyWidth (n + rowSize l))) v ∙ put-fits d (r + offsetPlace) new fit in
-      subst (λ (x : List ℕ). Has x r (row l (at + rowSize l) b) × Kept d x r (r + rowSize l)) (sym e) (
-        parts-row l ok d′ r (at + rowSize l) b q,
-        kept-wide d d′ (r + offsetPlace) ((r + offsetPlace) + length new) r (r + rowSize l) k
-            (omega arith) (omega arith),
-      )
+      subst (λ (n : ℕ). Has (putAt d (r + offsetPlace) (bigEndian bodyWidth (n + rowSize l))) r (row l (at + rowSize l) b)
+      × Kept d (putAt d (r + offsetPlace) (bigEndian bodyWidth (n + rowSize l))) r (r + rowSize l)) (sym (row-offset d r at b small h))
+      (row-placed d r at (at + rowSize l) b h)
 
   -- the offsets of all rows raised: the rows of the bodies that lie so much higher, and no other byte is changed
   pub rows-raised : (d : List ℕ) (i at : ℕ) (bs : List Row) → at + length (joined bs) < 4294967296 → Has d (rowPlace l i) (rowsOf l at bs)
@@ -116,9 +131,9 @@ module _ (l : Layout) (ok : LayoutOk l) where
 
   -- ---- a row in pieces
 
-  -- the row of a body, written in its five pieces, is the row written
+  -- the row of a body, written in its six pieces, is the row written
   pub with-row : (d : List ℕ) (r at : ℕ) (b : Row) (f : Fields) → reading (b .body) ≡ Read f → r + rowSize l ≤ length d
-      → withRow l d r at (b .body) (f .id) (f .mask) ≡ over d r (row l at b)
+      → withRow l d r at (b .body) (f .id) (f .mask) (b .used) ≡ over d r (row l at b)
   unfolding withRow row
   with-row d r at b f e room =
       let i : List ℕ = idOf (b .body) in
@@ -131,14 +146,18 @@ module _ (l : Layout) (ok : LayoutOk l) where
       let ln : length n ≡ bodyWidth = length-bigEndian bodyWidth (length (b .body)) in
       let lm : length m ≡ maskWidth = length-bigEndian maskWidth (modesOf (b .body)) in
       let lz : length z ≡ zeroSize l = length-bigEndian (zeroSize l) 0 in
+      let t : List ℕ = bigEndian (momentSize l) (b .used) in
+      let lt : length t ≡ momentSize l = length-bigEndian (momentSize l) (b .used) in
       let before : length (i ++ (o ++ (n ++ m))) ≡ zeroPlace
       = omega (arith, length-append i (o ++ (n ++ m)), length-append o (n ++ m), length-append n m) in
-      let whole : (i ++ (o ++ (n ++ m))) ++ z ≡ row l at b = simp append-assoc in
+      let most : length ((i ++ (o ++ (n ++ m))) ++ z) ≡ momentPlace l = omega (arith, length-append (i ++ (o ++ (n ++ m))) z) in
+      let whole : ((i ++ (o ++ (n ++ m))) ++ z) ++ t ≡ row l at b = simp append-assoc in
       rw (
         ← id-read (b .body) f e,
         ← modes-read (b .body) f e,
         put-four d r (r + offsetPlace) (r + lengthPlace) (r + maskPlace) i o n m (omega arith) (omega arith) (omega arith) (omega arith),
         put-next d r (i ++ (o ++ (n ++ m))) z (r + zeroPlace) (omega arith) (omega arith),
+        put-next d r ((i ++ (o ++ (n ++ m))) ++ z) t (r + momentPlace l) (omega arith) (omega arith),
       )
       (ap (over d r) whole)
 

@@ -19,9 +19,10 @@ use Rattle.image_spec.specs.declared.layout.Layout.{Layout}
 use Rattle.descriptor_spec.specs.Allowed.{idSize}
 use Rattle.image_spec.specs.Layout.{modeEdition, headerSize, headerWidth, editionPlace, modesPlace, countPlace, headerZero}
 use Rattle.image_spec.specs.Layout.{bodyWidth, maskWidth, offsetPlace, lengthPlace, maskPlace, zeroPlace, rowSize, zeroSize}
+use Rattle.image_spec.specs.Layout.{momentPlace, momentSize}
 use Rattle.image_spec.specs.Layout.{rowPlace, LayoutOk}
-use Rattle.image_spec.specs.Image.{Row, reading, idIn, maskIn, idOf, modesOf, header, row, rowsOf, joined, imageOf}
-use Rattle.image_spec.specs.Check.{rowId, rowOffset, rowLength}
+use Rattle.image_spec.specs.Image.{Row, reading, idIn, maskIn, idOf, modesOf, header, row, rowsOf, joined, imageOf, MomentOk}
+use Rattle.image_spec.specs.Check.{rowId, rowOffset, rowLength, rowMoment}
 use Rattle.image_spec.proofs.RowPlaceLaws.{place-first, place-next}
 use Rattle.image_spec.proofs.BodyLaws.{read-in}
 
@@ -165,19 +166,21 @@ module _ (l : Layout) (ok : LayoutOk l) where
 
   -- ---- the fields of a row
 
-  -- the five fields of a row stand at r one after the other
+  -- the six fields of a row stand at r one after the other
   pub record RowParts (s : List ℕ) (r at : ℕ) (b : Row) : Type 0 where
     pub id : Has s r (idOf (b .body))
     pub offset : Has s (r + offsetPlace) (bigEndian bodyWidth at)
     pub size : Has s (r + lengthPlace) (bigEndian bodyWidth (length (b .body)))
     pub mask : Has s (r + maskPlace) (bigEndian maskWidth (modesOf (b .body)))
     pub zeros : Has s (r + zeroPlace) (bigEndian (zeroSize l) 0)
+    pub moment : Has s (r + momentPlace l) (bigEndian (momentSize l) (b .used))
 
-  -- the five fields of a row stand one after the other
+  -- the six fields of a row stand one after the other
   pub row-parts : (s : List ℕ) (r at : ℕ) (b : Row) → Has s r (row l at b) → RowParts s r at b
   unfolding row
   row-parts s r at b h =
-      let z : List ℕ = bigEndian (zeroSize l) 0 in
+      let t : List ℕ = bigEndian (momentSize l) (b .used) in
+      let z : List ℕ = bigEndian (zeroSize l) 0 ++ t in
       let m : List ℕ = bigEndian maskWidth (modesOf (b .body)) in
       let n : List ℕ = bigEndian bodyWidth (length (b .body)) in
       let o : List ℕ = bigEndian bodyWidth at in
@@ -194,7 +197,9 @@ module _ (l : Layout) (ok : LayoutOk l) where
         offset = has-left s (r + offsetPlace) o _ h₁;
         size = has-left s (r + lengthPlace) n _ h₂;
         mask = has-left s (r + maskPlace) m z h₃;
-        zeros = h₄;
+        zeros = has-left s (r + zeroPlace) (bigEndian (zeroSize l) 0) t h₄;
+        moment = has-after s (r + zeroPlace) (zeroSize l) (r + momentPlace l) (bigEndian (zeroSize l) 0) t (length-bigEndian (zeroSize l) 0)
+            (omega arith) h₄;
       }
 
   -- where they stand one after the other the row stands
@@ -207,7 +212,9 @@ module _ (l : Layout) (ok : LayoutOk l) where
       (has-both s (r + lengthPlace) bodyWidth (r + maskPlace) (bigEndian bodyWidth (length (b .body))) _
       (length-bigEndian bodyWidth (length (b .body))) (omega arith) (p .size)
       (has-both s (r + maskPlace) maskWidth (r + zeroPlace) (bigEndian maskWidth (modesOf (b .body))) _
-      (length-bigEndian maskWidth (modesOf (b .body))) (omega arith) (p .mask) (p .zeros))))
+      (length-bigEndian maskWidth (modesOf (b .body))) (omega arith) (p .mask)
+      (has-both s (r + zeroPlace) (zeroSize l) (r + momentPlace l) (bigEndian (zeroSize l) 0) _ (length-bigEndian (zeroSize l) 0)
+      (omega arith) (p .zeros) (p .moment)))))
 
   -- what the numbers of the row at r say
   pub record RowSays (s : List ℕ) (r at : ℕ) (b : Row) : Type 0 where
@@ -217,11 +224,12 @@ module _ (l : Layout) (ok : LayoutOk l) where
     pub size : rowLength s r ≡ length (b .body)
     pub mask : numberAt s (r + maskPlace) maskWidth ≡ modesOf (b .body)
     pub zeros : numberAt s (r + zeroPlace) (zeroSize l) ≡ 0
+    pub moment : rowMoment l s r ≡ b .used
 
-  -- the row of a body that lies below 2 ^ 32 and is shorter than that says where it lies and how long it is
-  pub row-says : (s : List ℕ) (r at : ℕ) (b : Row) → at < 4294967296 → length (b .body) < 4294967296 → Has s r (row l at b)
+  -- the row of a body that lies below 2 ^ 32 and is shorter than that says where it lies, how long it is, and when it was last used
+  pub row-says : (s : List ℕ) (r at : ℕ) (b : Row) → at < 4294967296 → length (b .body) < 4294967296 → MomentOk l b → Has s r (row l at b)
       → RowSays s r at b
-  row-says s r at b small short h =
+  row-says s r at b small short dated h =
       let p : RowParts s r at b = row-parts s r at b h in
       let m : length (row l at b) ≡ rowSize l = row-length at b in
       let i : r + rowSize l ≤ length s = omega (arith, has-fits s r (row l at b) (omega arith) h) in
@@ -232,6 +240,7 @@ module _ (l : Layout) (ok : LayoutOk l) where
         size = number-of-has s (r + lengthPlace) bodyWidth (length (b .body)) short (omega arith) (p .size);
         mask = number-of-has s (r + maskPlace) maskWidth (modesOf (b .body)) (omega (arith, modes-small (b .body))) (omega arith) (p .mask);
         zeros = number-of-has s (r + zeroPlace) (zeroSize l) 0 (zero-fits (zeroSize l)) (omega arith) (p .zeros);
+        moment = number-of-has s (r + momentPlace l) (momentSize l) (b .used) (dated .fits) (omega arith) (p .moment);
       }
 
   -- bytes of which the numbers say so are the row of the body
@@ -248,4 +257,6 @@ module _ (l : Layout) (ok : LayoutOk l) where
             (has-of-number s (r + maskPlace) maskWidth bytes (omega arith));
         zeros = subst (λ (n : ℕ). Has s (r + zeroPlace) (bigEndian (zeroSize l) n)) (q .zeros)
             (has-of-number s (r + zeroPlace) (zeroSize l) bytes (omega arith));
+        moment = subst (λ (n : ℕ). Has s (r + momentPlace l) (bigEndian (momentSize l) n)) (q .moment)
+            (has-of-number s (r + momentPlace l) (momentSize l) bytes (omega arith));
       })

@@ -5,11 +5,29 @@ use native.Mathlib.Omega.{arith}
 use native.Mathlib.Nat.{mul-suc, mul-le-mul-left, mul-le-mul-right}
 use native.Mathlib.Numerals.{add-one}
 use Rattle.image_spec.specs.declared.layout.Layout.{Layout}
-use Rattle.image_spec.specs.Layout.{headerSize, edition1, rowSize, mostRows, rowPlace, LayoutOk}
+use Rattle.image_spec.specs.Layout.{headerSize, edition1, edition2, rowSize, mostRows, rowPlace, LayoutOk}
 
 -- edition 1 is allowed
 pub edition1-ok : LayoutOk edition1
-edition1-ok = record { numbered = omega arith; wide = omega arith; narrow = omega arith; few = omega arith }
+edition1-ok = record {
+  numbered = omega arith;
+  wide = omega arith;
+  last = omega arith;
+  moment = omega arith;
+  narrow = omega arith;
+  few = omega arith;
+}
+
+-- edition 2 is allowed
+pub edition2-ok : LayoutOk edition2
+edition2-ok = record {
+  numbered = omega arith;
+  wide = omega arith;
+  last = omega arith;
+  moment = omega arith;
+  narrow = omega arith;
+  few = omega arith;
+}
 
 module _ (l : Layout) where
   -- the first row stands after the header

@@ -13,7 +13,7 @@ use Rattle.descriptor_spec.specs.declared.Fields.{Fields}
 use Rattle.image_spec.specs.declared.Held.{Held}
 use Rattle.image_spec.specs.declared.layout.Layout.{Layout}
 use Rattle.image_spec.specs.Layout.{rowSize, rowPlace, LayoutOk}
-use Rattle.image_spec.specs.Image.{Row, rowOf, reading, idOf, row, rowsOf, joined, BodyOk, seenWith}
+use Rattle.image_spec.specs.Image.{Row, reading, idOf, row, rowsOf, joined, BodyOk, seenWith, Every, MomentOk}
 use Rattle.image_spec.specs.Check.{rowId, rowOffset, rowLength, rowAt, heldWith, rowsFrom, rowsHeldFrom}
 use Rattle.image_spec.proofs.BodyLaws.{read-in}
 use Rattle.image_spec.proofs.RowPlaceLaws.{place-next, place-order}
@@ -37,13 +37,14 @@ module _ (l : Layout) (ok : LayoutOk l) where
   -- the rows of the bodies stand from row i on, and the bodies from `at` on; they are allowed after those of `seen`
   pub record Run (s : List ℕ) (seen : List Row) (i at : ℕ) (bs : List Row) : Type 0 where
     pub each : AllFrom BodyOk seenWith seen bs
+    pub moments : Every (MomentOk l) bs
     pub has-rows : Has s (rowPlace l i) (rowsOf l at bs)
     pub has-bodies : Has s at (joined bs)
 
   -- no body stands everywhere
   pub run-none : (s : List ℕ) (seen : List Row) (i at : ℕ) → Run s seen i at []
   unfolding rowsOf joined
-  run-none s seen i at = record { each = tt; has-rows = has-nil s (rowPlace l i); has-bodies = has-nil s at }
+  run-none s seen i at = record { each = tt; moments = tt; has-rows = has-nil s (rowPlace l i); has-bodies = has-nil s at }
 
   -- the first body stands with its row
   pub run-first : (s : List ℕ) (seen : List Row) (i at : ℕ) (b : Row) (bs : List Row) → Run s seen i at (b ∷ bs)
@@ -55,6 +56,7 @@ module _ (l : Layout) (ok : LayoutOk l) where
         record {
           reads = r .1;
           new = g .each .0 .new;
+          dated = g .moments .0;
           has-row = has-left s (rowPlace l i) (row l at b) (rowsOf l (at + length (b .body)) bs) (g .has-rows);
           has-body = has-left s at (b .body) (joined bs) (g .has-bodies);
         },
@@ -66,6 +68,7 @@ module _ (l : Layout) (ok : LayoutOk l) where
   unfolding rowsOf joined
   run-rest s seen i at b bs g = record {
     each = g .each .1;
+    moments = g .moments .1;
     has-rows = has-after s (rowPlace l i) (rowSize l) (rowPlace l (i + 1)) (row l at b) (rowsOf l (at + length (b .body)) bs)
         (row-length l ok at b) (sym (place-next l i))
         (g .has-rows);
@@ -78,6 +81,7 @@ module _ (l : Layout) (ok : LayoutOk l) where
   unfolding rowsOf joined
   run-more s seen i at b f bs h g = record {
     each = (record { reads = is-read (b .body) f (h .reads); new = h .new }, g .each);
+    moments = (h .dated, g .moments);
     has-rows = has-both s (rowPlace l i) (rowSize l) (rowPlace l (i + 1)) (row l at b) (rowsOf l (at + length (b .body)) bs)
         (row-length l ok at b) (sym (place-next l i))
         (h .has-row) (g .has-rows);
@@ -121,7 +125,7 @@ module _ (l : Layout) (ok : LayoutOk l) where
   -- the rows of bodies that stand pass the check; what is held is what is held of the bodies
   pub rows-complete : (s id : List ℕ) (bs seen : List Row) (i at : ℕ) (h : Held) → at + 32768 * length bs < 4294967296
       → Past l ok s seen i → Run s seen i at bs
-      → rowsFrom l s id (length bs) i at h ≡ got (heldFrom id at h bs) (at + length (joined bs))
+      → rowsFrom l s id (length bs) i at h ≡ got (heldFrom id i at h bs) (at + length (joined bs))
   unfolding rowsFrom heldFrom joined
   rows-complete s id [] seen i at h small p g = ap (got h) (sym (add-zero at))
   rows-complete s id (b ∷ bs) seen i at h small p g =
@@ -131,17 +135,17 @@ module _ (l : Layout) (ok : LayoutOk l) where
       let q : RowSays l ok s (rowPlace l i) at b = stands-says l ok s seen i at b f (omega arith) w in
       let short : length (b .body) ≤ 32768 = read-in (b .body) f (w .reads) .short in
       let next : ℕ = at + length (b .body) in
-      let held : heldWith (same (rowId s (rowPlace l i)) id) h at (rowLength s (rowPlace l i)) f
-      ≡ heldAfter (same (idOf (b .body)) id) h at
+      let held : heldWith (same (rowId s (rowPlace l i)) id) h i at (rowLength s (rowPlace l i)) f
+      ≡ heldAfter (same (idOf (b .body)) id) h i at
       (length (b .body)) (reading (b .body))
-      = ap₂ (λ (y : List ℕ) (n : ℕ). heldWith (same y id) h at n f) (q .id) (q .size)
-      ∙ ap (heldAfter (same (idOf (b .body)) id) h at (length (b .body))) (sym (w .reads)) in
+      = ap₂ (λ (y : List ℕ) (n : ℕ). heldWith (same y id) h i at n f) (q .id) (q .size)
+      ∙ ap (heldAfter (same (idOf (b .body)) id) h i at (length (b .body))) (sym (w .reads)) in
       let end : next + length (joined bs) ≡ at + length (b .body ++ joined bs) = omega (arith, length-append (b .body) (joined bs)) in
       bind-got (rowAt l s i at) _ f next (row-complete l ok s seen i at b f (omega arith) p w)
       ∙ ap (rowsFrom l s id (length bs) (i + 1) next) held
       ∙ rows-complete s id bs (seen ++ (b ∷ [])) (i + 1) next _ (omega arith) (past-more l ok s seen i b p (q .id))
       (run-rest s seen i at b bs g)
-      ∙ ap (got (heldFrom id at h (b ∷ bs))) end
+      ∙ ap (got (heldFrom id i at h (b ∷ bs))) end
 
   -- the parts that the rows of bodies that stand name are the bodies
   pub rows-bodies : (s : List ℕ) (bs seen : List Row) (i at : ℕ) → at + 32768 * length bs < 4294967296 → Run s seen i at bs
@@ -155,5 +159,6 @@ module _ (l : Layout) (ok : LayoutOk l) where
       let short : length (b .body) ≤ 32768 = read-in (b .body) (x .0) (w .reads) .short in
       let e : part s (rowOffset s (rowPlace l i)) (rowLength s (rowPlace l i)) ≡ b .body
       = ap₂ (part s) (q .offset) (q .size) ∙ has-part s at (b .body) (w .has-body) in
-      ap₂ (λ (y : List ℕ) (ys : List Row). rowOf y ∷ ys) e
+      ap₂ (λ (y : Row) (ys : List Row). y ∷ ys)
+      (ap₂ (λ (y : List ℕ) (t : ℕ). record { body = y; used = t }) e (q .moment))
       (rows-bodies s bs (seen ++ (b ∷ [])) (i + 1) (at + length (b .body)) (omega arith) (run-rest s seen i at b bs g))

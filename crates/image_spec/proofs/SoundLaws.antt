@@ -140,7 +140,7 @@ module _ (l : Layout) (ok : LayoutOk l) where
 
   -- the rows and the bodies of an image that s begins with stand
   pub holds-run : (s : List ℕ) (bs : List Row) → Holds l s bs → Run l ok s [] 0 (rowPlace l (length bs)) bs
-  holds-run s bs h = let w = image-stands s bs h in record { each = h .rows .each; has-rows = w .has-rows; has-bodies = w .has-bodies }
+  holds-run s bs h = let w = image-stands s bs h in record { each = h .rows .each; moments = h .rows .moments; has-rows = w .has-rows; has-bodies = w .has-bodies }
 
   -- an image that s begins with lies within s
   pub holds-room : (s : List ℕ) (bs : List Row) → Holds l s bs → length (imageOf l bs) ≤ length s
@@ -168,7 +168,7 @@ module _ (l : Layout) (ok : LayoutOk l) where
       let room : rowPlace l n ≤ length s = omega (arith, holds-room s bs h, image-length l ok bs) in
       rw (count-of s bs h, le-leb headerSize (length s) (q .inside), says-fits s n few q, le-leb (rowPlace l n) (length s) room)
       (rows-complete l ok s id bs [] 0 (rowPlace l n) Missing (place-small l ok n few) (past-none l ok s) (holds-run s bs h) ∙ ap
-      (got (heldFrom id (rowPlace l n) Missing bs)) (sym (image-length l ok bs)))
+      (got (heldFrom id 0 (rowPlace l n) Missing bs)) (sym (image-length l ok bs)))
 
   -- what a check that passes says before the rows
   pub record Checked (s id : List ℕ) (h : Held) (end : ℕ) : Type 0 where
@@ -208,7 +208,7 @@ module _ (l : Layout) (ok : LayoutOk l) where
         has-bodies = g .has-bodies;
       } in (
         bs,
-        has-holds s bs (record { few = omega (arith, c, q .1); each = g .each }) (run-whole s bs w),
+        has-holds s bs (record { few = omega (arith, c, q .1); each = g .each; moments = g .moments }) (run-whole s bs w),
         omega (arith, y .3, ap (rowPlace l) c, image-length l ok bs),
       )
 

@@ -1,13 +1,13 @@
 -- The check of an image and the lookup of an id, in one pass over the rows: what the code answers. A reader of the promises does not
 -- need this page.
-use mathlib.Core.Bool.{Bool, true, false, not, _&&_}
+use mathlib.Core.Bool.{Bool, true, false, not, cond, _&&_}
 use mathlib.Core.List.{List, [], _∷_}
 use Prim.Native.Nat.{ℕ, zero, suc, _+_}
 use lib.ListN.{length}
 use lib.Dec.{leb, eqb}
 use Rattle.octets.specs.Bytes.{part, same}
 use Rattle.octets.specs.Span.{Span, spanOf, inside}
-use Rattle.octets.specs.Number.{numberAt}
+use Rattle.octets.specs.Number.{numberAt, numberIn}
 use Rattle.exact.specs.Reads.{Got, got, refused, bind, guard}
 use Rattle.descriptor_spec.specs.declared.Fields.{Fields}
 use Rattle.descriptor_spec.specs.declared.Reading.{Reading}
@@ -23,10 +23,14 @@ use Rattle.image_spec.specs.declared.layout.Layout.{Layout}
 use Rattle.descriptor_spec.specs.Allowed.{idSize}
 use Rattle.image_spec.specs.Layout.{modeEdition, headerSize, headerWidth, editionPlace, modesPlace, countPlace, headerZero}
 use Rattle.image_spec.specs.Layout.{bodyWidth, maskWidth, offsetPlace, lengthPlace, maskPlace, zeroPlace, mostRows, zeroSize}
-use Rattle.image_spec.specs.Layout.{rowPlace}
-use Rattle.image_spec.specs.Image.{Row, rowOf, reading}
+use Rattle.image_spec.specs.Layout.{rowPlace, momentPlace, momentSize, edition1, edition2}
+use Rattle.image_spec.specs.Image.{Row, reading}
 
 -- ---- numbers of the header and of the row at r
+
+-- the layout that the image edition in the header names: that of edition 2 for 2, and else that of edition 1, whose check refuses another
+unfoldable pub layoutOf : List ℕ → Layout
+layoutOf s = cond (eqb (numberIn s editionPlace headerWidth) (edition2 .edition)) edition2 edition1
 
 -- the row count
 unfoldable pub rowCount : List ℕ → ℕ
@@ -43,6 +47,10 @@ rowOffset s r = numberAt s (r + offsetPlace) bodyWidth
 -- the body's length
 abbrev pub rowLength : List ℕ → ℕ → ℕ
 rowLength s r = numberAt s (r + lengthPlace) bodyWidth
+
+-- the last-used moment
+abbrev pub rowMoment : Layout → List ℕ → ℕ → ℕ
+rowMoment l s r = numberAt s (r + momentPlace l) (momentSize l)
 
 -- the editions are these, there are no more rows than the most, and zero follows
 unfoldable pub headerFits : Layout → List ℕ → Bool
@@ -82,17 +90,17 @@ rowAt l s i at =
 
 -- ---- all rows
 
--- the body at a place is the one looked for, or what was held before stays
-abbrev pub heldWith : Bool → Held → ℕ → ℕ → Fields → Held
-heldWith true h at n f = Body at n f
-heldWith false h at n f = h
+-- the body of row i at a place is the one looked for, or what was held before stays
+abbrev pub heldWith : Bool → Held → ℕ → ℕ → ℕ → Fields → Held
+heldWith true h i at n f = Body i at n f
+heldWith false h i at n f = h
 
 -- k rows from row i on, whose bodies begin at `at`: the body with the id, and the place after the last
 unfoldable pub rowsFrom : Layout → List ℕ → List ℕ → ℕ → ℕ → ℕ → Held → Got Held
 rowsFrom l s id zero i at h = got h at
 rowsFrom l s id (suc k) i at h =
     let r = rowPlace l i in
-    bind (rowAt l s i at) (λ f next. rowsFrom l s id k (i + 1) next (heldWith (same (rowId s r) id) h at (rowLength s r) f))
+    bind (rowAt l s i at) (λ f next. rowsFrom l s id k (i + 1) next (heldWith (same (rowId s r) id) h i at (rowLength s r) f))
 
 -- the check of the image that s begins with: the body with the id, and where the image ends
 unfoldable pub checked : Layout → List ℕ → List ℕ → Got Held
@@ -120,13 +128,13 @@ isSound Unsound = false
 
 -- a body with the id is held
 abbrev pub isHeld : ImageCheck → Bool
-isHeld (Sound n end (Body at len f)) = true
+isHeld (Sound n end (Body i at len f)) = true
 isHeld (Sound n end Missing) = false
 isHeld Unsound = false
 
 -- where the body is held
 abbrev pub heldAt : Held → Finding
-heldAt (Body at n f) = Found at n
+heldAt (Body i at n f) = Found at n
 heldAt Missing = NotFound
 
 -- the lookup by what the check of the image says
@@ -157,7 +165,9 @@ bodySpan s NotFound = spanOf 0 0
 -- k rows from row i on
 unfoldable pub rowsHeldFrom : Layout → List ℕ → ℕ → ℕ → List Row
 rowsHeldFrom l s zero i = []
-rowsHeldFrom l s (suc k) i = rowOf (part s (rowOffset s (rowPlace l i)) (rowLength s (rowPlace l i))) ∷ rowsHeldFrom l s k (i + 1)
+rowsHeldFrom l s (suc k) i =
+    let r = rowPlace l i in
+    record { body = part s (rowOffset s r) (rowLength s r); used = rowMoment l s r } ∷ rowsHeldFrom l s k (i + 1)
 
 -- the rows of an image
 unfoldable pub rowsHeld : Layout → List ℕ → List Row

@@ -13,7 +13,7 @@ use Rattle.image_spec.specs.declared.Added.the-variants.{Done, Full}
 use Rattle.image_spec.specs.declared.layout.Layout.{Layout}
 use Rattle.descriptor_spec.specs.Allowed.{idSize}
 use Rattle.image_spec.specs.Layout.{headerWidth, countPlace, bodyWidth, maskWidth, offsetPlace, lengthPlace, maskPlace, zeroPlace}
-use Rattle.image_spec.specs.Layout.{rowSize, mostRows, zeroSize, rowPlace}
+use Rattle.image_spec.specs.Layout.{rowSize, mostRows, zeroSize, momentPlace, momentSize, rowPlace}
 use Rattle.image_spec.specs.Image.{Row, imageOf}
 
 -- ---- what is written
@@ -25,22 +25,23 @@ raised l d (suc k) i =
     let at = rowPlace l i + offsetPlace in
     raised l (putAt d at (bigEndian bodyWidth (numberIn d at bodyWidth + rowSize l))) k (i + 1)
 
--- the row at r of a body at `at`: its id, which stands at `id` in it, its offset and length, its mask, and zero
-unfoldable pub withRow : Layout → List ℕ → ℕ → ℕ → List ℕ → ℕ → ℕ → List ℕ
-withRow l d r at b id mask =
+-- the row at r of a body at `at`: its id, which stands at `id` in it, its offset and length, its mask, zero, and its last-used moment
+unfoldable pub withRow : Layout → List ℕ → ℕ → ℕ → List ℕ → ℕ → ℕ → ℕ → List ℕ
+withRow l d r at b id mask used =
     let d₁ = putAt d r (part b id idSize) in
     let d₂ = putAt d₁ (r + offsetPlace) (bigEndian bodyWidth at) in
     let d₃ = putAt d₂ (r + lengthPlace) (bigEndian bodyWidth (length b)) in
     let d₄ = putAt d₃ (r + maskPlace) (bigEndian maskWidth mask) in
-    putAt d₄ (r + zeroPlace) (bigEndian (zeroSize l) 0)
+    let d₅ = putAt d₄ (r + zeroPlace) (bigEndian (zeroSize l) 0) in
+    putAt d₅ (r + momentPlace l) (bigEndian (momentSize l) used)
 
 -- n rows are held, whose bodies end at `end`: the bodies move up by a row, the offsets follow, row and body are added last, and the row
 -- count is one more
-unfoldable pub grown : Layout → List ℕ → ℕ → ℕ → List ℕ → ℕ → ℕ → List ℕ
-grown l d n end b id mask =
+unfoldable pub grown : Layout → List ℕ → ℕ → ℕ → List ℕ → ℕ → ℕ → ℕ → List ℕ
+grown l d n end b id mask used =
     let d₁ = movedUp d (rowPlace l n) end (rowSize l) in
     let d₂ = raised l d₁ n 0 in
-    let d₃ = withRow l d₂ (rowPlace l n) (end + rowSize l) b id mask in
+    let d₃ = withRow l d₂ (rowPlace l n) (end + rowSize l) b id mask used in
     let d₄ = putAt d₃ (end + rowSize l) b in
     putAt d₄ countPlace (bigEndian headerWidth (n + 1))
 
@@ -58,8 +59,8 @@ unfoldable pub addedOf : Layout → List ℕ → ℕ → ℕ → List ℕ → �
 addedOf l d n end b id = cond (fits l d n end b id) Done Full
 
 -- else the buffer is as it was
-unfoldable pub afterAdd : Layout → List ℕ → ℕ → ℕ → List ℕ → ℕ → ℕ → List ℕ
-afterAdd l d n end b id mask = cond (fits l d n end b id) (grown l d n end b id mask) d
+unfoldable pub afterAdd : Layout → List ℕ → ℕ → ℕ → List ℕ → ℕ → ℕ → ℕ → List ℕ
+afterAdd l d n end b id mask used = cond (fits l d n end b id) (grown l d n end b id mask used) d
 
 -- ---- over a buffer that holds rows
 

@@ -4,7 +4,7 @@ use mathlib.Core.Path.{_≡_}
 use mathlib.Core.Bool.{Bool, true, false, _||_}
 use mathlib.Core.List.{List, [], _∷_, _++_}
 use mathlib.Core.Option.{Option, none, some}
-use Prim.Native.Nat.{ℕ, _+_, _≤_}
+use Prim.Native.Nat.{ℕ, _+_, _^_, _≤_, _<_}
 use lib.ListN.{length, replicate}
 use Rattle.octets.specs.Bytes.{part, same}
 use Rattle.octets.specs.Number.{bigEndian}
@@ -15,7 +15,7 @@ use Rattle.descriptor_spec.specs.Reader.{readOf}
 use Rattle.descriptor_spec.specs.Code.{readingOf}
 use Rattle.image_spec.specs.declared.layout.Layout.{Layout}
 use Rattle.descriptor_spec.specs.Allowed.{idSize}
-use Rattle.image_spec.specs.Layout.{modeEdition, headerWidth, bodyWidth, maskWidth, mostRows, zeroSize, rowPlace}
+use Rattle.image_spec.specs.Layout.{modeEdition, headerWidth, bodyWidth, maskWidth, mostRows, zeroSize, momentSize, rowPlace}
 
 -- ---- what reading says of a body
 
@@ -51,25 +51,27 @@ modesOf b = maskIn (reading b)
 
 -- ---- the image of a list of rows
 
--- a row of the table of contents: the body that it names
+-- a row of the table of contents: the body that it names, and the moment of its last use, in seconds
 pub record Row : Type 0 where
   pub body : List ℕ
+  pub used : ℕ
 
--- the row of a body
+-- the row of a body that was last used at 0, as every row of edition 1 is
 abbrev pub rowOf : List ℕ → Row
-rowOf b = record { body = b }
+rowOf b = record { body = b; used = 0 }
 
 -- image edition (2 bytes), mode edition (2), row count (2), zero (2)
 unfoldable pub header : Layout → ℕ → List ℕ
 header l n = bigEndian headerWidth (l .edition)
     ++ (bigEndian headerWidth modeEdition ++ (bigEndian headerWidth n ++ bigEndian headerWidth 0))
 
--- the bytes of a row whose body lies at the place: descriptor id (16), body offset (4), body length (4), mask (1), and zero to
--- the row's end
+-- the bytes of a row whose body lies at the place: descriptor id (16), body offset (4), body length (4), mask (1), zero (7), and the
+-- last-used moment (none in edition 1, 8 in edition 2)
 unfoldable pub row : Layout → ℕ → Row → List ℕ
 row l at r = idOf (r .body)
     ++ (bigEndian bodyWidth at
-    ++ (bigEndian bodyWidth (length (r .body)) ++ (bigEndian maskWidth (modesOf (r .body)) ++ bigEndian (zeroSize l) 0)))
+    ++ (bigEndian bodyWidth (length (r .body))
+    ++ (bigEndian maskWidth (modesOf (r .body)) ++ (bigEndian (zeroSize l) 0 ++ bigEndian (momentSize l) (r .used)))))
 
 -- the bytes of rows whose bodies lie back to back from the place on
 unfoldable pub rowsOf : Layout → ℕ → List Row → List ℕ
@@ -101,10 +103,20 @@ pub record BodyOk (seen : List Row) (r : Row) : Type 0 where
 abbrev pub seenWith : List Row → Row → List Row
 seenWith seen r = seen ++ (r ∷ [])
 
--- no more rows than there may be, whose bodies read with 0 and whose ids differ
+-- each row of the list is so
+abbrev pub Every : (Row → Type 0) → List Row → Type 0
+Every P [] = Unit {0}
+Every P (r ∷ rs) = P r × Every P rs
+
+-- the last-used moment of a row fits its bytes
+pub record MomentOk (l : Layout) (r : Row) : Type 0 where
+  pub fits : r .used < 256 ^ momentSize l
+
+-- no more rows than there may be, whose bodies read with 0, whose ids differ, and whose moments fit
 pub record RowsOk (l : Layout) (rs : List Row) : Type 0 where
   pub few : length rs ≤ mostRows l
   pub each : AllFrom BodyOk seenWith [] rs
+  pub moments : Every (MomentOk l) rs
 
 -- the image of the rows, followed by anything
 pub record Holds (l : Layout) (s : List ℕ) (rs : List Row) : Type 0 where

@@ -1,4 +1,4 @@
--- What the crates above stand on, in the code's own answers: for a layout, and at the end at edition 1. A reader of the promises does not
+-- What the crates above stand on, in the code's own answers, for any layout that may be. A reader of the promises does not
 -- need this page.
 use mathlib.Core.Path.{_≡_}
 use mathlib.Core.Logic.{_↔_, _⊎_}
@@ -22,10 +22,11 @@ use Rattle.image_spec.specs.declared.ImageCheck.{ImageCheck}
 use Rattle.image_spec.specs.declared.ImageCheck.the-variants.{Sound, Unsound}
 use Rattle.image_spec.specs.declared.Added.the-variants.{Done, Full}
 use Rattle.image_spec.specs.declared.layout.Layout.{Layout}
-use Rattle.image_spec.specs.Layout.{modeEdition, headerWidth, editionPlace, modesPlace, edition1, rowSize, mostRows, rowPlace}
+use Rattle.image_spec.specs.Layout.{modeEdition, headerWidth, editionPlace, modesPlace, edition1, edition2, rowSize, mostRows}
+use Rattle.image_spec.specs.Layout.{rowPlace}
 use Rattle.image_spec.specs.Layout.{LayoutOk}
-use Rattle.image_spec.specs.Image.{Row, rowOf, reading, isRead, idOf, modesOf, imageOf, RowsOk, Holds, bodyWith}
-use Rattle.image_spec.specs.Check.{rowLength, rowAt, checkOf, rowsHeld}
+use Rattle.image_spec.specs.Image.{Row, rowOf, reading, isRead, idOf, modesOf, imageOf, MomentOk, RowsOk, Holds, bodyWith}
+use Rattle.image_spec.specs.Check.{rowLength, rowAt, layoutOf, checkOf, rowsHeld}
 use Rattle.image_spec.specs.Grow.{addedOf, afterAdd, hasRoom, withBody}
 
 -- ---- where rows stand
@@ -81,16 +82,18 @@ RowsNamedFor l = (s : List ℕ) (rs : List Row) → Holds l s rs → rowsHeld l 
 
 -- ---- what a check says
 
--- the body of `len` bytes at `at` in s, of which f was read, is the one with the id
-pub record HeldBody (s id : List ℕ) (rs : List Row) (at len : ℕ) (f : Fields) : Type 0 where
+-- row `row` has the body of `len` bytes at `at` in s, of which f was read, and it is the one with the id
+pub record HeldBody (s id : List ℕ) (rs : List Row) (row at len : ℕ) (f : Fields) : Type 0 where
   pub which : bodyWith id rs ≡ some (part s at len)
   pub inside : at + len ≤ length s
   pub reads : reading (part s at len) ≡ Read f
+  pub below : row < length rs
+  pub there : getD rs row (rowOf []) .body ≡ part s at len
 
 -- what is held is the body with the id, or none has it
 abbrev pub HeldIs : List ℕ → List ℕ → List Row → Held → Type 0
 HeldIs s id rs Missing = bodyWith id rs ≡ none
-HeldIs s id rs (Body at len f) = HeldBody s id rs at len f
+HeldIs s id rs (Body row at len f) = HeldBody s id rs row at len f
 
 -- the check of an image says how many rows it has, where it ends, and which body has the id
 abbrev pub CheckTellsFor : Layout → Type 0
@@ -121,7 +124,7 @@ EditionsCheckedFor l = (s id : List ℕ)
 -- the body that is held lies in the image, and its fields are those that were read of it
 abbrev pub HeldFits : List ℕ → Held → Type 0
 HeldFits s Missing = Unit {0}
-HeldFits s (Body at len f) = (at + len ≤ length s) × (reading (part s at len) ≡ Read f)
+HeldFits s (Body row at len f) = (at + len ≤ length s) × (reading (part s at len) ≡ Read f)
 
 -- the image ends in the buffer, and so does what is held
 abbrev pub CheckFits : List ℕ → ImageCheck → Type 0
@@ -139,42 +142,52 @@ CheckInsideFor l = (s id : List ℕ) → AreBytes s → CheckFits s (checkOf l s
 abbrev pub BodyAddedFor : Layout → Type 0
 BodyAddedFor l = (d : List ℕ) (rs : List Row) (r : Row) (f : Fields) → Holds l d rs → reading (r .body) ≡ Read f
     → (addedOf l d (length rs) (length (imageOf l rs)) (r .body) (f .id) ≡ cond (hasRoom l d rs r) Done Full)
-    × (afterAdd l d (length rs) (length (imageOf l rs)) (r .body) (f .id) (f .mask) ≡ cond (hasRoom l d rs r) (withBody l d rs r) d)
+    × (afterAdd l d (length rs) (length (imageOf l rs)) (r .body) (f .id) (f .mask) (r .used) ≡ cond (hasRoom l d rs r) (withBody l d rs r) d)
 
 -- where there is room, and none of the rows has its id, the larger buffer holds the rows and the new one; its id then has its body, and
 -- any other id what it had
 pub record OneMoreFor (l : Layout) : Type 0 where
   pub holds : (d : List ℕ) (rs : List Row) (r : Row) → Holds l d rs → hasRoom l d rs r ≡ true → isRead (reading (r .body)) ≡ true
-      → bodyWith (idOf (r .body)) rs ≡ none
+      → bodyWith (idOf (r .body)) rs ≡ none → MomentOk l r
       → Holds l (withBody l d rs r) (rs ++ (r ∷ []))
   pub mine : (rs : List Row) (r : Row) → bodyWith (idOf (r .body)) rs ≡ none → bodyWith (idOf (r .body)) (rs ++ (r ∷ [])) ≡ some (r .body)
   pub others : (id : List ℕ) (rs : List Row) (r : Row) → (idOf (r .body) ≡ id → ⊥) → bodyWith id (rs ++ (r ∷ [])) ≡ bodyWith id rs
 
--- ---- at edition 1
+-- ---- for every layout that may be
 
 abbrev pub BodyWithExactly : Type 0
-BodyWithExactly = BodyWithExactlyFor edition1
+BodyWithExactly = (l : Layout) → BodyWithExactlyFor l
 
 abbrev pub RowsNamed : Type 0
-RowsNamed = RowsNamedFor edition1
+RowsNamed = (l : Layout) → LayoutOk l → RowsNamedFor l
 
 abbrev pub CheckTells : Type 0
-CheckTells = CheckTellsFor edition1
+CheckTells = (l : Layout) → LayoutOk l → CheckTellsFor l
 
 abbrev pub CheckSays : Type 0
-CheckSays = CheckSaysFor edition1
+CheckSays = (l : Layout) → LayoutOk l → CheckSaysFor l
 
 abbrev pub CheckUnsound : Type 0
-CheckUnsound = CheckUnsoundFor edition1
+CheckUnsound = (l : Layout) → LayoutOk l → CheckUnsoundFor l
 
 abbrev pub EditionsChecked : Type 0
-EditionsChecked = EditionsCheckedFor edition1
+EditionsChecked = (l : Layout) → LayoutOk l → EditionsCheckedFor l
 
 abbrev pub CheckInside : Type 0
-CheckInside = CheckInsideFor edition1
+CheckInside = (l : Layout) → LayoutOk l → CheckInsideFor l
 
 abbrev pub BodyAdded : Type 0
-BodyAdded = BodyAddedFor edition1
+BodyAdded = (l : Layout) → LayoutOk l → BodyAddedFor l
 
 abbrev pub OneMore : Type 0
-OneMore = OneMoreFor edition1
+OneMore = (l : Layout) → LayoutOk l → OneMoreFor l
+
+-- edition 1 and edition 2 may be, and so may the layout that the header of an image names
+abbrev pub Edition1Ok : Type 0
+Edition1Ok = LayoutOk edition1
+
+abbrev pub Edition2Ok : Type 0
+Edition2Ok = LayoutOk edition2
+
+abbrev pub NamedOk : Type 0
+NamedOk = (s : List ℕ) → LayoutOk (layoutOf s)

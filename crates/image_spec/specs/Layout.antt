@@ -53,15 +53,19 @@ lengthPlace = 20
 abbrev pub maskPlace : ℕ
 maskPlace = 24
 
--- where zero stands in a row, up to the row's end
+-- where zero stands in a row, up to the last-used moment
 abbrev pub zeroPlace : ℕ
 zeroPlace = 25
 
 -- ---- what an edition fixes
 
--- edition 1: rows of 32 bytes, at most 64 of them
+-- edition 1: rows of 32 bytes without a last-used moment, at most 64 of them
 abbrev pub edition1 : Layout
-edition1 = record { edition = 1; «row_size» = 32; «most_rows» = 64 }
+edition1 = record { edition = 1; «most_rows» = 64; «moment_place» = 32; «row_size» = 32 }
+
+-- edition 2: rows of 40 bytes, of which the last 8 are the last-used moment, at most 1,024 of them
+abbrev pub edition2 : Layout
+edition2 = record { edition = 2; «most_rows» = 1024; «moment_place» = 32; «row_size» = 40 }
 
 -- the bytes of a row
 abbrev pub rowSize : Layout → ℕ
@@ -71,18 +75,28 @@ rowSize l = l .«row_size»
 abbrev pub mostRows : Layout → ℕ
 mostRows l = l .«most_rows»
 
+-- where the last-used moment stands in a row, up to the row's end
+abbrev pub momentPlace : Layout → ℕ
+momentPlace l = l .«moment_place»
+
 -- the bytes of zero in a row
 abbrev pub zeroSize : Layout → ℕ
-zeroSize l = rowSize l - zeroPlace
+zeroSize l = momentPlace l - zeroPlace
+
+-- the bytes of a last-used moment
+abbrev pub momentSize : Layout → ℕ
+momentSize l = rowSize l - momentPlace l
 
 -- where row i stands; where the bodies of so many rows begin
 unfoldable pub rowPlace : Layout → ℕ → ℕ
 rowPlace l i = headerSize + rowSize l * i
 
--- what an edition may fix: its number and a row count fit their bytes in the header, a row has room for its fields, and every offset fits
--- its bytes in a row
+-- what an edition may fix: its number and a row count fit their bytes in the header, a row has room for its fields, a moment has at most 8
+-- bytes, and every offset fits its bytes in a row
 pub record LayoutOk (l : Layout) : Type 0 where
   pub numbered : l .edition < 65536
-  pub wide : zeroPlace ≤ rowSize l
+  pub wide : zeroPlace ≤ momentPlace l
+  pub last : momentPlace l ≤ rowSize l
+  pub moment : momentSize l ≤ 8
   pub narrow : rowSize l ≤ 1024
   pub few : mostRows l < 65536

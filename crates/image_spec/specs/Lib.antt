@@ -3,6 +3,7 @@ pub mod Image
 pub mod Check
 pub mod NewImage
 pub mod Grow
-pub mod Edition1
+pub mod Edition2
+pub mod Readable
 pub mod Promises
 pub mod Laws

@@ -1,10 +1,10 @@
 -- What is promised of stored images, and nothing else. Each statement `NameOfIt` is proved in proofs/Promises.antt as `name-of-it`.
--- Document 01, "The stored image"; the numbers of a lookup are those of include/cap.h.
+-- Document 01, "The stored image", as document 02 §5 amends it; the numbers of a lookup are those of include/cap.h.
 use mathlib.Core.Path.{_≡_}
 use mathlib.Core.Logic.{_↔_, _⊎_}
 use mathlib.Core.List.{List, [], _∷_, _++_}
 use mathlib.Core.Option.{none, some}
-use Prim.Native.Nat.{ℕ, _+_, _*_, _/_, _%_, _≤_, _<_}
+use Prim.Native.Nat.{ℕ, _+_, _*_, _/_, _%_, _^_, _≤_, _<_}
 use lib.ListN.{length, drop}
 use Rattle.octets.specs.Bytes.{AreBytes, part}
 use Rattle.octets.specs.Span.{spanOf}
@@ -16,10 +16,13 @@ use Rattle.descriptor_spec.specs.Reader.{readOf}
 use Rattle.descriptor_spec.specs.Code.{readingOf}
 use Rattle.descriptor_spec.specs.Numbers as descriptor
 use Rattle.image_spec.specs.declared.StoredNumbers.{StoredNumbers}
-use Rattle.image_spec.specs.Image.{Row, idOf, modesOf, joined, bodyWith}
+use Rattle.image_spec.specs.declared.layout.Layout.{Layout}
+use Rattle.image_spec.specs.Layout.{edition1, edition2}
+use Rattle.image_spec.specs.Image.{Row, idOf, modesOf, header, row, rowsOf, joined, imageOf, Every, Holds, bodyWith}
 use Rattle.image_spec.specs.Check.{bodySpan, numbersOf}
 use Rattle.image_spec.specs.NewImage.{creationOf, numberOf}
-use Rattle.image_spec.specs.Edition1.{header, row, rowsOf, imageOf, Holds, findOf, afterNew}
+use Rattle.image_spec.specs.Readable.{Holds as Readable, findOf}
+use Rattle.image_spec.specs.Edition2.{afterNew}
 
 -- ---- the layout
 
@@ -27,19 +30,37 @@ use Rattle.image_spec.specs.Edition1.{header, row, rowsOf, imageOf, Hold
 abbrev pub four : ℕ → List ℕ
 four n = (n / 16777216 % 256) ∷ (n / 65536 % 256) ∷ (n / 256 % 256) ∷ (n % 256) ∷ []
 
--- Header, 8 bytes: image edition 1 (2 bytes), mode edition 1 (2), row count (2), zero (2). Rows of 32 bytes: descriptor id (16), body
--- offset (4), body length (4), mask (1), zero (7). Bodies lie back to back in row order from 8 + 32 × rows.
-abbrev pub LayoutFixed : Type 0
-LayoutFixed =
-    ((n : ℕ) → header n ≡ 0 ∷ 1 ∷ 0 ∷ 1 ∷ (n / 256 % 256) ∷ (n % 256) ∷ 0 ∷ 0 ∷ [])
-    × ((b : List ℕ) → length (idOf b) ≡ 16)
-    × ((at : ℕ) (r : Row) → let b = r .body in
-    row at r ≡ idOf b ++ (four at ++ (four (length b) ++ (modesOf b ∷ 0 ∷ 0 ∷ 0 ∷ 0 ∷ 0 ∷ 0 ∷ 0 ∷ []))))
-    × ((at : ℕ) → rowsOf at [] ≡ [])
-    × ((at : ℕ) (r : Row) (rs : List Row) → rowsOf at (r ∷ rs) ≡ row at r ++ rowsOf (at + length (r .body)) rs)
+-- a number in 8 bytes, big-endian
+abbrev pub eight : ℕ → List ℕ
+eight n = four (n / 4294967296) ++ four n
+
+-- a row as document 01 has it: descriptor id (16), body offset (4), body length (4), mask (1), zero (7)
+abbrev pub firstRow : ℕ → List ℕ → List ℕ
+firstRow at b = idOf b ++ (four at ++ (four (length b) ++ (modesOf b ∷ 0 ∷ 0 ∷ 0 ∷ 0 ∷ 0 ∷ 0 ∷ 0 ∷ [])))
+
+-- Edition 1. Header, 8 bytes: image edition 1 (2 bytes), mode edition 1 (2), row count (2), zero (2). Rows of 32 bytes. Bodies lie back to
+-- back in row order from 8 + 32 × rows.
+abbrev pub Layout1Fixed : Type 0
+Layout1Fixed =
+    ((n : ℕ) → header edition1 n ≡ 0 ∷ 1 ∷ 0 ∷ 1 ∷ (n / 256 % 256) ∷ (n % 256) ∷ 0 ∷ 0 ∷ [])
+    × ((at : ℕ) (r : Row) → row edition1 at r ≡ firstRow at (r .body))
+    × ((rs : List Row) → imageOf edition1 rs ≡ header edition1 (length rs) ++ (rowsOf edition1 (8 + 32 * length rs) rs ++ joined rs))
+
+-- Edition 2. The same with image edition 2; rows of 40 bytes, the old row and the last-used moment (8). Bodies from 8 + 40 × rows.
+abbrev pub Layout2Fixed : Type 0
+Layout2Fixed =
+    ((n : ℕ) → header edition2 n ≡ 0 ∷ 2 ∷ 0 ∷ 1 ∷ (n / 256 % 256) ∷ (n % 256) ∷ 0 ∷ 0 ∷ [])
+    × ((at : ℕ) (r : Row) → row edition2 at r ≡ firstRow at (r .body) ++ eight (r .used))
+    × ((rs : List Row) → imageOf edition2 rs ≡ header edition2 (length rs) ++ (rowsOf edition2 (8 + 40 * length rs) rs ++ joined rs))
+
+-- in both the rows stand one after the other, each with the place at which the body before it ends, and so do the bodies; an id has 16 bytes
+abbrev pub RowsInTurn : Type 0
+RowsInTurn =
+    ((l : Layout) (at : ℕ) → rowsOf l at [] ≡ [])
+    × ((l : Layout) (at : ℕ) (r : Row) (rs : List Row) → rowsOf l at (r ∷ rs) ≡ row l at r ++ rowsOf l (at + length (r .body)) rs)
     × (joined [] ≡ [])
     × ((r : Row) (rs : List Row) → joined (r ∷ rs) ≡ r .body ++ joined rs)
-    × ((rs : List Row) → imageOf rs ≡ header (length rs) ++ (rowsOf (8 + 32 * length rs) rs ++ joined rs))
+    × ((b : List ℕ) → length (idOf b) ≡ 16)
 
 -- document 01's number of reading a body
 abbrev pub answerOf : List ℕ → ℕ
@@ -57,26 +78,40 @@ MaskSmall = (b : List ℕ) → modesOf b < 16
 
 -- ---- which rows a buffer holds
 
--- each row of the list is so
-abbrev pub Every : (Row → Type 0) → List Row → Type 0
-Every P [] = Unit {0}
-Every P (r ∷ rs) = P r × Every P rs
-
 -- the ids of the rows differ
 abbrev pub IdsDiffer : List Row → Type 0
 IdsDiffer [] = Unit {0}
 IdsDiffer (r ∷ rs) = Every (λ q. idOf (q .body) ≡ idOf (r .body) → ⊥) rs × IdsDiffer rs
 
--- a buffer holds the rows exactly when they are at most 64, each body reads with 0, their ids differ, and the buffer is their image,
--- followed by anything
-abbrev pub HoldsExactly : Type 0
-HoldsExactly = (s : List ℕ) (rs : List Row)
-    → Holds s rs
-    ↔ ((length rs ≤ 64) × Every (λ r. answerOf (r .body) ≡ 0) rs × IdsDiffer rs × ((rest : List ℕ) × (s ≡ imageOf rs ++ rest)))
+-- a buffer holds the rows in edition 1 exactly when they are at most 64, each body reads with 0, their ids differ, their moments are 0, since
+-- they have none, and the buffer is their image, followed by anything
+abbrev pub Holds1Exactly : Type 0
+Holds1Exactly = (s : List ℕ) (rs : List Row)
+    → Holds edition1 s rs
+    ↔ ((length rs ≤ 64) × Every (λ r. answerOf (r .body) ≡ 0) rs × IdsDiffer rs × Every (λ r. r .used ≡ 0) rs
+    × ((rest : List ℕ) × (s ≡ imageOf edition1 rs ++ rest)))
 
--- it holds one list of rows
-abbrev pub BodiesOnce : Type 0
-BodiesOnce = (s : List ℕ) (rs qs : List Row) → Holds s rs → Holds s qs → rs ≡ qs
+-- and in edition 2 exactly when they are at most 1,024, each body reads with 0, their ids differ, their moments are any numbers of 8 bytes,
+-- and the buffer is their image, followed by anything
+abbrev pub Holds2Exactly : Type 0
+Holds2Exactly = (s : List ℕ) (rs : List Row)
+    → Holds edition2 s rs
+    ↔ ((length rs ≤ 1024) × Every (λ r. answerOf (r .body) ≡ 0) rs × IdsDiffer rs × Every (λ r. r .used < 2 ^ 64) rs
+    × ((rest : List ℕ) × (s ≡ imageOf edition2 rs ++ rest)))
+
+-- it holds one list of rows in an edition
+abbrev pub RowsOnce : Type 0
+RowsOnce =
+    ((s : List ℕ) (rs qs : List Row) → Holds edition1 s rs → Holds edition1 s qs → rs ≡ qs)
+    × ((s : List ℕ) (rs qs : List Row) → Holds edition2 s rs → Holds edition2 s qs → rs ≡ qs)
+
+-- no buffer holds rows in both
+abbrev pub NotInBoth : Type 0
+NotInBoth = (s : List ℕ) (rs qs : List Row) → Holds edition1 s rs → Holds edition2 s qs → ⊥
+
+-- an image that may be read holds rows in edition 1 or in edition 2
+abbrev pub ReadableExactly : Type 0
+ReadableExactly = (s : List ℕ) (rs : List Row) → Readable s rs ↔ (Holds edition1 s rs ⊎ Holds edition2 s rs)
 
 -- the body with an id is that of the row whose id it is
 abbrev pub BodyOfId : Type 0
@@ -98,24 +133,27 @@ pub record FoundAt (s b : List ℕ) (n : StoredNumbers) : Type 0 where
   pub len : n .«body_len» ≡ length b
   pub inside : n .«body_at» + n .«body_len» ≤ length s
 
--- 15: the id is not 16 bytes. 16: the buffer holds no list of rows. 7: no row has the id. Else 0, with the body of the row that has it.
+-- 15: the id is not 16 bytes. 16: the buffer holds no list of rows in edition 1 or 2. 7: no row has the id. Else 0, with the body of the
+-- row that has it.
 pub record LookupExactly : Type 0 where
   pub bad-id : (s id : List ℕ) → (length id ≡ 16 → ⊥) → numbersOf (findOf s id) ≡ refusal 15
-  pub bad-image : (s id : List ℕ) → AreBytes s → length id ≡ 16 → ((rs : List Row) → Holds s rs → ⊥)
+  pub bad-image : (s id : List ℕ) → AreBytes s → length id ≡ 16 → ((rs : List Row) → Readable s rs → ⊥)
       → numbersOf (findOf s id) ≡ refusal 16
-  pub not-held : (s id : List ℕ) (rs : List Row) → length id ≡ 16 → Holds s rs → bodyWith id rs ≡ none
+  pub not-held : (s id : List ℕ) (rs : List Row) → length id ≡ 16 → Readable s rs → bodyWith id rs ≡ none
       → numbersOf (findOf s id) ≡ refusal 7
-  pub held : (s id : List ℕ) (rs : List Row) (b : List ℕ) → length id ≡ 16 → Holds s rs → bodyWith id rs ≡ some b
+  pub held : (s id : List ℕ) (rs : List Row) (b : List ℕ) → length id ≡ 16 → Readable s rs → bodyWith id rs ≡ some b
       → FoundAt s b (numbersOf (findOf s id))
 
--- an image is sound, which is that a lookup of an id of 16 bytes is not answered 16, exactly when the buffer holds a list of rows
+-- an image is sound, which is that a lookup of an id of 16 bytes is not answered 16, exactly when the buffer holds a list of rows in
+-- edition 1 or 2
 abbrev pub SoundExactly : Type 0
 SoundExactly = (s id : List ℕ) → AreBytes s → length id ≡ 16 → (numbersOf (findOf s id) .answer ≡ 16 → ⊥)
-    ↔ ((rs : List Row) × Holds s rs)
+    ↔ ((rs : List Row) × Readable s rs)
 
--- an image whose image edition or mode edition is another than 1 is answered 16, whatever else it holds
+-- an image whose image edition is another than 1 and 2, or whose mode edition is another than 1, is answered 16, whatever else it holds
 abbrev pub EditionsKnown : Type 0
-EditionsKnown = (s id : List ℕ) → length id ≡ 16 → (numberAt s 0 2 ≡ 1 → ⊥) ⊎ (numberAt s 2 2 ≡ 1 → ⊥)
+EditionsKnown = (s id : List ℕ) → length id ≡ 16
+    → ((numberAt s 0 2 ≡ 1 → ⊥) × (numberAt s 0 2 ≡ 2 → ⊥)) ⊎ (numberAt s 2 2 ≡ 1 → ⊥)
     → numbersOf (findOf s id) ≡ refusal 16
 
 -- the part that is handed back for a lookup has the place and the length of its numbers; for a refusal that is the empty part at the start
@@ -125,12 +163,12 @@ BodyHanded = (s id : List ℕ) → AreBytes s
 
 -- ---- a new image
 
--- a new image writes 00 01 00 01 00 00 00 00 and no other byte, which is the image of no rows; a buffer under 8 bytes gives 17, and
--- is left as it was
+-- a new image writes 00 02 00 01 00 00 00 00 and no other byte, which is the image of no rows in edition 2; a buffer under 8 bytes gives 17,
+-- and is left as it was
 abbrev pub NewImage : Type 0
 NewImage =
     ((d : List ℕ) → 8 ≤ length d
     → (numberOf (creationOf d) ≡ 0)
-    × (afterNew d ≡ 0x00 ∷ 0x01 ∷ 0x00 ∷ 0x01 ∷ 0x00 ∷ 0x00 ∷ 0x00 ∷ 0x00 ∷ drop 8 d)
-    × (afterNew d ≡ imageOf [] ++ drop 8 d))
+    × (afterNew d ≡ 0x00 ∷ 0x02 ∷ 0x00 ∷ 0x01 ∷ 0x00 ∷ 0x00 ∷ 0x00 ∷ 0x00 ∷ drop 8 d)
+    × (afterNew d ≡ imageOf edition2 [] ++ drop 8 d))
     × ((d : List ℕ) → length d < 8 → (numberOf (creationOf d) ≡ 17) × (afterNew d ≡ d))

@@ -1,16 +1,26 @@
 // The sizes, limits, places and editions of a stored image, each named once.
 
-// What an edition of the image fixes: its number, the bytes of a row, and the most rows.
+// What an edition of the image fixes: its number, the most rows, where in a row the last-used moment begins, which goes up to the row's
+// end, and the bytes of a row.
 pub struct Layout {
     pub edition: u64,
-    pub row_size: usize,
     pub most_rows: u64,
+    pub moment_place: usize,
+    pub row_size: usize,
 }
 
 pub const EDITION1: Layout = Layout {
     edition: 1,
-    row_size: 32,
     most_rows: 64,
+    moment_place: 32,
+    row_size: 32,
+};
+
+pub const EDITION2: Layout = Layout {
+    edition: 2,
+    most_rows: 1024,
+    moment_place: 32,
+    row_size: 40,
 };
 
 pub const MODE_EDITION: u64 = 1;
@@ -33,7 +43,7 @@ pub const BODY_WIDTH: usize = 4;
 
 pub const MASK_WIDTH: usize = 1;
 
-// Where the fields after the id stand in a row; zero goes up to the row's end.
+// Where the fields after the id stand in a row; zero goes up to the last-used moment.
 pub const OFFSET_PLACE: usize = 16;
 
 pub const LENGTH_PLACE: usize = 20;

@@ -4,10 +4,11 @@ pub mod layout;
 
 use descriptor_spec::Fields;
 
-// The body with an id: where it lies in the image, how long it is, and what was read of it; or there is none.
+// The body with an id: which row it has, where it lies in the image, how long it is, and what was read of it; or there is none.
 pub enum Held {
     Missing,
     Body {
+        row: usize,
         at: usize,
         len: usize,
         fields: Fields,

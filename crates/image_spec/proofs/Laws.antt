@@ -2,7 +2,7 @@
 use Rattle.image_spec.specs.Laws.{RowsInOrder, OffsetsFit, RowNext, ReadIn, BodyRead, EncodingRead, BodyWithExactly, RowsNamed}
 use Rattle.image_spec.specs.Laws.{CheckTells, CheckSays}
 use Rattle.image_spec.specs.Laws.{CheckUnsound, EditionsChecked, CheckInside, BodyAdded, OneMore}
-use Rattle.image_spec.specs.Laws.{Edition1Ok, Edition2Ok, NamedOk}
+use Rattle.image_spec.specs.Laws.{PlaceWithin, Edition1Ok, Edition2Ok, NamedOk}
 use Rattle.image_spec.proofs.RowPlaceLaws.{place-order, place-small}
 use Rattle.image_spec.proofs.RowPlaceLaws as place1
 use Rattle.image_spec.proofs.NamedLaws as named
@@ -14,6 +14,9 @@ use Rattle.image_spec.proofs.FindLaws as found
 use Rattle.image_spec.proofs.GrowLaws as grow
 
 -- ---- where rows stand
+
+pub place-within : PlaceWithin
+place-within = place1.place-within
 
 pub rows-in-order : RowsInOrder
 rows-in-order = place-order

@@ -4,8 +4,9 @@ use Prim.Native.Nat.{ℕ, _+_, _*_, _≤_, _<_}
 use native.Mathlib.Omega.{arith}
 use native.Mathlib.Nat.{mul-suc, mul-le-mul-left, mul-le-mul-right}
 use native.Mathlib.Numerals.{add-one}
+use borrow.Author.Tests.{le-leb}
 use Rattle.image_spec.specs.declared.layout.Layout.{Layout}
-use Rattle.image_spec.specs.Layout.{headerSize, edition1, edition2, rowSize, mostRows, rowPlace, LayoutOk}
+use Rattle.image_spec.specs.Layout.{headerSize, edition1, edition2, rowSize, mostRows, rowPlace, placeWithin, LayoutOk}
 
 -- edition 1 is allowed
 pub edition1-ok : LayoutOk edition1
@@ -49,6 +50,11 @@ module _ (l : Layout) where
   pub place-after : (n : ℕ) → headerSize ≤ rowPlace l n
   unfolding rowPlace
   place-after n = omega arith
+
+  -- the place of a row that there may be
+  pub place-within : LayoutOk l → (i : ℕ) → i ≤ mostRows l → placeWithin l i ≡ rowPlace l i
+  unfolding placeWithin
+  place-within ok i h = rw (le-leb (rowSize l) 1024 (ok .narrow), le-leb i 65535 (omega (arith, ok .few)))
 
   -- the offsets of bodies of at most 32768 bytes each fit 4 bytes
   pub place-small : LayoutOk l → (n : ℕ) → n ≤ mostRows l → rowPlace l n + 32768 * n < 4294967296

@@ -23,13 +23,17 @@ use Rattle.image_spec.specs.declared.ImageCheck.the-variants.{Sound, Uns
 use Rattle.image_spec.specs.declared.Added.the-variants.{Done, Full}
 use Rattle.image_spec.specs.declared.layout.Layout.{Layout}
 use Rattle.image_spec.specs.Layout.{modeEdition, headerWidth, editionPlace, modesPlace, edition1, edition2, rowSize, mostRows}
-use Rattle.image_spec.specs.Layout.{rowPlace}
+use Rattle.image_spec.specs.Layout.{rowPlace, placeWithin}
 use Rattle.image_spec.specs.Layout.{LayoutOk}
 use Rattle.image_spec.specs.Image.{Row, rowOf, reading, isRead, idOf, modesOf, imageOf, MomentOk, RowsOk, Holds, bodyWith}
 use Rattle.image_spec.specs.Check.{rowLength, rowAt, layoutOf, checkOf, rowsHeld}
 use Rattle.image_spec.specs.Grow.{addedOf, afterAdd, hasRoom, withBody}
 
 -- ---- where rows stand
+
+-- the place of a row that there may be
+abbrev pub PlaceWithin : Type 0
+PlaceWithin = (l : Layout) → LayoutOk l → (i : ℕ) → i ≤ mostRows l → placeWithin l i ≡ rowPlace l i
 
 -- a row ends before any after it begins
 abbrev pub RowsInOrder : Type 0

@@ -1,6 +1,8 @@
 -- The sizes, places, limits and editions of a stored image, each named once. A reader of the promises does not need this page: they have
 -- the numbers.
+use mathlib.Core.Bool.{cond, _&&_}
 use Prim.Native.Nat.{ℕ, _+_, _-_, _*_, _≤_, _<_}
+use lib.Dec.{leb}
 use Rattle.image_spec.specs.declared.layout.Layout.{Layout}
 
 -- ---- what is the same in every edition
@@ -90,6 +92,10 @@ momentSize l = rowSize l - momentPlace l
 -- where row i stands; where the bodies of so many rows begin
 unfoldable pub rowPlace : Layout → ℕ → ℕ
 rowPlace l i = headerSize + rowSize l * i
+
+-- the same, where an image may have rows of that size, and so many; else 0
+unfoldable pub placeWithin : Layout → ℕ → ℕ
+placeWithin l i = cond (leb (rowSize l) 1024 && leb i 65535) (rowPlace l i) 0
 
 -- what an edition may fix: its number and a row count fit their bytes in the header, a row has room for its fields, a moment has at most 8
 -- bytes, and every offset fits its bytes in a row

@@ -3,6 +3,9 @@ pub mod Image
 pub mod Check
 pub mod NewImage
 pub mod Grow
+pub mod Close
+pub mod Choose
+pub mod Removal
 pub mod Edition2
 pub mod Readable
 pub mod Promises

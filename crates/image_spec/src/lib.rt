@@ -49,3 +49,15 @@ pub enum Added {
     Done,
     Full,
 }
+
+// A row with its last-used moment, or none.
+pub enum Least {
+    IsRow(usize, u64),
+    NoRow,
+}
+
+// What making room for a row and a body answers: how many rows stay and where their bodies end; or there is no room.
+pub enum Room {
+    Made { rows: u64, end: usize },
+    NoRoom,
+}

@@ -21,3 +21,11 @@ moved d from to by = over d (from + by) (part d from (to - from))
 -- the same, where there are such bytes and they fit; else d
 unfoldable pub movedUp : List ℕ → ℕ → ℕ → ℕ → List ℕ
 movedUp d from to by = cond (leb from to && leb (to + by) (length d)) (moved d from to by) d
+
+-- d with the n bytes from `from` on written over it from `to` on
+unfoldable pub lowered : List ℕ → ℕ → ℕ → ℕ → List ℕ
+lowered d from to n = over d to (part d from n)
+
+-- the same, where the bytes are there and `to` is not after them; else d
+unfoldable pub movedDown : List ℕ → ℕ → ℕ → ℕ → List ℕ
+movedDown d from to n = cond (leb to from && leb (from + n) (length d)) (lowered d from to n) d

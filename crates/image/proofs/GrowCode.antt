@@ -17,7 +17,7 @@ use Rattle.image_spec.specs.declared.layout.Layout.{Layout}
 use Rattle.descriptor_spec.specs.Allowed.{idSize}
 use Rattle.image_spec.specs.Layout.{headerWidth, countPlace}
 use Rattle.image_spec.specs.Layout.{bodyWidth, maskWidth, offsetPlace, lengthPlace, maskPlace, zeroPlace, rowSize, mostRows, zeroSize}
-use Rattle.image_spec.specs.Layout.{rowPlace}
+use Rattle.image_spec.specs.Layout.{momentPlace, momentSize, rowPlace}
 use Rattle.image_spec.specs.Grow.{raised, withRow, grown, fits, addedOf, afterAdd}
 
 module _ (l : Layout) where
@@ -46,21 +46,21 @@ module _ (l : Layout) where
 
   -- ---- the row and the whole
 
-  -- the five writes of a row
-  pub row-done : (d d₁ d₂ d₃ d₄ d₅ : List ℕ) (r at : ℕ) (b : List ℕ) (id mask : ℕ)
+  -- the six writes of a row
+  pub row-done : (d d₁ d₂ d₃ d₄ d₅ d₆ : List ℕ) (r at : ℕ) (b : List ℕ) (id mask used : ℕ)
       → d₁ ≡ putAt d r (take (id + idSize - id) (drop id b)) → d₂ ≡ putAt d₁ (r + offsetPlace) (bigEndian bodyWidth at)
       → d₃ ≡ putAt d₂ (r + lengthPlace) (bigEndian bodyWidth (length b))
       → d₄ ≡ putAt d₃ (r + maskPlace) (bigEndian maskWidth mask) → d₅ ≡ putAt d₄ (r + zeroPlace) (bigEndian (zeroSize l) 0)
-      → d₅ ≡ withRow l d r at b id mask
+      → d₆ ≡ putAt d₅ (r + momentPlace l) (bigEndian (momentSize l) used) → d₆ ≡ withRow l d r at b id mask used
   unfolding withRow
-  row-done d d₁ d₂ d₃ d₄ d₅ r at b id mask e₁ e₂ e₃ e₄ e₅ = rw (e₅, e₄, e₃, e₂, e₁, lent-part b id idSize)
+  row-done d d₁ d₂ d₃ d₄ d₅ d₆ r at b id mask used e₁ e₂ e₃ e₄ e₅ e₆ = rw (e₆, e₅, e₄, e₃, e₂, e₁, lent-part b id idSize)
 
   -- the five writes of one more row and body
-  pub grow-done : (d d₁ d₂ d₃ d₄ d₅ : List ℕ) (n end start : ℕ) (b : List ℕ) (id mask : ℕ) → start ≡ rowPlace l n
-      → d₁ ≡ movedUp d start end (rowSize l) → d₂ ≡ raised l d₁ n 0 → d₃ ≡ withRow l d₂ start (end + rowSize l) b id mask
-      → d₄ ≡ putAt d₃ (end + rowSize l) b → d₅ ≡ putAt d₄ countPlace (bigEndian headerWidth (n + 1)) → d₅ ≡ grown l d n end b id mask
+  pub grow-done : (d d₁ d₂ d₃ d₄ d₅ : List ℕ) (n end start : ℕ) (b : List ℕ) (id mask used : ℕ) → start ≡ rowPlace l n
+      → d₁ ≡ movedUp d start end (rowSize l) → d₂ ≡ raised l d₁ n 0 → d₃ ≡ withRow l d₂ start (end + rowSize l) b id mask used
+      → d₄ ≡ putAt d₃ (end + rowSize l) b → d₅ ≡ putAt d₄ countPlace (bigEndian headerWidth (n + 1)) → d₅ ≡ grown l d n end b id mask used
   unfolding grown
-  grow-done d d₁ d₂ d₃ d₄ d₅ n end start b id mask e e₁ e₂ e₃ e₄ e₅ = rw (e₅, e₄, e₃, e₂, e₁, e)
+  grow-done d d₁ d₂ d₃ d₄ d₅ n end start b id mask used e e₁ e₂ e₃ e₄ e₅ = rw (e₅, e₄, e₃, e₂, e₁, e)
 
   -- ---- whether it fits
 
@@ -109,14 +109,14 @@ module _ (l : Layout) where
   pub add-fits : (d : List ℕ) (n end : ℕ) (b : List ℕ) (id : ℕ) (t : Bool) → t ≡ fits l d n end b id → not t ≡ false → Fits d n end b id
   add-fits d n end b id t e f = fits-says d n end b id (sym e ∙ not-false t f)
 
-  module _ (d : List ℕ) (n end : ℕ) (b : List ℕ) (id mask : ℕ) (t : Bool) (e : t ≡ fits l d n end b id) where
+  module _ (d : List ℕ) (n end : ℕ) (b : List ℕ) (id mask used : ℕ) (t : Bool) (e : t ≡ fits l d n end b id) where
     -- what does not fit is not added
-    pub add-full : not t ≡ true → (Full ≡ addedOf l d n end b id) × (d ≡ afterAdd l d n end b id mask)
+    pub add-full : not t ≡ true → (Full ≡ addedOf l d n end b id) × (d ≡ afterAdd l d n end b id mask used)
     unfolding addedOf afterAdd
     add-full f = let k = sym e ∙ not-true t f in (rw k, rw k)
 
     -- what fits is added
-    pub add-done : not t ≡ false → (d′ : List ℕ) → d′ ≡ grown l d n end b id mask
-        → (Done ≡ addedOf l d n end b id) × (d′ ≡ afterAdd l d n end b id mask)
+    pub add-done : not t ≡ false → (d′ : List ℕ) → d′ ≡ grown l d n end b id mask used
+        → (Done ≡ addedOf l d n end b id) × (d′ ≡ afterAdd l d n end b id mask used)
     unfolding addedOf afterAdd
     add-done f d′ g = let k = sym e ∙ not-false t f in (rw k, g ∙ rw k)

@@ -1,3 +1,4 @@
 pub mod RowsCode
+pub mod SlotCode
 pub mod GrowCode
 pub mod CheckCode

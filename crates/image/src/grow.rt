@@ -1,6 +1,7 @@
 // A new image, and one more row and body in an image, in place.
 use crate::Added;
 use crate::Creation;
+use crate::moments::put_moment;
 use crate::places::row_place;
 use descriptor_spec::sizes::ID_SIZE;
 use image_spec::layout::BODY_WIDTH;
@@ -21,6 +22,7 @@ use octets::move_up;
 use octets::number_at;
 use octets::put;
 use octets::put_number;
+use time::Seconds;
 ghost use mathlib.Core.Path.{_≡_};
 ghost use Prim.Native.Nat.{_+_, _≤_, _<_};
 ghost use lib.ListN.{length};
@@ -57,30 +59,49 @@ fn raise(layout: Layout, d: &mut [u8], n: usize)
     }
 }
 
-// Writes the row at r of a body at `at`, whose id stands at `id` in it.
-fn put_row(layout: Layout, d: &mut [u8], r: usize, at: usize, body: &[u8], id: usize, mask: u64)
+// Writes the row at r of a body at `at`, whose id stands at `id` in it, and which was last used at `used`.
+fn put_row(
+    layout: Layout,
+    d: &mut [u8],
+    r: usize,
+    at: usize,
+    body: &[u8],
+    id: usize,
+    mask: u64,
+    used: Seconds,
+)
     requires { ⌜ LayoutOk layout × (id + idSize ≤ length (now body)) × (r + rowSize layout ≤ length (now d)) ⌝ }
-    ensures { λ _. ⌜ now (d .exit) ≡ withRow layout (now (d .entry)) r at (now (body .entry)) id mask ⌝ }
+    ensures { λ _. ⌜ now (d .exit) ≡ withRow layout (now (d .entry)) r at (now (body .entry)) id mask (used .0) ⌝ }
 {
     put(d, r, &body[id..id + ID_SIZE]);
     put_number(d, r + OFFSET_PLACE, BODY_WIDTH, at as u64);
     put_number(d, r + LENGTH_PLACE, BODY_WIDTH, body.len() as u64);
     put_number(d, r + MASK_PLACE, MASK_WIDTH, mask);
-    put_number(d, r + ZERO_PLACE, layout.row_size - ZERO_PLACE, 0);
+    put_number(d, r + ZERO_PLACE, layout.moment_place - ZERO_PLACE, 0);
+    put_moment(layout, d, r, used);
 }
 
 // Adds the body last: n rows are held, whose bodies end at `end`.
-fn grow(layout: Layout, d: &mut [u8], rows: u64, end: usize, body: &[u8], id: usize, mask: u64)
+fn grow(
+    layout: Layout,
+    d: &mut [u8],
+    rows: u64,
+    end: usize,
+    body: &[u8],
+    id: usize,
+    mask: u64,
+    used: Seconds,
+)
     requires { ⌜ LayoutOk layout × (rows < mostRows layout) × (rowPlace layout rows ≤ end)
         × (end + rowSize layout + length (now body) ≤ length (now d)) × (id + idSize ≤ length (now body)) ⌝ }
-    ensures { λ _. ⌜ now (d .exit) ≡ grown layout (now (d .entry)) rows end (now (body .entry)) id mask ⌝ }
+    ensures { λ _. ⌜ now (d .exit) ≡ grown layout (now (d .entry)) rows end (now (body .entry)) id mask (used .0) ⌝ }
 {
     let n = rows as usize;
     let start = row_place(layout, n);
     let at = end + layout.row_size;
     move_up(d, start, end, layout.row_size);
     raise(layout, d, n);
-    put_row(layout, d, start, at, body, id, mask);
+    put_row(layout, d, start, at, body, id, mask, used);
     put(d, at, body);
     put_number(d, COUNT_PLACE, HEADER_WIDTH, rows + 1);
 }
@@ -125,14 +146,15 @@ pub(crate) fn add_body(
     body: &[u8],
     id: usize,
     mask: u64,
+    used: Seconds,
 ) -> Added
     requires { ⌜ LayoutOk layout ⌝ }
     ensures { λ r. ⌜ (r ≡ addedOf layout (now (d .entry)) rows end (now (body .entry)) id)
-        × (now (d .exit) ≡ afterAdd layout (now (d .entry)) rows end (now (body .entry)) id mask) ⌝ }
+        × (now (d .exit) ≡ afterAdd layout (now (d .entry)) rows end (now (body .entry)) id mask (used .0)) ⌝ }
 {
     if !can_grow(layout, d, rows, end, body, id) {
         return Added::Full;
     }
-    grow(layout, d, rows, end, body, id, mask);
+    grow(layout, d, rows, end, body, id, mask, used);
     Added::Done
 }

@@ -1,5 +1,4 @@
-// Where the rows of an image stand.
-use image_spec::layout::HEADER_SIZE;
+// Where the rows that an image may have stand.
 use image_spec::layout::Layout;
 ghost use mathlib.Core.Path.{_≡_};
 ghost use Prim.Native.Nat.{_≤_, _<_};
@@ -11,5 +10,5 @@ pub(crate) fn row_place(layout: Layout, i: usize) -> usize
     ensures { λ r. ⌜ r ≡ rowPlace layout i ⌝ }
     ensures { λ r. ⌜ r < 4294967296 ⌝ }
 {
-    HEADER_SIZE + layout.row_size * i
+    image_rows::place(layout, i)
 }

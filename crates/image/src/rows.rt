@@ -23,14 +23,15 @@ use image_spec::layout::ZERO_PLACE;
 use octets::number_at;
 use octets::same_bytes;
 ghost use mathlib.Core.Path.{_≡_};
+ghost use mathlib.Core.Bool.{false};
 ghost use Prim.Native.Nat.{_+_, _≤_, _<_};
 ghost use lib.ListN.{length};
 ghost use lib.Dec.{eqb};
 ghost use Rattle.octets.specs.Number.{numberAt};
 ghost use Rattle.descriptor_spec.specs.Allowed.{idSize};
 ghost use Rattle.image_spec.specs.Layout.{headerSize, rowSize, mostRows, rowPlace, LayoutOk};
-ghost use Rattle.image_spec.specs.Check.{headerFits, idAmong, rowFits, rowAt, heldWith, rowsFrom, checkAnswer, checkOf, heldAt, findOf};
-ghost use Rattle.image.specs.Code.{rowRead};
+ghost use Rattle.image_spec.specs.Check.{headerFits, rowId, idAmong, rowFits, rowAt, heldWith, rowsFrom, checkAnswer, checkOf, heldAt, findOf};
+ghost use Rattle.image.specs.Code.{rowRead, slotAt};
 
 // What was read of a row's body, and the place after it.
 pub(crate) enum RowRead {
@@ -65,6 +66,29 @@ fn id_among(layout: Layout, s: &[u8], id: &[u8], n: usize) -> bool
     false
 }
 
+// How many slots the ids of the rows mark.
+const SLOTS: usize = 8192;
+
+// The slot of the id of the row at r, by its last 8 bytes, which are random in ids as they are issued.
+fn slot_of(s: &[u8], r: usize) -> usize
+    requires { ⌜ r + idSize ≤ length (now s) ⌝ }
+    ensures { λ o. ⌜ o ≡ slotAt (now (s .entry)) r ⌝ }
+{
+    number_at(s, r + 8, 8) as usize % SLOTS
+}
+
+// Whether one of the first i rows has the id of the row at r; where the slot of that id was not marked before, none has.
+fn is_twice(layout: Layout, s: &[u8], r: usize, i: usize, marked: bool) -> bool
+    requires { ⌜ LayoutOk layout × (i ≤ mostRows layout) × (rowPlace layout i ≤ length (now s)) × (r + idSize ≤ length (now s))
+        × (marked ≡ false → idAmong layout (now s) (rowId (now s) r) i ≡ false) ⌝ }
+    ensures { λ o. ⌜ o ≡ idAmong layout (now (s .entry)) (rowId (now (s .entry)) r) i ⌝ }
+{
+    if marked {
+        return id_among(layout, s, &s[r..r + ID_SIZE], i);
+    }
+    false
+}
+
 // Whether the n bytes from a place on are zero.
 fn is_zero(s: &[u8], at: usize, n: usize) -> bool
     requires { ⌜ at + n ≤ length (now s) ⌝ }
@@ -91,12 +115,13 @@ fn row_fits(layout: Layout, s: &[u8], r: usize, at: usize, fields: Fields) -> bo
     }
     (number_at(s, r + OFFSET_PLACE, BODY_WIDTH) == at as u64)
         & (number_at(s, r + MASK_PLACE, MASK_WIDTH) == fields.mask)
-        & is_zero(s, r + ZERO_PLACE, layout.row_size - ZERO_PLACE)
+        & is_zero(s, r + ZERO_PLACE, layout.moment_place - ZERO_PLACE)
 }
 
-// Row i, whose body begins at `at`.
-fn row_at(layout: Layout, s: &[u8], i: usize, at: usize) -> RowRead
-    requires { ⌜ LayoutOk layout × (i < mostRows layout) × (rowPlace layout i + rowSize layout ≤ length (now s)) × (at ≤ length (now s)) ⌝ }
+// Row i, whose body begins at `at`; whether the slot of its id was marked by a row before is known.
+fn row_at(layout: Layout, s: &[u8], i: usize, at: usize, marked: bool) -> RowRead
+    requires { ⌜ LayoutOk layout × (i < mostRows layout) × (rowPlace layout i + rowSize layout ≤ length (now s)) × (at ≤ length (now s))
+        × (marked ≡ false → idAmong layout (now s) (rowId (now s) (rowPlace layout i)) i ≡ false) ⌝ }
     ensures { λ o. ⌜ rowRead o ≡ rowAt layout (now (s .entry)) i at ⌝ }
 {
     let r = row_place(layout, i);
@@ -109,7 +134,7 @@ fn row_at(layout: Layout, s: &[u8], i: usize, at: usize) -> RowRead
             if !row_fits(layout, s, r, at, fields) {
                 return RowRead::NoRow;
             }
-            if id_among(layout, s, &s[r..r + ID_SIZE], i) {
+            if is_twice(layout, s, r, i, marked) {
                 return RowRead::NoRow;
             }
             RowRead::IsRow {
@@ -122,12 +147,17 @@ fn row_at(layout: Layout, s: &[u8], i: usize, at: usize) -> RowRead
     }
 }
 
-// The body at a place is the one looked for, or what was held before stays.
-fn keep(hit: bool, held: Held, at: usize, len: usize, fields: Fields) -> Held
-    ensures { λ r. ⌜ r ≡ heldWith hit held at len fields ⌝ }
+// The body of a row at a place is the one looked for, or what was held before stays.
+fn keep(hit: bool, held: Held, row: usize, at: usize, len: usize, fields: Fields) -> Held
+    ensures { λ r. ⌜ r ≡ heldWith hit held row at len fields ⌝ }
 {
     if hit {
-        return Held::Body { at, len, fields };
+        return Held::Body {
+            row,
+            at,
+            len,
+            fields,
+        };
     }
     held
 }
@@ -140,12 +170,16 @@ fn all_rows(layout: Layout, s: &[u8], id: &[u8], n: usize) -> ImageCheck
     let mut i = 0;
     let mut at = row_place(layout, n);
     let mut held = Held::Missing;
+    let mut seen = [false; SLOTS];
     while i < n {
-        match row_at(layout, s, i, at) {
+        let r = row_place(layout, i);
+        let slot = slot_of(s, r);
+        let marked = seen[slot];
+        seen[slot] = true;
+        match row_at(layout, s, i, at, marked) {
             RowRead::IsRow { fields, next } => {
-                let r = row_place(layout, i);
                 let hit = same_bytes(&s[r..r + ID_SIZE], id);
-                held = keep(hit, held, at, next - at, fields);
+                held = keep(hit, held, i, at, next - at, fields);
                 at = next;
             }
             RowRead::NoRow => return ImageCheck::Unsound,
@@ -200,7 +234,12 @@ fn found(held: Held) -> Finding
     ensures { λ r. ⌜ r ≡ heldAt held ⌝ }
 {
     match held {
-        Held::Body { at, len, fields: _ } => Finding::Found { at, len },
+        Held::Body {
+            row: _,
+            at,
+            len,
+            fields: _,
+        } => Finding::Found { at, len },
         Held::Missing => Finding::NotFound,
     }
 }

@@ -5,14 +5,14 @@ use mathlib.Core.List.{List}
 use Prim.Native.Nat.{ℕ, zero, suc, _+_, _-_, _*_, _%_, _≤_, _<_}
 use native.Mathlib.Omega.{arith}
 use lib.ListN.{length, take, drop, getD, set, length-set}
-use lib.Seq.{getD-take, getD-drop, getD-set-same, getD-set-other}
+use lib.Seq.{getD-set-same, getD-set-other}
 use lib.Dec.{leb, ltb, eqb}
 use borrow.Author.Tests.{not-false, ltb-true, ltb-false, leb-true, leb-false, eqb-true, eqb-false, le-ltb, eq-eqb, ne-eqb}
 use Rattle.octets.specs.Bytes.{part}
 use Rattle.octets.specs.Number.{numberAt, numberIn}
 use Rattle.octets.proofs.Tests.{and-left, and-false, or-elim, or-false, or-no-left}
 use Rattle.octets.proofs.SameLaws.{not-same}
-use Rattle.octets.proofs.NumberLaws.{number-in}
+use Rattle.octets.proofs.NumberLaws.{number-in, number-part}
 use Rattle.octets.proofs.PartLaws.{lent-part}
 use Rattle.descriptor_spec.specs.Allowed.{idSize}
 use Rattle.lease_spec.specs.Table.{leaseSize, numberWidth, hasId, idsDiffer, rowAt, rowsFrom}
@@ -67,15 +67,6 @@ below-less a b c d e f h k =
     let q = below-false e f c d k in
     not-below e f a b (omega (arith, p .0, q .0))
     (λ g. let u : a ≡ c = omega (arith, p .0, q .0) in omega (arith, p .1 u, q .1 (g ∙ u)))
-
--- a number in a part of bytes stands in those bytes
-number-part : (s : List ℕ) (at n place w : ℕ) → place + w ≤ n → numberAt (part s at n) place w ≡ numberAt s (at + place) w
-unfolding numberAt part
-number-part s at n place zero h = refl
-number-part s at n place (suc w) h =
-    let e : at + (place + w) ≡ at + place + w = omega arith in
-    ap₂ (λ (x y : ℕ). x * 256 + y) (number-part s at n place w (omega arith))
-    (getD-take n (drop at s) (place + w) 0 (omega arith) ∙ getD-drop at s (place + w) 0 ∙ ap (λ (k : ℕ). getD s k 0) e)
 
 -- the high number of the id of row j: its first 8 bytes
 abbrev pub highOf : List ℕ → ℕ → ℕ

@@ -91,6 +91,15 @@ has-of-number s at w bs l = ap (λ (m : ℕ). take m (drop at s)) (length-bigEnd
 pub number-below : (s : List ℕ) (at w : ℕ) → AreBytes s → numberAt s at w < 256 ^ w
 number-below s at w bs = number-lt s at w bs
 
+-- a number in a part of bytes stands in those bytes
+pub number-part : (s : List ℕ) (at n place w : ℕ) → place + w ≤ n → numberAt (part s at n) place w ≡ numberAt s (at + place) w
+unfolding numberAt part
+number-part s at n place zero h = refl
+number-part s at n place (suc w) h =
+    let e : at + (place + w) ≡ at + place + w = omega arith in
+    ap₂ (λ (x y : ℕ). x * 256 + y) (number-part s at n place w (omega arith))
+    (getD-take n (drop at s) (place + w) 0 (omega arith) ∙ getD-drop at s (place + w) 0 ∙ ap (λ (k : ℕ). getD s k 0) e)
+
 -- equal bytes hold the same number
 pub number-keeps : (d d′ : List ℕ) (at w : ℕ) → part d at w ≡ part d′ at w → numberAt d at w ≡ numberAt d′ at w
 unfolding numberAt part

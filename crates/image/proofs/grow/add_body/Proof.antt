@@ -5,7 +5,7 @@ use Rattle.image.proofs.grow.add_body.Statement.{statement}
 use Rattle.image.proofs.grow.add_body.Tie as tie
 
 returns : tie.Need-returns
-returns c = add-full _ _ _ _ _ _ _ _ (c .before .can-grow .ensures) (c .if1 .taken)
+returns c = add-full _ _ _ _ _ _ _ _ _ (c .before .can-grow .ensures) (c .if1 .taken)
 
 grow-requires : tie.Need-grow-requires
 grow-requires c κs =
@@ -17,7 +17,7 @@ returns-2 : tie.Need-returns-2
 returns-2 c =
     let g = c .before .before in
     let k = g .before .before in
-    add-done _ _ _ _ _ _ _ _ (k .before .can-grow .ensures) (k .if1 .left) _ (g .grow .ensures)
+    add-done _ _ _ _ _ _ _ _ _ (k .before .can-grow .ensures) (k .if1 .left) _ (g .grow .ensures)
 
 pub add-body-spec : {M : Type 1} → statement M
 add-body-spec =

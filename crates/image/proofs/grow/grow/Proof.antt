@@ -11,7 +11,7 @@ returns c =
     let p3 = p4 .before .before .before .before in
     let p2 = p3 .before .before .before .before in
     let p1 = p2 .before .before .before .before in
-    grow-done _ _ _ _ _ _ _ _ _ _ _ _ _ (p1 .before .before .before .row-place .ensures .0) (p1 .move-up .ensures) (p2 .raise .ensures)
+    grow-done _ _ _ _ _ _ _ _ _ _ _ _ _ _ (p1 .before .before .before .row-place .ensures .0) (p1 .move-up .ensures) (p2 .raise .ensures)
     (p3 .put-row .ensures) (p4 .put .ensures) (p5 .put-number .ensures)
 
 pub grow-spec : {M : Type 1} → statement M

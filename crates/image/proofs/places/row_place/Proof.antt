@@ -1,22 +1,12 @@
 -- `row_place` meets its contract. Assumes nothing.
-use mathlib.Core.Path.{refl}
-use native.Mathlib.Omega.{arith}
-use Rattle.image_spec.specs.Layout.{rowPlace}
-use Rattle.image_spec.proofs.Laws.{offsets-fit}
+use mathlib.Core.Path.{_∙_}
+use borrow.Author.Needs.{needs}
+use Rattle.image_spec.proofs.Laws.{place-within}
 use Rattle.image.proofs.places.row_place.Statement.{statement}
 use Rattle.image.proofs.places.row_place.Tie as tie
 
-mul-result : tie.Need-mul-result
-unfolding rowPlace
-mul-result c = let p = c .before .pre in omega (arith, offsets-fit _ (p .0) _ (p .1))
-
-add-result : tie.Need-add-result
-unfolding rowPlace
-add-result c = let p = c .before .pre in omega (arith, offsets-fit _ (p .0) _ (p .1))
-
 returns : tie.Need-returns
-unfolding rowPlace
-returns c = let p = c .before .pre in (refl, omega (arith, offsets-fit _ (p .0) _ (p .1)))
+returns c = let p = c .before .pre in (c .place .ensures .0 ∙ place-within _ (p .0) _ (p .1), c .place .ensures .1)
 
 pub row-place-spec : {M : Type 1} → statement M
-row-place-spec = tie.close (tie.spec mul-result add-result returns)
+row-place-spec = tie.close (tie.spec (λ c κs. search needs) returns)

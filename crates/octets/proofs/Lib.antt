@@ -6,6 +6,7 @@ pub mod SpanLaws
 pub mod SameLaws
 pub mod OrderLaws
 pub mod OverLaws
+pub mod MoveLaws
 pub mod NumberLaws
 pub mod BitLaws
 pub mod PartLaws

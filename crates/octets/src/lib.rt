@@ -16,7 +16,7 @@ ghost use Rattle.octets.specs.Span.{inside as insideOf};
 ghost use Rattle.octets.specs.Order.{before as beforeOf};
 ghost use Rattle.octets.specs.Number.{bigEndian, numberIn};
 ghost use Rattle.octets.specs.Scan.{bytesBefore};
-ghost use Rattle.octets.specs.Write.{putAt, movedUp};
+ghost use Rattle.octets.specs.Write.{putAt, movedUp, movedDown};
 
 // Whether the two are the same bytes.
 pub fn same_bytes(a: &[u8], b: &[u8]) -> bool
@@ -89,4 +89,11 @@ pub fn move_up(d: &mut [u8], from: usize, to: usize, by: usize)
     ensures { λ _. ⌜ now (d .exit) ≡ movedUp (now (d .entry)) from to by ⌝ }
 {
     write::move_up(d, from, to, by)
+}
+
+// Moves the n bytes from `from` on down to `to`, where they are there and `to` is not after them.
+pub fn move_down(d: &mut [u8], from: usize, to: usize, n: usize)
+    ensures { λ _. ⌜ now (d .exit) ≡ movedDown (now (d .entry)) from to n ⌝ }
+{
+    write::move_down(d, from, to, n)
 }

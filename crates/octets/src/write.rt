@@ -1,6 +1,6 @@
 // Writing and moving bytes.
 ghost use mathlib.Core.Path.{_≡_};
-ghost use Rattle.octets.specs.Write.{putAt, movedUp};
+ghost use Rattle.octets.specs.Write.{putAt, movedUp, movedDown};
 
 // Writes s from the place on.
 pub(crate) fn put(d: &mut [u8], at: usize, s: &[u8])
@@ -36,5 +36,25 @@ pub(crate) fn move_up(d: &mut [u8], from: usize, to: usize, by: usize)
     while from < i {
         i -= 1;
         d[i + by] = d[i];
+    }
+}
+
+// Moves the n bytes from `from` on down to `to`, in place, the first first. Where both are the same place there is nothing to do.
+pub(crate) fn move_down(d: &mut [u8], from: usize, to: usize, n: usize)
+    ensures { λ _. ⌜ now (d .exit) ≡ movedDown (now (d .entry)) from to n ⌝ }
+{
+    if from <= to {
+        return;
+    }
+    if d.len() < from {
+        return;
+    }
+    if d.len() - from < n {
+        return;
+    }
+    let mut i = 0;
+    while i < n {
+        d[to + i] = d[from + i];
+        i += 1;
     }
 }

@@ -2,7 +2,7 @@
 use Rattle.image_spec.specs.Laws.{RowsInOrder, OffsetsFit, RowNext, ReadIn, BodyRead, EncodingRead, BodyWithExactly, RowsNamed}
 use Rattle.image_spec.specs.Laws.{CheckTells, CheckSays}
 use Rattle.image_spec.specs.Laws.{CheckUnsound, EditionsChecked, CheckInside, BodyAdded, OneMore}
-use Rattle.image_spec.specs.Laws.{PlaceWithin, Edition1Ok, Edition2Ok, NamedOk}
+use Rattle.image_spec.specs.Laws.{ClosedUp, KeptHolds, PlaceWithin, Edition1Ok, Edition2Ok, NamedOk}
 use Rattle.image_spec.proofs.RowPlaceLaws.{place-order, place-small}
 use Rattle.image_spec.proofs.RowPlaceLaws as place1
 use Rattle.image_spec.proofs.NamedLaws as named
@@ -12,6 +12,7 @@ use Rattle.image_spec.proofs.ReadLaws as read
 use Rattle.image_spec.proofs.PlaceLaws as place
 use Rattle.image_spec.proofs.FindLaws as found
 use Rattle.image_spec.proofs.GrowLaws as grow
+use Rattle.image_spec.proofs.CloseLaws as close
 
 -- ---- where rows stand
 
@@ -70,6 +71,14 @@ body-added = grow.body-added
 
 pub one-more : OneMore
 one-more = grow.one-more
+
+-- ---- rows that go
+
+pub closed-up : ClosedUp
+closed-up = close.closed-up
+
+pub kept-holds : KeptHolds
+kept-holds = close.kept-holds
 
 -- ---- the layouts
 

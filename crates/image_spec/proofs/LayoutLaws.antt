@@ -138,8 +138,13 @@ holds-for : (l : Layout) (P : Row → Type 0) → ((r : Row) → MomentOk l r �
     ↔ ((length rs ≤ mostRows l) × Every (λ r. answerOf (r .body) ≡ 0) rs × IdsDiffer rs × Every P rs
     × ((rest : List ℕ) × (s ≡ imageOf l rs ++ rest)))
 holds-for l P to from s rs = (
-  λ h. (h .rows .few, all-read [] rs (h .rows .each), all-differ [] rs (h .rows .each), every-to (MomentOk l) P to rs (h .rows .moments),
-      (h .rest, h .whole)),
+  λ h. (
+    h .rows .few,
+    all-read [] rs (h .rows .each),
+    all-differ [] rs (h .rows .each),
+    every-to (MomentOk l) P to rs (h .rows .moments),
+    (h .rest, h .whole),
+  ),
   λ x. record {
     rows = record {
       few = x .0;

@@ -17,5 +17,10 @@ pub mod PlaceLaws
 pub mod MoreLaws
 pub mod RaiseLaws
 pub mod GrowLaws
+pub mod FrameLaws
+pub mod PlacedLaws
+pub mod RowsClosed
+pub mod BodiesClosed
+pub mod CloseLaws
 pub mod Laws
 pub mod Promises

@@ -46,6 +46,11 @@ module _ (l : Layout) where
   unfolding rowPlace
   place-order i n h = omega (arith, mul-suc (rowSize l) i, mul-le-mul-left (rowSize l) h)
 
+  -- rows stand in order
+  pub place-up : (i n : ℕ) → i ≤ n → rowPlace l i ≤ rowPlace l n
+  unfolding rowPlace
+  place-up i n h = omega (arith, mul-le-mul-left (rowSize l) h)
+
   -- every row stands after the header
   pub place-after : (n : ℕ) → headerSize ≤ rowPlace l n
   unfolding rowPlace

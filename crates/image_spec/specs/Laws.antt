@@ -27,6 +27,7 @@ use Rattle.image_spec.specs.Layout.{rowPlace, placeWithin}
 use Rattle.image_spec.specs.Layout.{LayoutOk}
 use Rattle.image_spec.specs.Image.{Row, rowOf, reading, isRead, idOf, modesOf, imageOf, MomentOk, RowsOk, Holds, bodyWith}
 use Rattle.image_spec.specs.Check.{rowLength, rowAt, layoutOf, checkOf, rowsHeld}
+use Rattle.image_spec.specs.Close.{kept, withRows, closedUp}
 use Rattle.image_spec.specs.Grow.{addedOf, afterAdd, hasRoom, withBody}
 
 -- ---- where rows stand
@@ -156,6 +157,19 @@ pub record OneMoreFor (l : Layout) : Type 0 where
       → Holds l (withBody l d rs r) (rs ++ (r ∷ []))
   pub mine : (rs : List Row) (r : Row) → bodyWith (idOf (r .body)) rs ≡ none → bodyWith (idOf (r .body)) (rs ++ (r ∷ [])) ≡ some (r .body)
   pub others : (id : List ℕ) (rs : List Row) (r : Row) → (idOf (r .body) ≡ id → ⊥) → bodyWith id (rs ++ (r ∷ [])) ≡ bodyWith id rs
+
+-- ---- rows that go
+
+-- in a buffer that holds rows, of which each has a mark, the writes of a removal leave the image of the rows that stay, and beyond it what
+-- stood there
+abbrev pub ClosedUp : Type 0
+ClosedUp = (l : Layout) → LayoutOk l → (d : List ℕ) (rs : List Row) (gs : List ℕ) → Holds l d rs → length gs ≡ length rs
+    → closedUp l d gs ≡ withRows l d (kept gs rs)
+
+-- the buffer then holds the rows that stay
+abbrev pub KeptHolds : Type 0
+KeptHolds = (l : Layout) → LayoutOk l → (d : List ℕ) (rs : List Row) (gs : List ℕ) → Holds l d rs → length gs ≡ length rs
+    → Holds l (withRows l d (kept gs rs)) (kept gs rs)
 
 -- ---- for every layout that may be
 

@@ -1,0 +1,2 @@
+// Removing rows of a stored image in place.
+mod close;

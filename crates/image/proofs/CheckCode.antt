@@ -209,20 +209,20 @@ module _ (l : Layout) where
     row-other t = goes ∙ guard-no (rowFits l s r at f) _ (not-T-of b p t)
 
     -- the code looks for the row's id among those before
-    row-among : not b ≡ false → (c t : Bool) → c ≡ idAmong l s (take (r + idSize - r) (drop r s)) i → c ≡ t
+    row-among : not b ≡ false → (c t : Bool) → c ≡ idAmong l s (rowId s r) i → c ≡ t
         → onRead o (afterRead s i at n) ≡ guard (not t) (got f (at + n))
     row-among u c t q v =
         goes
         ∙ guard-yes (rowFits l s r at f) _ (T-of-not b p u)
-        ∙ ap (λ (x : Bool). guard (not x) (got f (at + n))) (ap (λ (x : List ℕ). idAmong l s x i) (sym (lent-part s r idSize)) ∙ sym q ∙ v)
+        ∙ ap (λ (x : Bool). guard (not x) (got f (at + n))) (sym q ∙ v)
 
     -- a row whose id a row before has is refused
-    pub row-twice : not b ≡ false → (c : Bool) → c ≡ idAmong l s (take (r + idSize - r) (drop r s)) i → c ≡ true
+    pub row-twice : not b ≡ false → (c : Bool) → c ≡ idAmong l s (rowId s r) i → c ≡ true
         → onRead o (afterRead s i at n) ≡ refused
     row-twice u c q v = row-among u c true q v ∙ guard-no false (got f (at + n)) tt
 
     -- another row is answered with what was read of its body, and the place after the body
-    pub row-good : not b ≡ false → (c : Bool) → c ≡ idAmong l s (take (r + idSize - r) (drop r s)) i → c ≡ false
+    pub row-good : not b ≡ false → (c : Bool) → c ≡ idAmong l s (rowId s r) i → c ≡ false
         → onRead o (afterRead s i at n) ≡ got f (at + n)
     row-good u c q v = row-among u c false q v ∙ guard-yes true (got f (at + n)) tt
 
@@ -230,13 +230,13 @@ module _ (l : Layout) where
 
   -- a row that passes leaves the rows after it, with what the code keeps
   pub rows-kept : (s id : List ℕ) (n i r at : ℕ) (h h′ : Held) (f : Fields) (next : ℕ) (hit : Bool) → i < n → got f next ≡ rowAt l s i at
-      → r ≡ rowPlace l i → hit ≡ same (take (r + idSize - r) (drop r s)) id → h′ ≡ heldWith hit h at (next - at) f
+      → r ≡ rowPlace l i → hit ≡ same (take (r + idSize - r) (drop r s)) id → h′ ≡ heldWith hit h i at (next - at) f
       → rowsFrom l s id (n - i) i at h ≡ rowsFrom l s id (n - (i + 1)) (i + 1) next h′
   rows-kept s id n i r at h h′ f next hit m e place p q =
       let len : rowLength s (rowPlace l i) ≡ next - at = omega (arith, row-next l s i at f next e .0) in
       rows-next l s id n i at h f next m e
       ∙ ap (rowsFrom l s id (n - (i + 1)) (i + 1) next)
-      (ap₂ (λ (b : Bool) (k : ℕ). heldWith b h at k f) (sym (id-is s id i r hit place p)) len ∙ sym q)
+      (ap₂ (λ (b : Bool) (k : ℕ). heldWith b h i at k f) (sym (id-is s id i r hit place p)) len ∙ sym q)
 
   -- ---- the whole image
 

@@ -25,7 +25,7 @@ module _ (l : Layout) where
   -- a row that passes leaves the rows after it
   pub rows-next : (s id : List ℕ) (n i at : ℕ) (h : Held) (f : Fields) (next : ℕ) → i < n → got f next ≡ rowAt l s i at
       → rowsFrom l s id (n - i) i at h
-      ≡ rowsFrom l s id (n - (i + 1)) (i + 1) next (heldWith (same (rowId s (rowPlace l i)) id) h at (rowLength s (rowPlace l i)) f)
+      ≡ rowsFrom l s id (n - (i + 1)) (i + 1) next (heldWith (same (rowId s (rowPlace l i)) id) h i at (rowLength s (rowPlace l i)) f)
   unfolding rowsFrom
   rows-next s id n i at h f next q e =
       let k : n - i ≡ suc (n - (i + 1)) = omega arith in

@@ -21,10 +21,10 @@ unfolding layoutOf
 names-1 s n e f = rw (ne-eqb (numberIn s editionPlace headerWidth) 2 (λ g. f (e ∙ g)))
 
 returns : tie.Need-returns
-returns c = names-2 _ _ (c .before .number-at .ensures .0) (c .if1 .taken)
+returns c = names-2 _ _ (c .before .before .number-at .ensures .0) (c .if1 .taken)
 
 returns-2 : tie.Need-returns-2
-returns-2 c = names-1 _ _ (c .before .number-at .ensures .0) (c .if1 .left)
+returns-2 c = names-1 _ _ (c .before .before .number-at .ensures .0) (c .if1 .left)
 
 pub layout-of-spec : {M : Type 1} → statement M
 layout-of-spec = tie.close (tie.spec (λ c κs. search needs) returns returns-2)

@@ -7,7 +7,7 @@ use Rattle.image.proofs.grow.put_row.Tie as tie
 returns : tie.Need-returns
 returns c =
     let p6 = c .before .before in
-    let p5 = p6 .before .before .before in
+    let p5 = p6 .before .before .before .before in
     let p4 = p5 .before .before .before .before .before in
     let p3 = p4 .before .before .before .before in
     let p2 = p3 .before .before .before .before in
@@ -20,4 +20,5 @@ put-row-spec =
     tie.close
     (tie.spec (λ c. search needs) (λ c. search needs) (λ c. search needs) (λ c. search needs) (λ c κs. search needs)
     (λ c. search needs) (λ c κs. search needs) (λ c. search needs) (λ c κs. search needs) (λ c. search needs)
-    (λ c κs. search needs) (λ c. search needs) (λ c. search needs) (λ c κs. search needs) (λ c. search needs) returns)
+    (λ c κs. search needs) (λ c. search needs) (λ c. search needs) (λ c κs. search needs) (λ c κs. search needs) (λ c. search needs)
+    returns)

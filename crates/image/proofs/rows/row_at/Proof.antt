@@ -1,10 +1,10 @@
 -- `row_at` meets its contract. Assumes nothing.
-use mathlib.Core.Path.{_≡_, sym, _∙_}
+use mathlib.Core.Path.{_≡_, sym, ap, _∙_}
 use mathlib.Core.Logic.{inl, inr}
-use Prim.Native.Nat.{_+_, _<_, _^_}
+use Prim.Native.Nat.{ℕ, _+_, _<_, _^_}
 use native.Mathlib.Omega.{arith}
 use Rattle.image_spec.specs.Layout.{rowPlace}
-use Rattle.image_spec.specs.Check.{onRead, rowAt}
+use Rattle.image_spec.specs.Check.{rowId, idAmong, onRead, rowAt}
 use Rattle.image.proofs.CheckCode.{afterRead, row-short, row-read, id-room, read-not, row-other, row-twice, row-good}
 use borrow.Author.Needs.{needs}
 use Rattle.image.proofs.rows.row_at.Statement.{statement}
@@ -52,24 +52,37 @@ returns-2 c =
     let k = f .before .before in
     sym (opened k ∙ row-other _ _ _ _ _ _ (placed k) _ _ (f .fields .given .1) _ (c .before .row-fits .ensures) (c .if2 .taken))
 
+-- the slot of the id was marked, or none of the rows before has it
+is-twice-requires : tie.Need-is-twice-requires
+is-twice-requires c κs =
+    let k = c .before .before .before .before .before in
+    let p = start k .pre in (
+      p .0,
+      omega arith,
+      omega arith,
+      omega arith,
+      λ e. ap (λ (r : ℕ). idAmong (start k .args .layout) (start k .args .s .now) (rowId (start k .args .s .now) r) (start k .args .i))
+          (placed k) ∙ p .4 e,
+    )
+
 returns-3 : tie.Need-returns-3
 returns-3 c =
-    let u = c .before .before .before in
+    let u = c .before .before in
     let f = u .before .before .before in
     let k = f .before .before in
     sym (opened k ∙ row-twice _ _ _ _ _ _ (placed k) _ _ (f .fields .given .1) _ (u .before .row-fits .ensures) (u .if2 .left) _
-    (c .before .id-among .ensures) (c .if3 .taken))
+    (c .before .is-twice .ensures) (c .if3 .taken))
 
-add-next : tie.Need-add-t20
-add-next c = record { fits = next-fits (c .before .before .before .before .before .before .before .before) }
+add-next : tie.Need-add-t21
+add-next c = record { fits = next-fits (c .before .before .before .before .before .before .before) }
 
 returns-4 : tie.Need-returns-4
 returns-4 c =
-    let u = c .before .before .before in
+    let u = c .before .before in
     let f = u .before .before .before in
     let k = f .before .before in
     sym (opened k ∙ row-good _ _ _ _ _ _ (placed k) _ _ (f .fields .given .1) _ (u .before .row-fits .ensures) (u .if2 .left) _
-    (c .before .id-among .ensures) (c .if3 .left))
+    (c .before .is-twice .ensures) (c .if3 .left))
 
 returns-5 : tie.Need-returns-5
 returns-5 c = sym (opened (c .before .before) ∙ read-not _ _ _ _ _ _ (inl (c .enum-told .given .1)))
@@ -82,6 +95,5 @@ row-at-spec =
     tie.close
     (tie.spec (λ c κs. search needs) (λ c. search needs) (λ c κs. search needs) (λ c. search needs) returns
     (λ c. search needs) (λ c. search needs) (λ c. search needs) (λ c. search needs) (λ c κs. search needs)
-    (λ c. search needs) row-fits-requires returns-2 (λ c. search needs) (λ c. search needs) (λ c. search needs)
-    (λ c. search needs) (λ c κs. search needs) returns-3 add-next (λ c. search needs) (λ c. search needs)
-    returns-4 returns-5 returns-6)
+    (λ c. search needs) row-fits-requires returns-2 is-twice-requires returns-3 add-next (λ c. search needs)
+    (λ c. search needs) returns-4 returns-5 returns-6)

@@ -6,6 +6,8 @@ pub mod Grow
 pub mod Close
 pub mod Choose
 pub mod Removal
+pub mod Touch
+pub mod Upgrade
 pub mod Edition2
 pub mod Readable
 pub mod Promises

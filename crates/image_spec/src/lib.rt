@@ -61,3 +61,18 @@ pub enum Room {
     Made { rows: u64, end: usize },
     NoRoom,
 }
+
+// What turning an image of edition 1 into one of edition 2 answers: the length of the new image; 16, the old one is not a sound image of
+// edition 1; 17, the buffer is too short.
+pub enum Upgrade {
+    Upgraded { len: usize },
+    BadImage,
+    TooShort,
+}
+
+// What a call that writes a part of a buffer answers, as include/cap.h has it: the answer, and with 0 how many bytes it wrote.
+#[repr(C)]
+pub struct Written {
+    pub answer: u64,
+    pub len: u64,
+}

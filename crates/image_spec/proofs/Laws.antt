@@ -2,7 +2,8 @@
 use Rattle.image_spec.specs.Laws.{RowsInOrder, OffsetsFit, RowNext, ReadIn, BodyRead, EncodingRead, BodyWithExactly, RowsNamed}
 use Rattle.image_spec.specs.Laws.{CheckTells, CheckSays}
 use Rattle.image_spec.specs.Laws.{CheckUnsound, EditionsChecked, CheckInside, BodyAdded, OneMore}
-use Rattle.image_spec.specs.Laws.{ClosedUp, KeptHolds, PlaceWithin, Edition1Ok, Edition2Ok, NamedOk}
+use Rattle.image_spec.specs.Laws.{ChoiceRoom, ChoiceRemoval, RemovalOnce, ChoiceExactly, FitsNoneGoes, UnexpiredStay, RoomMade}
+use Rattle.image_spec.specs.Laws.{PlaceWithin, Edition1Ok, Edition2Ok, NamedOk}
 use Rattle.image_spec.proofs.RowPlaceLaws.{place-order, place-small}
 use Rattle.image_spec.proofs.RowPlaceLaws as place1
 use Rattle.image_spec.proofs.NamedLaws as named
@@ -12,7 +13,9 @@ use Rattle.image_spec.proofs.ReadLaws as read
 use Rattle.image_spec.proofs.PlaceLaws as place
 use Rattle.image_spec.proofs.FindLaws as found
 use Rattle.image_spec.proofs.GrowLaws as grow
-use Rattle.image_spec.proofs.CloseLaws as close
+use Rattle.image_spec.proofs.RemovalLaws as removal
+use Rattle.image_spec.proofs.OnceLaws as once
+use Rattle.image_spec.proofs.BufferChoice as buffer
 
 -- ---- where rows stand
 
@@ -72,13 +75,28 @@ body-added = grow.body-added
 pub one-more : OneMore
 one-more = grow.one-more
 
--- ---- rows that go
+-- ---- which rows go for a new one
 
-pub closed-up : ClosedUp
-closed-up = close.closed-up
+pub choice-room : ChoiceRoom
+choice-room = removal.choice-room
 
-pub kept-holds : KeptHolds
-kept-holds = close.kept-holds
+pub choice-removal : ChoiceRemoval
+choice-removal = removal.choice-removal
+
+pub removal-once : RemovalOnce
+removal-once = once.removal-once
+
+pub choice-exactly : ChoiceExactly
+choice-exactly = removal.choice-exactly
+
+pub fits-none-goes : FitsNoneGoes
+fits-none-goes = removal.fits-none-goes
+
+pub unexpired-stay : UnexpiredStay
+unexpired-stay = removal.unexpired-stay
+
+pub room-made : RoomMade
+room-made = buffer.room-made
 
 -- ---- the layouts
 

@@ -17,10 +17,11 @@ pub mod PlaceLaws
 pub mod MoreLaws
 pub mod RaiseLaws
 pub mod GrowLaws
-pub mod FrameLaws
-pub mod PlacedLaws
-pub mod RowsClosed
-pub mod BodiesClosed
-pub mod CloseLaws
+pub mod LeastLaws
+pub mod MarkLaws
+pub mod ChoiceLaws
+pub mod RemovalLaws
+pub mod BufferChoice
+pub mod OnceLaws
 pub mod Laws
 pub mod Promises

@@ -6,6 +6,7 @@ use Prim.Native.Nat.{ℕ, zero, suc, _+_, _-_}
 use lib.ListN.{length, getD, set}
 use lib.Dec.{leb, ltb, eqb}
 use Rattle.octets.specs.Bytes.{part}
+use Rattle.octets.specs.Span.{inside}
 use Rattle.octets.specs.Number.{numberIn}
 use Rattle.descriptor_spec.specs.declared.Reading.{Reading}
 use Rattle.descriptor_spec.specs.declared.Reading.the-variants.{Read, Structure, Validity}
@@ -60,10 +61,15 @@ usedAt l d i = numberIn d (rowPlace l i + momentPlace l) (momentSize l)
 unfoldable pub sizeAt : Layout → List ℕ → ℕ → ℕ
 sizeAt l d i = numberIn d (rowPlace l i + lengthPlace) bodyWidth
 
+-- its body, where the row says that it lies; none where it does not lie in the buffer
+unfoldable pub bodyAt : Layout → List ℕ → ℕ → List ℕ
+bodyAt l d i =
+    let p = inside d (numberIn d (rowPlace l i + offsetPlace) bodyWidth) (sizeAt l d i) in
+    part d (p .start) (p .len)
+
 -- its mark, from its body
 unfoldable pub markAt : Layout → List ℕ → ℕ → ℕ → ℕ
-markAt l d clock i =
-    markBy (leb (endOf (part d (numberIn d (rowPlace l i + offsetPlace) bodyWidth) (sizeAt l d i))) clock)
+markAt l d clock i = markBy (leb (endOf (bodyAt l d i)) clock)
 
 -- the marks of k rows from row i on
 unfoldable pub marksFrom : Layout → List ℕ → ℕ → ℕ → ℕ → List ℕ

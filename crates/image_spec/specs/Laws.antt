@@ -2,7 +2,7 @@
 -- need this page.
 use mathlib.Core.Path.{_≡_}
 use mathlib.Core.Logic.{_↔_, _⊎_}
-use mathlib.Core.Bool.{true, cond}
+use mathlib.Core.Bool.{Bool, true, cond}
 use mathlib.Core.List.{List, [], _∷_, _++_}
 use mathlib.Core.Option.{none, some}
 use Prim.Native.Nat.{ℕ, _+_, _*_, _≤_, _<_}
@@ -21,6 +21,7 @@ use Rattle.image_spec.specs.declared.Held.the-variants.{Missing, Body}
 use Rattle.image_spec.specs.declared.ImageCheck.{ImageCheck}
 use Rattle.image_spec.specs.declared.ImageCheck.the-variants.{Sound, Unsound}
 use Rattle.image_spec.specs.declared.Added.the-variants.{Done, Full}
+use Rattle.image_spec.specs.declared.Room.the-variants.{Made, NoRoom}
 use Rattle.image_spec.specs.declared.layout.Layout.{Layout}
 use Rattle.image_spec.specs.Layout.{modeEdition, headerWidth, editionPlace, modesPlace, edition1, edition2, rowSize, mostRows}
 use Rattle.image_spec.specs.Layout.{rowPlace, placeWithin}
@@ -29,6 +30,9 @@ use Rattle.image_spec.specs.Image.{Row, rowOf, reading, isRead, idOf, mo
 use Rattle.image_spec.specs.Check.{rowLength, rowAt, layoutOf, checkOf, rowsHeld}
 use Rattle.image_spec.specs.Close.{kept, withRows, closedUp}
 use Rattle.image_spec.specs.Grow.{addedOf, afterAdd, hasRoom, withBody}
+use Rattle.image_spec.specs.Close.{closedUp}
+use Rattle.image_spec.specs.Choose.{unexpired, choiceOf, stayingOf, roomOf, afterRoom}
+use Rattle.image_spec.specs.Removal.{left, goesOf, Removal}
 
 -- ---- where rows stand
 
@@ -158,18 +162,48 @@ pub record OneMoreFor (l : Layout) : Type 0 where
   pub mine : (rs : List Row) (r : Row) → bodyWith (idOf (r .body)) rs ≡ none → bodyWith (idOf (r .body)) (rs ++ (r ∷ [])) ≡ some (r .body)
   pub others : (id : List ℕ) (rs : List Row) (r : Row) → (idOf (r .body) ≡ id → ⊥) → bodyWith id (rs ++ (r ∷ [])) ≡ bodyWith id rs
 
--- ---- rows that go
+-- ---- which rows go for a new one
 
--- in a buffer that holds rows, of which each has a mark, the writes of a removal leave the image of the rows that stay, and beyond it what
--- stood there
-abbrev pub ClosedUp : Type 0
-ClosedUp = (l : Layout) → LayoutOk l → (d : List ℕ) (rs : List Row) (gs : List ℕ) → Holds l d rs → length gs ≡ length rs
-    → closedUp l d gs ≡ withRows l d (kept gs rs)
+-- the answer of the choice is whether there is room beside the rows that stay
+abbrev pub ChoiceRoomFor : Layout → Type 0
+ChoiceRoomFor l = (d : List ℕ) (clock : ℕ) (rs : List Row) (new : Row)
+    → choiceOf l (length d) clock rs (length (new .body)) .ok ≡ hasRoom l d (stayingOf l (length d) clock rs (length (new .body))) new
 
--- the buffer then holds the rows that stay
-abbrev pub KeptHolds : Type 0
-KeptHolds = (l : Layout) → LayoutOk l → (d : List ℕ) (rs : List Row) (gs : List ℕ) → Holds l d rs → length gs ≡ length rs
-    → Holds l (withRows l d (kept gs rs)) (kept gs rs)
+-- where the answer is yes the chosen rows are those that go for the new one, and those that are left are those that stay
+abbrev pub ChoiceRemovalFor : Layout → Type 0
+ChoiceRemovalFor l = (d : List ℕ) (clock : ℕ) (rs : List Row) (new : Row) → choiceOf l (length d) clock rs (length (new .body)) .ok ≡ true
+    → Removal l d clock rs new (goesOf (choiceOf l (length d) clock rs (length (new .body)) .marks))
+    × (left (goesOf (choiceOf l (length d) clock rs (length (new .body)) .marks)) rs ≡ stayingOf l (length d) clock rs (length (new .body)))
+
+-- what is said of the rows that go is so of one list of them at most
+abbrev pub RemovalOnceFor : Layout → Type 0
+RemovalOnceFor l = (d : List ℕ) (clock : ℕ) (rs : List Row) (new : Row) (g h : List Bool) → Removal l d clock rs new g
+    → Removal l d clock rs new h → g ≡ h
+
+-- the answer is no exactly where there would be no room beside the rows that are not expired
+abbrev pub ChoiceExactlyFor : Layout → Type 0
+ChoiceExactlyFor l = (d : List ℕ) (clock : ℕ) (rs : List Row) (new : Row)
+    → choiceOf l (length d) clock rs (length (new .body)) .ok ≡ hasRoom l d (unexpired clock rs) new
+
+-- where there is room already all rows stay, and the answer is yes
+abbrev pub FitsNoneGoesFor : Layout → Type 0
+FitsNoneGoesFor l = (d : List ℕ) (clock : ℕ) (rs : List Row) (new : Row) → hasRoom l d rs new ≡ true
+    → (stayingOf l (length d) clock rs (length (new .body)) ≡ rs) × (choiceOf l (length d) clock rs (length (new .body)) .ok ≡ true)
+
+-- every row that is not expired stays
+abbrev pub UnexpiredStayFor : Layout → Type 0
+UnexpiredStayFor l = (d : List ℕ) (clock : ℕ) (rs : List Row) (new : Row)
+    → unexpired clock (stayingOf l (length d) clock rs (length (new .body))) ≡ unexpired clock rs
+
+-- In a buffer that holds rows room is made exactly where the choice among them says so, by removing the chosen rows; the answer then says
+-- how many stay and where their image ends. Else no byte is changed.
+abbrev pub RoomMadeFor : Layout → Type 0
+RoomMadeFor l = (d : List ℕ) (rs : List Row) → Holds l d rs → (clock more : ℕ) → more ≤ 32768
+    → (roomOf l d (length rs) (length (imageOf l rs)) clock more ≡ cond (choiceOf l (length d) clock rs more .ok)
+    (Made (length (stayingOf l (length d) clock rs more)) (length (imageOf l (stayingOf l (length d) clock rs more)))) NoRoom)
+    × (afterRoom l d (length rs) (length (imageOf l rs)) clock more ≡ cond (choiceOf l (length d) clock rs more .ok)
+    (closedUp l d (choiceOf l (length d) clock rs more .marks)) d)
+    × (length (choiceOf l (length d) clock rs more .marks) ≡ length rs)
 
 -- ---- for every layout that may be
 
@@ -199,6 +233,27 @@ BodyAdded = (l : Layout) → LayoutOk l → BodyAddedFor l
 
 abbrev pub OneMore : Type 0
 OneMore = (l : Layout) → LayoutOk l → OneMoreFor l
+
+abbrev pub ChoiceRoom : Type 0
+ChoiceRoom = (l : Layout) → LayoutOk l → ChoiceRoomFor l
+
+abbrev pub ChoiceRemoval : Type 0
+ChoiceRemoval = (l : Layout) → LayoutOk l → ChoiceRemovalFor l
+
+abbrev pub RemovalOnce : Type 0
+RemovalOnce = (l : Layout) → LayoutOk l → RemovalOnceFor l
+
+abbrev pub ChoiceExactly : Type 0
+ChoiceExactly = (l : Layout) → LayoutOk l → ChoiceExactlyFor l
+
+abbrev pub FitsNoneGoes : Type 0
+FitsNoneGoes = (l : Layout) → LayoutOk l → FitsNoneGoesFor l
+
+abbrev pub UnexpiredStay : Type 0
+UnexpiredStay = (l : Layout) → LayoutOk l → UnexpiredStayFor l
+
+abbrev pub RoomMade : Type 0
+RoomMade = (l : Layout) → LayoutOk l → RoomMadeFor l
 
 -- edition 1 and edition 2 may be, and so may the layout that the header of an image names
 abbrev pub Edition1Ok : Type 0

@@ -20,7 +20,8 @@ use Rattle.image_spec.specs.declared.Least.{Least}
 use Rattle.image_spec.specs.declared.Least.the-variants.{IsRow, NoRow}
 use Rattle.image_spec.specs.declared.Room.{Room}
 use Rattle.image_spec.specs.declared.Room.the-variants.{Made, NoRoom}
-use Rattle.image_spec.specs.Layout.{bodyWidth, offsetPlace, lengthPlace, rowSize, mostRows, momentPlace, momentSize, rowPlace, LayoutOk}
+use Rattle.image_spec.specs.Layout.{bodyWidth, offsetPlace, lengthPlace, rowSize, mostRows, momentPlace, momentSize, rowPlace}
+use Rattle.image_spec.specs.Layout.{LayoutOk}
 use Rattle.image_spec.specs.Image.{Row, rowOf, imageOf, Holds}
 use Rattle.image_spec.specs.Close.{expired, gone, kept, closedUp}
 use Rattle.image_spec.specs.Choose.{endOf, isExpired, markBy, marked, usedAt, sizeAt, bodyAt, markAt, marksFrom}
@@ -57,7 +58,8 @@ module _ (l : Layout) (used used′ size size′ : ℕ → ℕ) (rows short n : 
   other = record { used = used′; size = size′; rows = rows; short = short }
 
   -- what is chosen by the same moments and lengths is the same
-  chosen-alike : (m : ℕ) (gs : List ℕ) (removed freed : ℕ) → length gs ≡ n → chosen l one m gs removed freed ≡ chosen l other m gs removed freed
+  chosen-alike : (m : ℕ) (gs : List ℕ) (removed freed : ℕ) → length gs ≡ n
+      → chosen l one m gs removed freed ≡ chosen l other m gs removed freed
   unfolding chosen
   chosen-alike zero gs removed freed e = refl
   chosen-alike (suc m) gs removed freed e =
@@ -128,8 +130,8 @@ module _ (l : Layout) (ok : LayoutOk l) where
   rows-say s clock (b ∷ bs) seen i at small g (suc j) k h e =
       let x = run-first l ok s seen i at b bs g in
       let short : length (b .body) ≤ 32768 = read-in (b .body) (x .0) (x .1 .reads) .short in
-      rows-say s clock bs (seen ++ (b ∷ [])) (i + 1) (at + length (b .body)) (omega arith) (run-rest l ok s seen i at b bs g) j k (omega arith)
-      (omega arith)
+      rows-say s clock bs (seen ++ (b ∷ [])) (i + 1) (at + length (b .body)) (omega arith) (run-rest l ok s seen i at b bs g) j k
+      (omega arith) (omega arith)
 
   -- ---- the choice in a buffer
 
@@ -185,7 +187,8 @@ module _ (l : Layout) (ok : LayoutOk l) where
         = ap (λ (t : Bool). cond t (roomBy (length rs) end (choiceAt l d (length rs) end clock more)) NoRoom) guards
         ∙ ap (roomBy (length rs) end) e ∙ room-by c (length k) (length (imageOf l k)) (x .going .rows) (x .going .bytes) in (
           says,
-          ap (afterBy l d (length rs) end clock more) says ∙ go (c .ok) (length k) (length (imageOf l k)) more (ap (λ (y : Chosen). y .marks) e),
+          ap (afterBy l d (length rs) end clock more) says
+              ∙ go (c .ok) (length k) (length (imageOf l k)) more (ap (λ (y : Chosen). y .marks) e),
           marks-length clock (c .marks) rs (x .going .marks),
         )
       where

@@ -16,7 +16,8 @@ use Rattle.image_spec.specs.Layout.{rowSize, mostRows, rowPlace, LayoutO
 use Rattle.image_spec.specs.Image.{Row, imageOf}
 use Rattle.image_spec.specs.Grow.{hasRoom}
 use Rattle.image_spec.specs.Close.{expired, gone, kept}
-use Rattle.image_spec.specs.Choose.{Ask, shortOf, leastOf, fitsAfter, fitsIn, Chosen, chosenOf, oneStep, chosen, marked, askOf, choiceOf}
+use Rattle.image_spec.specs.Choose.{Ask, shortOf, leastOf, fitsAfter, fitsIn, Chosen, chosenOf, oneStep, chosen, marked, askOf}
+use Rattle.image_spec.specs.Choose.{choiceOf}
 use Rattle.image_spec.specs.Removal.{rowIn, Before}
 use Rattle.image_spec.proofs.RowPlaceLaws.{place-next}
 use Rattle.image_spec.proofs.RowLaws.{image-length}
@@ -100,7 +101,8 @@ module _ (l : Layout) (ok : LayoutOk l) (d : List ℕ) (clock : ℕ) (rs : List 
   going-next : (gs : List ℕ) (removed freed k v : ℕ) → Going gs removed freed → roomBeside gs ≡ false → leastOf asked gs ≡ IsRow k v
       → Going (set gs k gone) (removed + 1) (freed + (rowSize l + length (rowIn rs k .body)))
   going-next gs removed freed k v t full e =
-      let s : LeastTo (asked .used) (markIn gs) (length gs) k v = subst (SeenTo (asked .used) (markIn gs) (length gs)) e (least-seen asked gs) in
+      let s : LeastTo (asked .used) (markIn gs) (length gs) k v
+      = subst (SeenTo (asked .used) (markIn gs) (length gs)) e (least-seen asked gs) in
       let h : k < length gs = s .below in
       let n : length gs ≡ length rs = marks-length clock gs rs (t .marks) in
       let q = kept-set gs rs k n (s .due) in
@@ -178,7 +180,8 @@ module _ (l : Layout) (ok : LayoutOk l) (d : List ℕ) (clock : ℕ) (rs : List 
   -- so is the choice among the rows
   pub choice-ended : Ended (choiceOf l (length d) clock rs (length (new .body)))
   unfolding choiceOf
-  choice-ended = chosen-ended (length rs) (marked clock rs) 0 0 (omega (arith, ap (λ (x : List Row). length x) (kept-first clock rs))) going-first
+  choice-ended =
+      chosen-ended (length rs) (marked clock rs) 0 0 (omega (arith, ap (λ (x : List Row). length x) (kept-first clock rs))) going-first
 
 -- where there is room nothing more is chosen
 pub chosen-fits : (l : Layout) (a : Ask) (m : ℕ) (gs : List ℕ) (removed freed : ℕ) → fitsIn l a removed freed ≡ true

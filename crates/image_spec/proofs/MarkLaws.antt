@@ -149,7 +149,8 @@ kept-set [] rs j n z = absurd (omega arith)
 kept-set (g ∷ gs) [] j n z = absurd (omega arith)
 kept-set (g ∷ gs) (r ∷ rs) zero n z =
     let k : List Row = kept gs rs in
-    subst (λ (x : ℕ). (length (keep (stays x) r k) ≡ length k + 1) × (length (joined (keep (stays x) r k)) ≡ length (joined k) + length (r .body)))
+    subst
+    (λ (x : ℕ). (length (keep (stays x) r k) ≡ length k + 1) × (length (joined (keep (stays x) r k)) ≡ length (joined k) + length (r .body)))
     (sym z) (omega arith, omega (arith, length-append (r .body) (joined k)))
 kept-set (g ∷ gs) (r ∷ rs) (suc j) n z = go (stays g) (kept-set gs rs j (omega arith) z)
   where

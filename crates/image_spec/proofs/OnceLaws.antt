@@ -64,8 +64,10 @@ same-goes [] [] n f k = refl
 same-goes [] (c ∷ h) n f k = absurd (omega arith)
 same-goes (b ∷ g) [] n f k = absurd (omega arith)
 same-goes (b ∷ g) (c ∷ h) n f k =
-    ap₂ (λ (x : Bool) (y : List Bool). x ∷ y) (head b c (λ e. f 0 (record { place = omega arith; flag = e }) .flag) (λ e. k 0 (record { place = omega arith; flag = e }) .flag))
-    (same-goes g h (omega arith) (λ i x. goes-rest c h i (f (suc i) (goes-more b g i x))) (λ i x. goes-rest b g i (k (suc i) (goes-more c h i x))))
+    ap₂ (λ (x : Bool) (y : List Bool). x ∷ y)
+    (head b c (λ e. f 0 (record { place = omega arith; flag = e }) .flag) (λ e. k 0 (record { place = omega arith; flag = e }) .flag))
+    (same-goes g h (omega arith)
+    (λ i x. goes-rest c h i (f (suc i) (goes-more b g i x))) (λ i x. goes-rest b g i (k (suc i) (goes-more c h i x))))
   where
     head : (b c : Bool) → (b ≡ true → c ≡ true) → (c ≡ true → b ≡ true) → b ≡ c
     head true c p q = sym (p refl)
@@ -105,7 +107,8 @@ last-of : (rs : List Row) (g : List Bool) (n : ℕ) → n ≤ length g → Last 
 last-of rs g zero h = none-goes (λ i k x. omega arith)
 last-of rs g (suc n) h =
     subst (Last rs g) (add-one n)
-    (by-goes (Last rs g (n + 1)) g n (omega arith) (λ x. with x (last-of rs g n (omega arith))) (λ e. without e (last-of rs g n (omega arith))))
+    (by-goes (Last rs g (n + 1)) g n (omega arith) (λ x. with x (last-of rs g n (omega arith)))
+    (λ e. without e (last-of rs g n (omega arith))))
   where
     without : getD g n true ≡ false → Last rs g n → Last rs g (n + 1)
     without e (none-goes f) = none-goes (by-last (λ (i : ℕ). Goes g i → ⊥) n f (λ x. goes-stays g n x e))
@@ -125,7 +128,8 @@ last-of rs g (suc n) h =
         go : (t : Bool) → ltb (rowIn rs n .used) (rowIn rs j .used) ≡ t → Last rs g (n + 1)
         go true e =
             let q : rowIn rs n .used < rowIn rs j .used = ltb-true (rowIn rs n .used) (rowIn rs j .used) e in
-            last-goes j y (by-last (λ (i : ℕ). Goes g i → (i ≡ j → ⊥) → Before rs i j) n f (λ z m. (omega arith, λ w. absurd (omega arith))))
+            last-goes j y
+            (by-last (λ (i : ℕ). Goes g i → (i ≡ j → ⊥) → Before rs i j) n f (λ z m. (omega arith, λ w. absurd (omega arith))))
         go false e =
             let q : rowIn rs j .used ≤ rowIn rs n .used = ltb-false (rowIn rs n .used) (rowIn rs j .used) e in
             last-goes n x

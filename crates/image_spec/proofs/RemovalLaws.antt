@@ -37,7 +37,9 @@ mark-goes gs i z = record {
 module _ (l : Layout) (ok : LayoutOk l) where
   -- so many rows begin where fewer do, or later
   place-more : (n m : ℕ) → n ≤ m → rowPlace l n ≤ rowPlace l m
-  place-more n m h = by-eq (rowPlace l n ≤ rowPlace l m) n m (λ e. omega (arith, ap (rowPlace l) e)) (λ e. omega (arith, place-order l n m (omega arith)))
+  place-more n m h =
+      by-eq (rowPlace l n ≤ rowPlace l m) n m (λ e. omega (arith, ap (rowPlace l) e))
+      (λ e. omega (arith, place-order l n m (omega arith)))
 
   -- where there is room beside rows there is room beside rows that are not more, and whose bodies are not longer
   pub room-fewer : (d : List ℕ) (rs ss : List Row) (new : Row) → length ss ≤ length rs → length (joined ss) ≤ length (joined rs)
@@ -107,7 +109,8 @@ module _ (l : Layout) (ok : LayoutOk l) where
         fewer : (length (unexpired clock rs) ≤ length (kept (choice .marks) rs))
             × (length (joined (unexpired clock rs)) ≤ length (joined (kept (choice .marks) rs)))
         fewer =
-            subst (λ (x : List Row). (length x ≤ length (kept (choice .marks) rs)) × (length (joined x) ≤ length (joined (kept (choice .marks) rs))))
+            subst
+            (λ (x : List Row). (length x ≤ length (kept (choice .marks) rs)) × (length (joined x) ≤ length (joined (kept (choice .marks) rs))))
             (unexpired-kept clock (choice .marks) rs (e .going .marks)) (unexpired-fewer clock (kept (choice .marks) rs))
 
         go : (t : Bool) → choice .ok ≡ t → choice .ok ≡ hasRoom l d (unexpired clock rs) new
@@ -123,7 +126,8 @@ module _ (l : Layout) (ok : LayoutOk l) where
         let f : fitsIn l (asked l ok d clock rs new) 0 0 ≡ true
         = fits-room l ok d clock rs new (marked clock rs) 0 0 (going-first l ok d clock rs new)
         ∙ ap (λ (x : List Row). hasRoom l d x new) (kept-first clock rs) ∙ e in
-        let c : choice ≡ chosenOf true (marked clock rs) 0 0 = chosen-fits l (asked l ok d clock rs new) (length rs) (marked clock rs) 0 0 f in
+        let c : choice ≡ chosenOf true (marked clock rs) 0 0
+        = chosen-fits l (asked l ok d clock rs new) (length rs) (marked clock rs) 0 0 f in
         (ap (λ (x : Chosen). kept (x .marks) rs) c ∙ kept-first clock rs, ap (λ (x : Chosen). x .ok) c)
 
     -- no row that is not expired is lost

@@ -1,1 +1,1 @@
-pub mod CloseCode
+pub mod ChooseCode

@@ -2,6 +2,7 @@
 use Rattle.image_spec.specs.Laws.{RowsInOrder, OffsetsFit, RowNext, ReadIn, BodyRead, EncodingRead, BodyWithExactly, RowsNamed}
 use Rattle.image_spec.specs.Laws.{CheckTells, CheckSays}
 use Rattle.image_spec.specs.Laws.{CheckUnsound, EditionsChecked, CheckInside, BodyAdded, OneMore}
+use Rattle.image_spec.specs.Laws.{ClosedUp, KeptHolds, StoredAfter, StoredHolds, LeftFinds}
 use Rattle.image_spec.specs.Laws.{ChoiceRoom, ChoiceRemoval, RemovalOnce, ChoiceExactly, FitsNoneGoes, UnexpiredStay, RoomMade}
 use Rattle.image_spec.specs.Laws.{PlaceWithin, Edition1Ok, Edition2Ok, NamedOk}
 use Rattle.image_spec.proofs.RowPlaceLaws.{place-order, place-small}
@@ -13,6 +14,8 @@ use Rattle.image_spec.proofs.ReadLaws as read
 use Rattle.image_spec.proofs.PlaceLaws as place
 use Rattle.image_spec.proofs.FindLaws as found
 use Rattle.image_spec.proofs.GrowLaws as grow
+use Rattle.image_spec.proofs.CloseLaws as close
+use Rattle.image_spec.proofs.StoreLaws as store
 use Rattle.image_spec.proofs.RemovalLaws as removal
 use Rattle.image_spec.proofs.OnceLaws as once
 use Rattle.image_spec.proofs.BufferChoice as buffer
@@ -74,6 +77,25 @@ body-added = grow.body-added
 
 pub one-more : OneMore
 one-more = grow.one-more
+
+-- ---- rows that go
+
+pub closed-up : ClosedUp
+closed-up = close.closed-up
+
+pub kept-holds : KeptHolds
+kept-holds = close.kept-holds
+
+-- ---- a new row, after the removal of expired ones
+
+pub stored-after : StoredAfter
+stored-after = store.stored-after
+
+pub stored-holds : StoredHolds
+stored-holds = store.stored-holds
+
+pub left-finds : LeftFinds
+left-finds = store.left-finds
 
 -- ---- which rows go for a new one
 

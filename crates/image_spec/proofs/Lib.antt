@@ -23,5 +23,6 @@ pub mod ChoiceLaws
 pub mod RemovalLaws
 pub mod BufferChoice
 pub mod OnceLaws
+pub mod StoreLaws
 pub mod Laws
 pub mod Promises

@@ -54,7 +54,7 @@ unfolding reading
 encoding-read d bytes a =
     let v : Seen = descriptorView 0 d in
     let e : readOf (encode d) ≡ read v = reads-exactly (encode d) bytes v .1 (d, a, refl, refl) in
-    (fieldsOf v, ap readingOf e, refl, seen-row (encode d) v d (a .formed) e refl refl .0)
+    (fieldsOf v, ap readingOf e, refl, seen-row (encode d) v d (a .formed) e refl refl .0, refl)
 
 -- ---- by the number of the reading
 

@@ -30,9 +30,8 @@ use Rattle.image_spec.specs.Image.{Row, rowOf, reading, isRead, idOf, mo
 use Rattle.image_spec.specs.Check.{rowLength, rowAt, layoutOf, checkOf, rowsHeld}
 use Rattle.image_spec.specs.Close.{kept, withRows, closedUp}
 use Rattle.image_spec.specs.Grow.{addedOf, afterAdd, hasRoom, withBody}
-use Rattle.image_spec.specs.Close.{closedUp}
-use Rattle.image_spec.specs.Choose.{unexpired, choiceOf, stayingOf, roomOf, afterRoom}
-use Rattle.image_spec.specs.Removal.{left, goesOf, Removal}
+use Rattle.image_spec.specs.Choose.{endOf, isExpired, unexpired, choiceOf, stayingOf, roomOf, afterRoom}
+use Rattle.image_spec.specs.Removal.{rowIn, left, goesOf, Goes, Removal}
 
 -- ---- where rows stand
 
@@ -73,10 +72,11 @@ abbrev pub BodyRead : Type 0
 BodyRead = (b : List ℕ) → AreBytes b → isRead (reading b) ≡ true
     → (d : Descriptor) × Allowed d × (b ≡ encode d) × (idOf b ≡ d .payload .id) × (modesOf b ≡ unionOf (d .payload .grants))
 
--- the encoding of an allowed descriptor is read, with its beginning and its id
+-- the encoding of an allowed descriptor is read, with its beginning, its id and its end
 abbrev pub EncodingRead : Type 0
 EncodingRead = (d : Descriptor) → AreBytes (encode d) → Allowed d
     → (f : Fields) × (reading (encode d) ≡ Read f) × (f .«not_before» .0 ≡ d .payload .notBefore) × (idOf (encode d) ≡ d .payload .id)
+    × (f .«not_after» .0 ≡ d .payload .notAfter)
 
 -- ---- the body with an id
 
@@ -205,7 +205,39 @@ RoomMadeFor l = (d : List ℕ) (rs : List Row) → Holds l d rs → (clock more 
     (closedUp l d (choiceOf l (length d) clock rs more .marks)) d)
     × (length (choiceOf l (length d) clock rs more .marks) ≡ length rs)
 
+-- ---- a new row, after the removal of expired ones
+
+-- where there is room after a removal, a new row whose body reads is added, and the buffer is the image of the rows that stay and the new
+-- one, and beyond it what stood there
+abbrev pub StoredAfterFor : Layout → Type 0
+StoredAfterFor l = (d : List ℕ) (clock : ℕ) (rs : List Row) (new : Row) (f : Fields) → Holds l d rs → reading (new .body) ≡ Read f
+    → choiceOf l (length d) clock rs (length (new .body)) .ok ≡ true
+    → let ks = stayingOf l (length d) clock rs (length (new .body)) in
+    let d₁ = afterRoom l d (length rs) (length (imageOf l rs)) clock (length (new .body)) in
+    (addedOf l d₁ (length ks) (length (imageOf l ks)) (new .body) (f .id) ≡ Done)
+    × (afterAdd l d₁ (length ks) (length (imageOf l ks)) (new .body) (f .id) (f .mask) (new .used) ≡ withBody l d ks new)
+
+-- where its id is new, the buffer then holds them
+abbrev pub StoredHoldsFor : Layout → Type 0
+StoredHoldsFor l = (d : List ℕ) (clock : ℕ) (rs : List Row) (new : Row) → Holds l d rs → isRead (reading (new .body)) ≡ true
+    → choiceOf l (length d) clock rs (length (new .body)) .ok ≡ true → bodyWith (idOf (new .body)) rs ≡ none → MomentOk l new
+    → let ks = stayingOf l (length d) clock rs (length (new .body)) in
+    Holds l (withBody l d ks new) (ks ++ (new ∷ []))
+
+-- of rows of which expired ones go, each id finds what it found, or it found an expired body and finds none
+abbrev pub LeftFinds : Type 0
+LeftFinds = (l : Layout) (clock : ℕ) (rs : List Row) (goes : List Bool) → RowsOk l rs → length goes ≡ length rs
+    → ((i : ℕ) → Goes goes i → isExpired clock (rowIn rs i) ≡ true) → (id : List ℕ)
+    → (bodyWith id (left goes rs) ≡ bodyWith id rs)
+    ⊎ ((bodyWith id (left goes rs) ≡ none) × ((c : List ℕ) × (bodyWith id rs ≡ some c) × (endOf c ≤ clock)))
+
 -- ---- for every layout that may be
+
+abbrev pub StoredAfter : Type 0
+StoredAfter = (l : Layout) → LayoutOk l → StoredAfterFor l
+
+abbrev pub StoredHolds : Type 0
+StoredHolds = (l : Layout) → LayoutOk l → StoredHoldsFor l
 
 abbrev pub BodyWithExactly : Type 0
 BodyWithExactly = (l : Layout) → BodyWithExactlyFor l

@@ -25,10 +25,11 @@ use Rattle.image_spec.specs.declared.ImageCheck.{ImageCheck}
 use Rattle.image_spec.specs.declared.ImageCheck.the-variants.{Sound, Unsound}
 use Rattle.image_spec.specs.Image.{Row, reading, isRead, idOf}
 use Rattle.image_spec.specs.Grow as grow
-use Rattle.image_spec.specs.Edition1.{imageOf, Holds, checkOf, rowsHeld}
+use Rattle.image_spec.specs.Layout.{edition2}
+use Rattle.image_spec.specs.Edition2.{imageOf, Holds, checkOf, rowsHeld}
 use Rattle.image_spec.specs.Promises.{answerOf}
 use Rattle.image_spec.specs.Laws.{HeldIs}
-use Rattle.image_spec.proofs.Laws.{body-read, encoding-read, check-tells, check-says, check-unsound, rows-named}
+use Rattle.image_spec.proofs.Laws.{edition2-ok, body-read, encoding-read, check-tells, check-says, check-unsound, rows-named}
 use Rattle.submission_spec.specs.declared.Submission.the-variants as answers
 use Rattle.submission_spec.specs.Submission.{stepsBy, steps, submitted, numberOf}
 use Rattle.submission_spec.specs.Promises.{Stored, badImage, rows, structure, validity, descriptor as encoding, IsStored, IsBody}
@@ -76,7 +77,7 @@ by-descriptor : (d : List ℕ) (clock verdict : ℕ) (window : Window) (bs : Lis
 unfolding stepsBy isVerdict isThat keyOpen grow.hasRoom
 by-descriptor d clock verdict window bs c f Missing q e k = ap (λ (l : List (Step ℕ)). inOrder l 0)
     (rw (e, k, q))
-by-descriptor d clock verdict window bs c f (Body at len g) q e k = ap (λ (l : List (Step ℕ)). inOrder l 0) (rw (e, k .which))
+by-descriptor d clock verdict window bs c f (Body row at len g) q e k = ap (λ (l : List (Step ℕ)). inOrder l 0) (rw (e, k .which))
 
 -- ---- the number of a descriptor
 
@@ -86,9 +87,9 @@ pub number-descriptor : (d : List ℕ) (clock verdict : ℕ) (window : Window) (
     → numberOf (submitted d (encode c) clock verdict window) ≡ inOrder (stepsFor (rows bs) (encoding c) (length d) clock verdict window) 0
 number-descriptor d clock verdict window bs c h bytes a =
     let r = encoding-read c bytes a in
-    let w = check-tells d (idOf (encode c)) bs h in
+    let w = check-tells edition2 edition2-ok d (idOf (encode c)) bs h in
     number-by d (encode c) clock verdict window (Read (r .0)) (Sound (length bs) (length (imageOf bs)) (w .0)) (r .1) (w .1)
-    ∙ by-descriptor d clock verdict window bs c (r .0) (w .0) (rows-named d bs h) (r .2)
+    ∙ by-descriptor d clock verdict window bs c (r .0) (w .0) (rows-named edition2 edition2-ok d bs h) (r .2)
     (subst (λ (id : List ℕ). HeldIs d id bs (w .0)) (r .3) (w .2))
 
 -- ---- every case
@@ -116,14 +117,14 @@ validity-read b e = go (readingOf (readOf b)) e
 -- `SubmittedExactly`
 pub submitted-exactly : SubmittedExactly
 submitted-exactly d b clock verdict window badImage x m =
-    number-by d b clock verdict window (reading b) Unsound refl (check-unsound d (idOf b) (m .buffer-bytes) .1 (m .stored))
+    number-by d b clock verdict window (reading b) Unsound refl (check-unsound edition2 edition2-ok d (idOf b) (m .buffer-bytes) .1 (m .stored))
     ∙ by-unsound d b clock verdict window (reading b) x
 submitted-exactly d b clock verdict window (rows bs) structure m =
-    let w = check-tells d (idOf b) bs (m .stored) in
+    let w = check-tells edition2 edition2-ok d (idOf b) bs (m .stored) in
     number-by d b clock verdict window Structure (Sound (length bs) (length (imageOf bs)) (w .0)) (structure-read b (m .body)) (w .1)
     ∙ by-structure d b clock verdict window bs (length bs) (length (imageOf bs)) (w .0)
 submitted-exactly d b clock verdict window (rows bs) validity m =
-    let w = check-tells d (idOf b) bs (m .stored) in
+    let w = check-tells edition2 edition2-ok d (idOf b) bs (m .stored) in
     number-by d b clock verdict window Validity (Sound (length bs) (length (imageOf bs)) (w .0)) (validity-read b (m .body)) (w .1)
     ∙ by-validity d b clock verdict window bs (length bs) (length (imageOf bs)) (w .0)
 submitted-exactly d b clock verdict window (rows bs) (encoding c) m =
@@ -162,8 +163,8 @@ stored-of : (d : List ℕ) → AreBytes d → (s : Stored) × IsStored d s
 stored-of d bytes = go (checkOf d []) refl
   where
     go : (v : ImageCheck) → checkOf d [] ≡ v → (s : Stored) × IsStored d s
-    go (Sound n end h) e = (rows (rowsHeld d), check-says d [] bytes n end h e .holds)
-    go Unsound e = (badImage, check-unsound d [] bytes .0 e)
+    go (Sound n end h) e = (rows (rowsHeld d), check-says edition2 edition2-ok d [] bytes n end h e .holds)
+    go Unsound e = (badImage, check-unsound edition2 edition2-ok d [] bytes .0 e)
 
 -- what every body is
 body-of : (b : List ℕ) → AreBytes b → (x : promised.Body) × IsBody b x

@@ -1,12 +1,27 @@
 -- The promises of specs/Promises.antt, each from its law. Assumes nothing.
 use Rattle.submission_spec.specs.Promises.{AlwaysMeets, SubmittedExactly, DoneExactly, RefusedExactly, EditionsRefused, RefusalKeeps}
-use Rattle.submission_spec.specs.Promises.{RepeatKeeps, LastSteps, StoredFound, OthersFound, LeadBoundary, RowBoundary}
+use Rattle.submission_spec.specs.Promises.{RepeatKeeps, LastSteps, RoomKeepsAll, UnexpiredKept, StoredFound, OthersFound, LeadBoundary}
+use Rattle.submission_spec.specs.Promises.{RoomExactly, ExpiredExactly, UnexpiredExactly, RemovalOnce, RowBoundary}
 use Rattle.submission_spec.proofs.NumberLaws as number
 use Rattle.submission_spec.proofs.StoredLaws as stored
 use Rattle.submission_spec.proofs.LastLaws as last
 
 pub always-meets : AlwaysMeets
 always-meets = number.always-meets
+
+-- ---- room, and the rows that may go for it
+
+pub room-exactly : RoomExactly
+room-exactly = last.room-exactly
+
+pub expired-exactly : ExpiredExactly
+expired-exactly = last.expired-exactly
+
+pub unexpired-exactly : UnexpiredExactly
+unexpired-exactly = last.unexpired-exactly
+
+pub removal-once : RemovalOnce
+removal-once = last.removal-once
 
 -- ---- the steps in order
 
@@ -32,6 +47,12 @@ repeat-keeps = stored.repeat-keeps
 
 pub last-steps : LastSteps
 last-steps = last.last-steps
+
+pub room-keeps-all : RoomKeepsAll
+room-keeps-all = last.room-keeps-all
+
+pub unexpired-kept : UnexpiredKept
+unexpired-kept = stored.unexpired-kept
 
 pub stored-found : StoredFound
 stored-found = last.stored-found

@@ -16,12 +16,13 @@ use Rattle.steps.specs.Laws.{passesBy}
 use Rattle.steps.proofs.Laws.{none-is, passed-by, failed-by}
 use Rattle.steps.proofs.Promises as order
 use Rattle.image_spec.specs.declared.ImageCheck.the-variants.{Unsound}
-use Rattle.image_spec.specs.Image.{rowOf, reading, isRead, idOf}
+use Rattle.image_spec.specs.Image.{reading, isRead, idOf}
 use Rattle.image_spec.specs.Check.{isSound, isHeld}
-use Rattle.image_spec.specs.Edition1.{checkOf, rowsHeld, hasRoom}
+use Rattle.image_spec.specs.Choose.{unexpired}
+use Rattle.image_spec.specs.Edition2.{checkOf, rowsHeld, hasRoom}
 use Rattle.submission_spec.specs.declared.Submission.{Submission}
 use Rattle.submission_spec.specs.declared.Submission.the-variants as answers
-use Rattle.submission_spec.specs.Submission.{isStructure, isValidity, agrees, stepsBy, steps, submitted, numberOf}
+use Rattle.submission_spec.specs.Submission.{rowNow, isStructure, isValidity, agrees, stepsBy, steps, submitted, numberOf}
 
 -- ---- the steps and the answer 0
 
@@ -64,11 +65,11 @@ done-exactly d b clock verdict window =
 -- ---- what an answer says
 
 -- what is known of a body where every step has passed
-pub record Passed (d b : List ℕ) : Type 0 where
+pub record Passed (d b : List ℕ) (clock : ℕ) : Type 0 where
   pub sound : isSound (checkOf d (idOf b)) ≡ true
   pub reads : isRead (reading b) ≡ true
   pub same-bytes : agrees d b (checkOf d (idOf b)) ≡ true
-  pub room : (isHeld (checkOf d (idOf b)) || hasRoom d (rowsHeld d) (rowOf b)) ≡ true
+  pub room : (isHeld (checkOf d (idOf b)) || hasRoom d (unexpired clock (rowsHeld d)) (rowNow b clock)) ≡ true
 
 -- a reading that is neither 1 nor 2 is 0
 read-passes : (r : Reading) → not (isStructure r) ≡ true → not (isValidity r) ≡ true → isRead r ≡ true
@@ -77,7 +78,7 @@ read-passes Structure s v = s
 read-passes Validity s v = v
 
 -- the answer 0 says that the image is sound, and that the body reads, is not held with other bytes, and is held or has room
-pub done-passed : (d b : List ℕ) (clock verdict : ℕ) (window : Window) → submitted d b clock verdict window ≡ answers.Done → Passed d b
+pub done-passed : (d b : List ℕ) (clock verdict : ℕ) (window : Window) → submitted d b clock verdict window ≡ answers.Done → Passed d b clock
 unfolding steps stepsBy
 done-passed d b clock verdict window e =
     let p : AllPass (steps d b clock verdict window) = done-exactly d b clock verdict window .0 e in

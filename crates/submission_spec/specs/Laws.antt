@@ -2,14 +2,16 @@
 use mathlib.Core.Path.{_≡_}
 use mathlib.Core.Bool.{Bool}
 use mathlib.Core.List.{List}
-use mathlib.Core.Option.{some}
-use Prim.Native.Nat.{ℕ}
+use mathlib.Core.Logic.{_⊎_}
+use mathlib.Core.Option.{none, some}
+use Prim.Native.Nat.{ℕ, _^_, _≤_, _<_}
 use Rattle.octets.specs.Bytes.{AreBytes}
 use Rattle.descriptor_spec.specs.Model.{Descriptor, encode}
 use Rattle.descriptor_spec.specs.Allowed.{Allowed}
 use Rattle.steps.specs.declared.Window.{Window}
 use Rattle.image_spec.specs.Image.{Row, idOf, bodyWith}
-use Rattle.image_spec.specs.Edition1.{Holds}
+use Rattle.image_spec.specs.Choose.{endOf}
+use Rattle.image_spec.specs.Edition2.{Holds}
 use Rattle.submission_spec.specs.declared.Submission.{Submission}
 use Rattle.submission_spec.specs.declared.Submission.the-variants.{Done}
 use Rattle.submission_spec.specs.Submission.{submitted, afterAnswer, afterOf, numberOf}
@@ -20,7 +22,7 @@ NumbersTell = (x a : Submission) → numberOf x ≡ numberOf a → x ≡ a
 
 -- an answer that is not 0 leaves every byte as it was
 abbrev pub RefusedKeeps : Type 0
-RefusedKeeps = (d b : List ℕ) (held : Bool) (a : Submission) → (a ≡ Done → ⊥) → afterAnswer d b held a ≡ d
+RefusedKeeps = (d b : List ℕ) (clock : ℕ) (held : Bool) (a : Submission) → (a ≡ Done → ⊥) → afterAnswer d b clock held a ≡ d
 
 -- an answer of 0 says that the buffer holds a list of rows, and that what was submitted is the encoding of an allowed descriptor and
 -- has its id
@@ -29,10 +31,15 @@ DoneMeans = (d b : List ℕ) (clock verdict : ℕ) (window : Window) → AreByte
     → numberOf (submitted d b clock verdict window) ≡ 0
     → ((rs : List Row) × Holds d rs) × ((c : Descriptor) × Allowed c × (b ≡ encode c) × (idOf b ≡ c .payload .id))
 
+-- what an id has after a submission at a clock, and had before: the same; or it had an expired body, and has none
+abbrev pub HasAfter : ℕ → List Row → List Row → List ℕ → Type 0
+HasAfter clock rs qs id = (bodyWith id qs ≡ bodyWith id rs)
+    ⊎ ((bodyWith id qs ≡ none) × ((c : List ℕ) × (bodyWith id rs ≡ some c) × (endOf c ≤ clock)))
+
 -- after a submission to a buffer that holds rows, whatever it answered, the buffer holds a list of rows: where the answer is 0 the
--- id of what was submitted has that very body, and every other id has what it had
+-- id of what was submitted has that very body; every other id has what it had, or had an expired body and has none
 abbrev pub AfterHolds : Type 0
-AfterHolds = (d b : List ℕ) (clock verdict : ℕ) (window : Window) (rs : List Row) → Holds d rs
+AfterHolds = (d b : List ℕ) (clock verdict : ℕ) (window : Window) (rs : List Row) → clock < 2 ^ 64 → Holds d rs
     → (qs : List Row) × Holds (afterOf d b clock verdict window) qs
     × (numberOf (submitted d b clock verdict window) ≡ 0 → bodyWith (idOf b) qs ≡ some b)
-    × ((id : List ℕ) → (idOf b ≡ id → ⊥) → bodyWith id qs ≡ bodyWith id rs)
+    × ((id : List ℕ) → (idOf b ≡ id → ⊥) → HasAfter clock rs qs id)

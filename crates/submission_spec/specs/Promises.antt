@@ -1,11 +1,11 @@
 -- What is promised of submission, and nothing else. Each statement `NameOfIt` is proved in proofs/Promises.antt as `name-of-it`.
--- Document 01, "Submission, in this order".
+-- Document 01, "Submission, in this order", as document 02 §5 amends it.
 use mathlib.Core.Path.{_≡_}
 use mathlib.Core.Logic.{_↔_, _⊎_}
 use mathlib.Core.Bool.{Bool, true, false, not, _&&_, _||_}
 use mathlib.Core.List.{List, [], _∷_, _++_}
 use mathlib.Core.Option.{Option, none, some}
-use Prim.Native.Nat.{ℕ, _+_, _≤_, _<_}
+use Prim.Native.Nat.{ℕ, _+_, _^_, _≤_, _<_}
 use lib.ListN.{length, drop}
 use lib.Dec.{leb, ltb, eqb}
 use Rattle.octets.specs.Bytes.{AreBytes, part, same}
@@ -14,15 +14,20 @@ use Rattle.descriptor_spec.specs.Model.{Descriptor, encode}
 use Rattle.descriptor_spec.specs.Allowed.{Allowed}
 use Rattle.steps.specs.declared.Window.{Window}
 use Rattle.steps.specs.Order.{Step, step, inOrder, AllPass, FirstFails}
+use Rattle.image_spec.specs.Layout.{edition2}
 use Rattle.image_spec.specs.Image.{Row, rowOf, idOf, bodyWith}
 use Rattle.image_spec.specs.Check.{numbersOf}
-use Rattle.image_spec.specs.Edition1.{imageOf, Holds, findOf}
-use Rattle.image_spec.specs.Promises.{answerOf, FoundAt}
-use Rattle.submission_spec.specs.Submission.{submitted, afterOf, numberOf}
+use Rattle.image_spec.specs.Grow.{hasRoom}
+use Rattle.image_spec.specs.Choose.{isExpired, unexpired}
+use Rattle.image_spec.specs.Removal.{left, Removal}
+use Rattle.image_spec.specs.Readable.{findOf}
+use Rattle.image_spec.specs.Edition2.{imageOf, Holds}
+use Rattle.image_spec.specs.Promises.{answerOf, refusal, FoundAt}
+use Rattle.submission_spec.specs.Submission.{rowNow, submitted, afterOf, numberOf}
 
 -- ---- what is submitted to what
 
--- what a buffer holds: no list of rows, or these rows
+-- what a buffer holds in edition 2, which alone is written: no list of rows, or these rows
 pub data Stored : Type 0 where
   badImage : Stored
   rows : List Row → Stored
@@ -55,6 +60,34 @@ pub record Meets (d b : List ℕ) (s : Stored) (x : Body) : Type 0 where
 abbrev pub AlwaysMeets : Type 0
 AlwaysMeets = (d b : List ℕ) → AreBytes d → AreBytes b → (s : Stored) × (x : Body) × Meets d b s x
 
+-- ---- room, and the rows that may go for it
+
+-- beside the rows there is room for the new one in a buffer of so many bytes: fewer than 1,024 rows are held, and the larger image does not
+-- exceed the buffer
+abbrev pub roomFor : ℕ → List Row → Row → Bool
+roomFor room rs new = ltb (length rs) 1024 && leb (length (imageOf (rs ++ (new ∷ [])))) room
+
+-- that is what the rows that go are to leave (`Removal`)
+abbrev pub RoomExactly : Type 0
+RoomExactly = (d : List ℕ) (rs : List Row) (new : Row) → hasRoom edition2 d rs new ≡ roomFor (length d) rs new
+
+-- a row is expired: now ≥ not_after of its descriptor
+abbrev pub ExpiredExactly : Type 0
+ExpiredExactly = (clock : ℕ) (r : Row) (c : Descriptor) → AreBytes (encode c) → Allowed c → r .body ≡ encode c
+    → isExpired clock r ≡ leb (c .payload .notAfter) clock
+
+-- the rows that are not expired, in their order
+abbrev pub UnexpiredExactly : Type 0
+UnexpiredExactly = (clock : ℕ)
+    → (unexpired clock [] ≡ [])
+    × ((r : Row) (rs : List Row) → isExpired clock r ≡ true → unexpired clock (r ∷ rs) ≡ unexpired clock rs)
+    × ((r : Row) (rs : List Row) → isExpired clock r ≡ false → unexpired clock (r ∷ rs) ≡ r ∷ unexpired clock rs)
+
+-- what is said of the rows that go (`Removal`) is so of one list of them at most
+abbrev pub RemovalOnce : Type 0
+RemovalOnce = (d : List ℕ) (clock : ℕ) (rs : List Row) (new : Row) (g h : List Bool) → Removal edition2 d clock rs new g
+    → Removal edition2 d clock rs new h → g ≡ h
+
 -- ---- the steps in order
 
 -- the body that is held under an id, if any, is these bytes
@@ -69,7 +102,7 @@ isHeld (some c) = true
 
 -- The steps of a submission to a buffer of `room` bytes, each with its number. 15: host verdict above 2. 16. Then 1 or 2 from reading;
 -- 2 if not_before > now + 86,400. 3: verdict 2. 14: now < valid_from, or there is a valid_until and now > valid_until. 4: verdict 1.
--- Then, if the id is held, other bytes 5. 6 exactly when it is not, and 64 rows are held or the larger image exceeds the buffer.
+-- Then, if the id is held, other bytes 5. 6 exactly when it is not, and there is no room beside the rows that are not expired.
 abbrev pub stepsFor : Stored → Body → ℕ → ℕ → ℕ → Window → List (Step ℕ)
 stepsFor badImage x room clock verdict window =
     step (leb verdict 2) 15
@@ -96,7 +129,7 @@ stepsFor (rows rs) (descriptor c) room clock verdict window =
     ∷ step (leb (window .from .0) clock && (not (window .bounded) || leb clock (window .until .0))) 14
     ∷ step (not (eqb verdict 1)) 4
     ∷ step (isSame (bodyWith (c .payload .id) rs) (encode c)) 5
-    ∷ step (isHeld (bodyWith (c .payload .id) rs) || (ltb (length rs) 64 && leb (length (imageOf (rs ++ (rowOf (encode c) ∷ [])))) room)) 6
+    ∷ step (isHeld (bodyWith (c .payload .id) rs) || roomFor room (unexpired clock rs) (rowNow (encode c) clock)) 6
     ∷ []
 
 -- the number that is answered is that of the first step that fails, or 0
@@ -114,9 +147,10 @@ abbrev pub RefusedExactly : Type 0
 RefusedExactly = (d b : List ℕ) (clock verdict : ℕ) (window : Window) (s : Stored) (x : Body) → Meets d b s x → (n : ℕ) → (n ≡ 0 → ⊥)
     → (numberOf (submitted d b clock verdict window) ≡ n) ↔ FirstFails (stepsFor s x (length d) clock verdict window) n
 
--- an image whose image edition or mode edition is another than 1 is answered 16, and left as it was
+-- an image whose image edition is another than 2, as an image of edition 1 is, or whose mode edition is another than 1 is answered 16, and
+-- left as it was
 abbrev pub EditionsRefused : Type 0
-EditionsRefused = (d b : List ℕ) (clock verdict : ℕ) (window : Window) → verdict ≤ 2 → (numberAt d 0 2 ≡ 1 → ⊥) ⊎ (numberAt d 2 2 ≡ 1 → ⊥)
+EditionsRefused = (d b : List ℕ) (clock verdict : ℕ) (window : Window) → verdict ≤ 2 → (numberAt d 0 2 ≡ 2 → ⊥) ⊎ (numberAt d 2 2 ≡ 1 → ⊥)
     → (numberOf (submitted d b clock verdict window) ≡ 16) × (afterOf d b clock verdict window ≡ d)
 
 -- ---- the buffer after
@@ -136,20 +170,26 @@ RepeatKeeps = (d b : List ℕ) (clock verdict : ℕ) (window : Window) (rs : Lis
 abbrev pub Gives : List ℕ → List ℕ → ℕ → ℕ → Window → ℕ → List ℕ → Type 0
 Gives d b clock verdict window n after = (numberOf (submitted d b clock verdict window) ≡ n) × (afterOf d b clock verdict window ≡ after)
 
--- the rows with that of the descriptor c added last
-abbrev pub larger : List Row → Descriptor → List Row
-larger rs c = rs ++ (rowOf (encode c) ∷ [])
+-- the rows with that of the descriptor c, last used now, added last
+abbrev pub larger : List Row → Descriptor → ℕ → List Row
+larger rs c clock = rs ++ (rowNow (encode c) clock ∷ [])
 
--- the buffer d holds the rows, c is allowed, and the clock is in the key's window
+-- the image of rows, and beyond it the old bytes of the buffer d
+abbrev pub written : List ℕ → List Row → List ℕ
+written d rs = imageOf rs ++ drop (length (imageOf rs)) d
+
+-- the buffer d holds the rows, c is allowed, the clock is a number of 64 bits, and in the key's window
 pub record Ready (d : List ℕ) (rs : List Row) (c : Descriptor) (clock : ℕ) (window : Window) : Type 0 where
   pub holds : Holds d rs
   pub allowed : Allowed c
   pub bytes : AreBytes (encode c)
+  pub held : clock < 2 ^ 64
   pub opened : window .from .0 ≤ clock
   pub lasts : window .bounded ≡ true → clock ≤ window .until .0
 
--- where the signature is good and the steps before pass: if the id is held, the same bytes give 0 and no change, other bytes 5; 6 if 64
--- rows are held or the larger image exceeds the buffer; else the row and body are added last, and bytes beyond the new end stay
+-- Where the signature is good and the steps before pass: if the id is held, the same bytes give 0 and no change, other bytes 5, expired or
+-- not. 6, and no change, if there is no room beside the rows that are not expired. Else the row and body are added last to those that are
+-- left when the least recently used of the expired rows are removed, only until there is room; bytes beyond the new end stay.
 pub record LastSteps : Type 0 where
   pub same-held : (d : List ℕ) (rs : List Row) (c : Descriptor) (clock : ℕ) (window : Window)
       → Ready d rs c clock window → c .payload .notBefore ≤ clock + 86400
@@ -161,45 +201,71 @@ pub record LastSteps : Type 0 where
       → Gives d (encode c) clock 0 window 5 d
   pub no-room : (d : List ℕ) (rs : List Row) (c : Descriptor) (clock : ℕ) (window : Window)
       → Ready d rs c clock window → c .payload .notBefore ≤ clock + 86400
-      → bodyWith (c .payload .id) rs ≡ none → (length rs ≡ 64) ⊎ (length d < length (imageOf (larger rs c)))
+      → bodyWith (c .payload .id) rs ≡ none → roomFor (length d) (unexpired clock rs) (rowNow (encode c) clock) ≡ false
       → Gives d (encode c) clock 0 window 6 d
   pub stores : (d : List ℕ) (rs : List Row) (c : Descriptor) (clock : ℕ) (window : Window)
       → Ready d rs c clock window → c .payload .notBefore ≤ clock + 86400
-      → bodyWith (c .payload .id) rs ≡ none → length rs < 64 → length (imageOf (larger rs c)) ≤ length d
-      → Gives d (encode c) clock 0 window 0 (imageOf (larger rs c) ++ drop (length (imageOf (larger rs c))) d)
-      × Holds (afterOf d (encode c) clock 0 window) (larger rs c)
+      → bodyWith (c .payload .id) rs ≡ none → roomFor (length d) (unexpired clock rs) (rowNow (encode c) clock) ≡ true
+      → (goes : List Bool) × Removal edition2 d clock rs (rowNow (encode c) clock) goes
+      × Gives d (encode c) clock 0 window 0 (written d (larger (left goes rs) c clock))
+      × Holds (afterOf d (encode c) clock 0 window) (larger (left goes rs) c clock)
+
+-- where there is room as it is no row goes
+abbrev pub RoomKeepsAll : Type 0
+RoomKeepsAll = (d : List ℕ) (rs : List Row) (c : Descriptor) (clock : ℕ) (window : Window) → Ready d rs c clock window
+    → c .payload .notBefore ≤ clock + 86400 → bodyWith (c .payload .id) rs ≡ none
+    → roomFor (length d) rs (rowNow (encode c) clock) ≡ true
+    → Gives d (encode c) clock 0 window 0 (written d (larger rs c clock)) × Holds (afterOf d (encode c) clock 0 window) (larger rs c clock)
+
+-- Nothing that is not expired is ever lost: after a submission, whatever it answered, the rows that are not expired are those from before,
+-- in their order and with their moments; after them comes the new one, where one was stored and it is not expired.
+abbrev pub UnexpiredKept : Type 0
+UnexpiredKept = (d b : List ℕ) (clock verdict : ℕ) (window : Window) (rs : List Row) → clock < 2 ^ 64 → Holds d rs
+    → (qs : List Row) × Holds (afterOf d b clock verdict window) qs
+    × ((unexpired clock qs ≡ unexpired clock rs) ⊎ (unexpired clock qs ≡ unexpired clock rs ++ unexpired clock (rowNow b clock ∷ [])))
 
 -- what was stored is what a lookup then finds
 abbrev pub StoredFound : Type 0
-StoredFound = (d b : List ℕ) (clock verdict : ℕ) (window : Window) (rs : List Row) → Holds d rs
+StoredFound = (d b : List ℕ) (clock verdict : ℕ) (window : Window) (rs : List Row) → clock < 2 ^ 64 → Holds d rs
     → numberOf (submitted d b clock verdict window) ≡ 0
     → let after = afterOf d b clock verdict window in
     FoundAt after b (numbersOf (findOf after (idOf b)))
 
--- and every other id is answered what it was answered before, with the same bytes
-abbrev pub OthersFound : Type 0
-OthersFound = (d b : List ℕ) (clock verdict : ℕ) (window : Window) (rs : List Row) (id : List ℕ) → Holds d rs → length id ≡ 16
-    → (idOf b ≡ id → ⊥)
-    → let after = afterOf d b clock verdict window in
-    let n = numbersOf (findOf after id) in
+-- a lookup of the id in s is answered what it is in d, with the same bytes
+abbrev pub FoundAlike : List ℕ → List ℕ → List ℕ → Type 0
+FoundAlike s d id =
+    let n = numbersOf (findOf s id) in
     let m = numbersOf (findOf d id) in
-    (n .answer ≡ m .answer) × (part after (n .«body_at») (n .«body_len») ≡ part d (m .«body_at») (m .«body_len»))
+    (n .answer ≡ m .answer) × (part s (n .«body_at») (n .«body_len») ≡ part d (m .«body_at») (m .«body_len»))
+
+-- a lookup of the id found an expired body in d, which was removed: in s it is answered 7
+abbrev pub RemovedFrom : ℕ → List ℕ → List ℕ → List ℕ → Type 0
+RemovedFrom clock s d id =
+    (numbersOf (findOf s id) ≡ refusal 7)
+    × ((c : List ℕ) × FoundAt d c (numbersOf (findOf d id)) × (isExpired clock (rowOf c) ≡ true))
+
+-- every other id is answered what it was answered before, with the same bytes; or its body was expired, and was removed
+abbrev pub OthersFound : Type 0
+OthersFound = (d b : List ℕ) (clock verdict : ℕ) (window : Window) (rs : List Row) (id : List ℕ) → clock < 2 ^ 64 → Holds d rs
+    → length id ≡ 16 → (idOf b ≡ id → ⊥)
+    → let after = afterOf d b clock verdict window in
+    FoundAlike after d id ⊎ RemovedFrom clock after d id
 
 -- ---- both sides of a line
 
 -- not_before = now + 86,400 is stored; one more gives 2
 abbrev pub LeadBoundary : Type 0
 LeadBoundary = (d : List ℕ) (rs : List Row) (c : Descriptor) (clock : ℕ) (window : Window) → Ready d rs c clock window
-    → bodyWith (c .payload .id) rs ≡ none → length rs < 64 → length (imageOf (larger rs c)) ≤ length d
+    → bodyWith (c .payload .id) rs ≡ none → roomFor (length d) rs (rowNow (encode c) clock) ≡ true
     → (c .payload .notBefore ≡ clock + 86400
-    → (numberOf (submitted d (encode c) clock 0 window) ≡ 0) × Holds (afterOf d (encode c) clock 0 window) (larger rs c))
+    → (numberOf (submitted d (encode c) clock 0 window) ≡ 0) × Holds (afterOf d (encode c) clock 0 window) (larger rs c clock))
     × (c .payload .notBefore ≡ clock + 86401 → Gives d (encode c) clock 0 window 2 d)
 
--- the 64th row is stored; the 65th gives 6
+-- the 1,024th row is stored; the 1,025th gives 6 where none is expired
 abbrev pub RowBoundary : Type 0
 RowBoundary = (d : List ℕ) (rs : List Row) (c : Descriptor) (clock : ℕ) (window : Window) → Ready d rs c clock window
-    → c .payload .notBefore ≤ clock + 86400 → bodyWith (c .payload .id) rs ≡ none → length (imageOf (larger rs c)) ≤ length d
-    → (length rs ≡ 63
-    → (numberOf (submitted d (encode c) clock 0 window) ≡ 0) × Holds (afterOf d (encode c) clock 0 window) (larger rs c)
-    × (length (larger rs c) ≡ 64))
-    × (length rs ≡ 64 → Gives d (encode c) clock 0 window 6 d)
+    → c .payload .notBefore ≤ clock + 86400 → bodyWith (c .payload .id) rs ≡ none → length (imageOf (larger rs c clock)) ≤ length d
+    → (length rs ≡ 1023
+    → (numberOf (submitted d (encode c) clock 0 window) ≡ 0) × Holds (afterOf d (encode c) clock 0 window) (larger rs c clock)
+    × (length (larger rs c clock) ≡ 1024))
+    × (length rs ≡ 1024 → unexpired clock rs ≡ rs → Gives d (encode c) clock 0 window 6 d)

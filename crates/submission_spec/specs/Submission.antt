@@ -2,6 +2,7 @@
 use mathlib.Core.Bool.{Bool, true, false, not, _||_}
 use mathlib.Core.List.{List, [], _∷_}
 use Prim.Native.Nat.{ℕ, _+_}
+use lib.ListN.{length}
 use lib.Dec.{leb}
 use Rattle.octets.specs.Bytes.{part, same}
 use Rattle.descriptor_spec.specs.declared.Reading.{Reading}
@@ -12,9 +13,11 @@ use Rattle.steps.specs.Key.{bad, noKey, isVerdict, isThat, keyOpen}
 use Rattle.image_spec.specs.declared.Held.the-variants.{Missing, Body}
 use Rattle.image_spec.specs.declared.ImageCheck.{ImageCheck}
 use Rattle.image_spec.specs.declared.ImageCheck.the-variants.{Sound, Unsound}
-use Rattle.image_spec.specs.Image.{rowOf, reading, idOf}
+use Rattle.image_spec.specs.Layout.{edition2}
+use Rattle.image_spec.specs.Image.{Row, reading, idOf}
 use Rattle.image_spec.specs.Check.{isSound, isHeld}
-use Rattle.image_spec.specs.Edition1.{checkOf, rowsHeld, hasRoom, withBody}
+use Rattle.image_spec.specs.Choose.{unexpired, stayingOf}
+use Rattle.image_spec.specs.Edition2.{checkOf, rowsHeld, hasRoom, withBody}
 use Rattle.submission_spec.specs.declared.Submission.{Submission}
 use Rattle.submission_spec.specs.declared.Submission.the-variants as answers
 
@@ -44,9 +47,19 @@ begins Validity = 0
 
 -- the body that is held under the id, if any, is the same bytes
 abbrev pub agrees : List ℕ → List ℕ → ImageCheck → Bool
-agrees d b (Sound n end (Body at len f)) = same (part d at len) b
+agrees d b (Sound n end (Body row at len f)) = same (part d at len) b
 agrees d b (Sound n end Missing) = true
 agrees d b Unsound = true
+
+-- ---- the row that is added
+
+-- the row of a body that is stored now
+abbrev pub rowNow : List ℕ → ℕ → Row
+rowNow b clock = record { body = b; used = clock }
+
+-- the rows that stay so that there is room for it
+abbrev pub staying : List ℕ → List ℕ → ℕ → List Row
+staying d b clock = stayingOf edition2 (length d) clock (rowsHeld d) (length b)
 
 -- ---- the steps
 
@@ -62,7 +75,7 @@ stepsBy d b clock verdict window r v =
     ∷ step (keyOpen window clock) answers.KeyInvalid
     ∷ step (not (isThat verdict bad)) answers.BadSignature
     ∷ step (agrees d b v) answers.Duplicate
-    ∷ step (isHeld v || hasRoom d (rowsHeld d) (rowOf b)) answers.Full
+    ∷ step (isHeld v || hasRoom d (unexpired clock (rowsHeld d)) (rowNow b clock)) answers.Full
     ∷ []
 
 -- the steps of a submission of the body b to the image d
@@ -88,20 +101,20 @@ numberOf answers.BadImage = 16
 
 -- ---- the buffer after
 
--- a step refuses or the body is held: the buffer is as it was; else it is the image with the body added last
-abbrev pub afterAnswer : List ℕ → List ℕ → Bool → Submission → List ℕ
-afterAnswer d b true answer = d
-afterAnswer d b false answers.Done = withBody d (rowsHeld d) (rowOf b)
-afterAnswer d b false answers.Structure = d
-afterAnswer d b false answers.Validity = d
-afterAnswer d b false answers.UnknownIssuer = d
-afterAnswer d b false answers.BadSignature = d
-afterAnswer d b false answers.Duplicate = d
-afterAnswer d b false answers.Full = d
-afterAnswer d b false answers.KeyInvalid = d
-afterAnswer d b false answers.Malformed = d
-afterAnswer d b false answers.BadImage = d
+-- a step refuses or the body is held: the buffer is as it was; else it is the image of the rows that stay with the body added last
+abbrev pub afterAnswer : List ℕ → List ℕ → ℕ → Bool → Submission → List ℕ
+afterAnswer d b clock true answer = d
+afterAnswer d b clock false answers.Done = withBody d (staying d b clock) (rowNow b clock)
+afterAnswer d b clock false answers.Structure = d
+afterAnswer d b clock false answers.Validity = d
+afterAnswer d b clock false answers.UnknownIssuer = d
+afterAnswer d b clock false answers.BadSignature = d
+afterAnswer d b clock false answers.Duplicate = d
+afterAnswer d b clock false answers.Full = d
+afterAnswer d b clock false answers.KeyInvalid = d
+afterAnswer d b clock false answers.Malformed = d
+afterAnswer d b clock false answers.BadImage = d
 
 -- the buffer after a submission
 unfoldable pub afterOf : List ℕ → List ℕ → ℕ → ℕ → Window → List ℕ
-afterOf d b clock verdict window = afterAnswer d b (isHeld (checkOf d (idOf b))) (submitted d b clock verdict window)
+afterOf d b clock verdict window = afterAnswer d b clock (isHeld (checkOf d (idOf b))) (submitted d b clock verdict window)

@@ -1,9 +1,9 @@
--- The numbers of a row, and the turns of the loops that mark and choose, in the code's own form (specs/Choose.antt of `image_spec`). Assumes
--- nothing.
-use mathlib.Core.Path.{_≡_, refl, sym, ap, ap₂, _∙_, subst}
+-- The numbers of a row, and the turns of the loops that mark and choose, in the code's own form (specs/Choose.antt of `image_spec`).
+-- Assumes nothing.
+use mathlib.Core.Path.{_≡_, sym, ap, ap₂, _∙_, subst}
 use mathlib.Core.Bool.{Bool, true, false}
 use mathlib.Core.List.{List, [], _∷_, _++_, append-assoc, append-nil}
-use Prim.Native.Nat.{ℕ, zero, suc, _+_, _-_, _≤_, _<_}
+use Prim.Native.Nat.{ℕ, suc, _+_, _-_, _≤_, _<_}
 use native.Mathlib.Omega.{arith}
 use native.Mathlib.Numerals.{add-one}
 use lib.ListN.{length, take, drop, getD, set, drop-of-length-le}
@@ -23,8 +23,8 @@ use Rattle.image_spec.specs.declared.Least.the-variants.{IsRow, NoRow}
 use Rattle.image_spec.specs.Layout.{bodyWidth, offsetPlace, lengthPlace, rowSize, mostRows, momentPlace, momentSize, placeWithin, LayoutOk}
 use Rattle.image_spec.specs.Image.{reading}
 use Rattle.image_spec.specs.Close.{current, expired, gone}
-use Rattle.image_spec.specs.Choose.{endIn, endOf, markBy, usedAt, sizeAt, bodyAt, markAt, marksFrom, Ask, lesser, leastFrom, leastOf, fitsIn}
-use Rattle.image_spec.specs.Choose.{Chosen, chosenOf, oneStep, chosen}
+use Rattle.image_spec.specs.Choose.{endIn, endOf, markBy, usedAt, sizeAt, bodyAt, markAt, marksFrom, Ask}
+use Rattle.image_spec.specs.Choose.{lesser, leastFrom, leastOf, fitsIn, Chosen, chosenOf, oneStep, chosen}
 use Rattle.image_spec.proofs.Laws.{place-within}
 
 -- ---- what a row says
@@ -45,8 +45,10 @@ module _ (l : Layout) (ok : LayoutOk l) (d : List ℕ) (i p : ℕ) (h : i < most
       → b ≡ part d (inside d at n .start) (inside d at n .len) → x ≡ readingOf (readOf b) → t ≡ endIn x → t ≡ endOf (bodyAt l d i)
   unfolding endOf bodyAt reading
   end-is at n b x t f g k m q =
-      let o : at ≡ numberIn d _ bodyWidth = f ∙ ap (λ (r : ℕ). numberIn d (r + offsetPlace) bodyWidth) (e ∙ place-within l ok i (omega arith)) in
-      let body : b ≡ part d (inside d _ _ .start) (inside d _ _ .len) = k ∙ ap₂ (λ (x y : ℕ). part d (inside d x y .start) (inside d x y .len)) o g in
+      let o : at ≡ numberIn d _ bodyWidth
+      = f ∙ ap (λ (r : ℕ). numberIn d (r + offsetPlace) bodyWidth) (e ∙ place-within l ok i (omega arith)) in
+      let body : b ≡ part d (inside d _ _ .start) (inside d _ _ .len)
+      = k ∙ ap₂ (λ (x y : ℕ). part d (inside d x y .start) (inside d x y .len)) o g in
       q ∙ ap endIn m ∙ ap (λ (y : List ℕ). endIn (readingOf (readOf y))) body
 
 -- a row is not expired
@@ -180,7 +182,8 @@ module _ (l : Layout) (a : Ask) where
     step h = let e : n - removed ≡ suc (n - (removed + 1)) = omega arith in ap (λ (m : ℕ). chosen l a m gs removed freed) e
 
     -- there is room
-    pub choose-fits : removed < n → fitsIn l a removed freed ≡ true → chosen l a (n - removed) gs removed freed ≡ chosenOf true gs removed freed
+    pub choose-fits : removed < n → fitsIn l a removed freed ≡ true
+        → chosen l a (n - removed) gs removed freed ≡ chosenOf true gs removed freed
     unfolding chosen
     choose-fits h f = step h ∙ ap (λ (t : Bool). oneStep t (leastOf a gs) gs removed freed next) f
 

@@ -1,1 +1,2 @@
 pub mod ChooseCode
+pub mod RoomCode

@@ -147,7 +147,8 @@ fn fits(layout: Layout, rows: u64, short: usize, removed: u64, freed: usize) -> 
 pub(crate) fn choose(layout: Layout, d: &[u8], marks: &mut [u8], short: usize) -> Choice
     requires { ⌜ LayoutOk layout × (length (now marks) ≤ mostRows layout) ⌝ }
     ensures { λ r. ⌜ chosenOf (r .ok) (now (marks .exit)) (r .removed) (r .freed)
-        ≡ chosen layout (askAt layout (now (d .entry)) (length (now (marks .entry))) short) (length (now (marks .entry))) (now (marks .entry)) 0 0 ⌝ }
+        ≡ chosen layout (askAt layout (now (d .entry)) (length (now (marks .entry))) short) (length (now (marks .entry)))
+        (now (marks .entry)) 0 0 ⌝ }
     ensures { λ r. ⌜ r .removed ≤ length (now (marks .entry)) ⌝ }
 {
     let n = marks.len() as u64;

@@ -1,8 +1,6 @@
 -- `choose` meets its contract. The invariant: choosing from here comes to the same as choosing from the beginning. Assumes nothing.
-use mathlib.Core.Path.{_≡_, refl, sym, ap, _∙_}
-use mathlib.Core.Bool.{true, false}
-use mathlib.Core.List.{List}
-use Prim.Native.Nat.{ℕ, _+_, _-_, _*_, _≤_, _<_}
+use mathlib.Core.Path.{_≡_, refl, sym, _∙_}
+use Prim.Native.Nat.{_-_, _*_, _≤_, _<_}
 use native.Mathlib.Omega.{arith}
 use lib.ListN.{length, length-set}
 use Rattle.image_spec.specs.Choose.{Ask, askAt, chosen}
@@ -40,8 +38,9 @@ returns : tie.Need-returns Inv-loop μ-loop
 returns c =
     let al = c .before .before .before in
     let l = al .loop in (
-      sym (l .inv .3 ∙ choose-fits (start al .args .layout) (ask al) (l .marks) (length (start al .args .marks .now)) (l .removed) (l .freed) (omega arith)
-          (sym (c .before .fits2 .ensures) ∙ c .if1 .taken)),
+      sym (l .inv .3
+          ∙ choose-fits (start al .args .layout) (ask al) (l .marks) (length (start al .args .marks .now)) (l .removed) (l .freed)
+          (omega arith) (sym (c .before .fits2 .ensures) ∙ c .if1 .taken)),
       l .inv .0,
     )
 
@@ -50,10 +49,15 @@ returns-2 c =
     let e = c .before .before .before .before in
     let al = e .before .before .before in
     let l = al .loop in (
-      sym (l .inv .3 ∙ choose-none (start al .args .layout) (ask al) (l .marks) (length (start al .args .marks .now)) (l .removed) (l .freed) (omega arith)
-          (sym (e .before .fits2 .ensures) ∙ e .if1 .left) (sym (c .before .before .least .ensures) ∙ c .enum-told .given .1)),
+      sym (l .inv .3
+          ∙ choose-none (start al .args .layout) (ask al) (l .marks) (length (start al .args .marks .now)) (l .removed) (l .freed)
+          (omega arith) (sym (e .before .fits2 .ensures) ∙ e .if1 .left) (sym (c .before .before .least .ensures) ∙ c .enum-told .given .1)),
       l .inv .0,
     )
+
+size-at-requires : tie.Need-size-at-requires Inv-loop μ-loop
+size-at-requires c κs =
+    let e = c .before .before .before .before .before in (start (e .before .before .before) .pre .0, omega (arith, row-in c))
 
 loop-again : tie.Need-loop-again Inv-loop μ-loop
 loop-again c =
@@ -66,8 +70,9 @@ loop-again c =
       omega arith,
       simp length-set (l .inv .1),
       omega arith,
-      l .inv .3 ∙ choose-next (start al .args .layout) (ask al) (l .marks) (length (start al .args .marks .now)) (l .removed) (l .freed) (omega arith)
-          (sym (e .before .fits2 .ensures) ∙ e .if1 .left) _ _ _ (sym (j .before .before .least .ensures) ∙ j .j .given .1)
+      l .inv .3
+          ∙ choose-next (start al .args .layout) (ask al) (l .marks) (length (start al .args .marks .now)) (l .removed) (l .freed)
+          (omega arith) (sym (e .before .fits2 .ensures) ∙ e .if1 .left) _ _ _ (sym (j .before .before .least .ensures) ∙ j .j .given .1)
           (z .size-at .ensures .0),
     )
 
@@ -75,19 +80,17 @@ returns-3 : tie.Need-returns-3 Inv-loop μ-loop
 returns-3 c =
     let al = c .before .before in
     let l = al .loop in (
-      sym (l .inv .3 ∙ choose-last (start al .args .layout) (ask al) (l .marks) (length (start al .args .marks .now)) (l .removed) (l .freed) _ (omega arith)
-          (c .fits3 .ensures)),
+      sym (l .inv .3
+          ∙ choose-last (start al .args .layout) (ask al) (l .marks) (length (start al .args .marks .now)) (l .removed) (l .freed) _
+          (omega arith) (c .fits3 .ensures)),
       l .inv .0,
     )
-
-size-at-requires : tie.Need-size-at-requires Inv-loop μ-loop
-size-at-requires c κs =
-    let e = c .before .before .before .before .before in (start (e .before .before .before) .pre .0, omega (arith, row-in c))
 
 pub choose-spec : {M : Type 1} → statement M
 choose-spec =
     tie.close
-    (tie.spec Inv-loop μ-loop loop-holds (λ c κs. (start (c .before) .pre .0, omega arith)) (λ c. c .before .before .before .loop .inv .1) returns
+    (tie.spec Inv-loop μ-loop loop-holds (λ c κs. (start (c .before) .pre .0, omega arith))
+    (λ c. c .before .before .before .loop .inv .1) returns
     (λ c κs. (start (c .before .before .before .before) .pre .0, omega arith)) (λ c. search needs) (λ c. search needs)
     (λ c. let e = c .before .before .before .before in e .before .before .before .loop .inv .1) returns-2 (λ c. omega (arith, row-in c))
     size-at-requires (λ c. omega arith) (λ c. omega arith) (λ c. omega arith) (λ c. omega arith) loop-again

@@ -1,4 +1,5 @@
--- `least` meets its contract. The invariant: the least of the rows that are left and of the one found so far is the least of all. Assumes nothing.
+-- `least` meets its contract. The invariant: the least of the rows that are left and of the one found so far is the least of all.
+-- Assumes nothing.
 use mathlib.Core.Path.{_≡_, refl, sym, _∙_}
 use Prim.Native.Nat.{_-_, _≤_}
 use native.Mathlib.Omega.{arith}
@@ -34,4 +35,5 @@ returns c =
 pub least-spec : {M : Type 1} → statement M
 least-spec =
     tie.close
-    (tie.spec Inv-loop μ-loop loop-holds (λ c. omega arith) (λ c κs. (c .before .before .before .before .before .pre .0, omega arith)) (λ c. search needs) (λ c. search needs) loop-again returns)
+    (tie.spec Inv-loop μ-loop loop-holds (λ c. omega arith)
+    (λ c κs. (c .before .before .before .before .before .pre .0, omega arith)) (λ c. search needs) (λ c. search needs) loop-again returns)

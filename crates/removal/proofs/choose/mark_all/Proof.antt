@@ -1,4 +1,5 @@
--- `mark_all` meets its contract. The invariant: the marks so far and those of the rows that are left are the marks of all rows. Assumes nothing.
+-- `mark_all` meets its contract. The invariant: the marks so far and those of the rows that are left are the marks of all rows.
+-- Assumes nothing.
 use mathlib.Core.Path.{_≡_, refl, sym, _∙_}
 use mathlib.Core.List.{_++_}
 use Prim.Native.Nat.{_-_, _≤_}
@@ -43,4 +44,6 @@ returns c =
 pub mark-all-spec : {M : Type 1} → statement M
 mark-all-spec =
     tie.close
-    (tie.spec Inv-loop μ-loop loop-holds (λ c κs. (c .before .before .before .before .pre .0, omega arith)) (λ c. search needs) (λ c. search needs) (λ c. search needs) loop-again same-length returns)
+    (tie.spec Inv-loop μ-loop loop-holds
+    (λ c κs. (c .before .before .before .before .pre .0, omega arith))
+    (λ c. search needs) (λ c. search needs) (λ c. search needs) loop-again same-length returns)

@@ -4,7 +4,7 @@ use Rattle.image_spec.specs.Laws.{CheckTells, CheckSays}
 use Rattle.image_spec.specs.Laws.{CheckUnsound, EditionsChecked, CheckInside, BodyAdded, OneMore}
 use Rattle.image_spec.specs.Laws.{ClosedUp, KeptHolds, StoredAfter, StoredHolds, LeftFinds}
 use Rattle.image_spec.specs.Laws.{ChoiceRoom, ChoiceRemoval, RemovalOnce, ChoiceExactly, FitsNoneGoes, UnexpiredStay, RoomMade}
-use Rattle.image_spec.specs.Laws.{PlaceWithin, Edition1Ok, Edition2Ok, NamedOk}
+use Rattle.image_spec.specs.Laws.{PlaceWithin, Edition1Ok, Edition2Ok, NamedOk, EditionsNamed, HeaderNames}
 use Rattle.image_spec.proofs.RowPlaceLaws.{place-order, place-small}
 use Rattle.image_spec.proofs.RowPlaceLaws as place1
 use Rattle.image_spec.proofs.NamedLaws as named
@@ -130,3 +130,9 @@ edition2-ok = place1.edition2-ok
 
 pub named-ok : NamedOk
 named-ok = named.named-ok
+
+pub editions-named : EditionsNamed
+editions-named = named.editions-named
+
+pub header-names : HeaderNames
+header-names = (named.names-1, named.names-2)

@@ -7,8 +7,8 @@ pub mod HeldLaws
 pub mod CheckLaws
 pub mod RunLaws
 pub mod SoundLaws
-pub mod NamedLaws
 pub mod FindLaws
+pub mod NamedLaws
 pub mod NewImageLaws
 pub mod ReadLaws
 pub mod LayoutLaws

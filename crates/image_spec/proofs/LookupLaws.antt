@@ -1,6 +1,5 @@
 -- A lookup in document 01's numbers (specs/Check.antt). Assumes nothing.
 use mathlib.Core.Path.{_≡_, refl, sym, ap, _∙_, subst}
-use mathlib.Core.Logic.{_⊎_, inl, inr, ⊎-elim}
 use mathlib.Core.Bool.{Bool, true, false}
 use mathlib.Core.List.{List}
 use mathlib.Core.Option.{none, some}
@@ -10,7 +9,6 @@ use lib.ListN.{length}
 use lib.Dec.{eqb}
 use borrow.Author.Tests.{eq-eqb, ne-eqb}
 use Rattle.octets.specs.Bytes.{AreBytes, part}
-use Rattle.octets.specs.Number.{numberAt}
 use Rattle.octets.specs.Span.{spanOf}
 use Rattle.octets.proofs.SpanLaws.{inside-fits}
 use Rattle.octets.proofs.BytesLaws.{part-has}
@@ -30,7 +28,7 @@ use Rattle.image_spec.specs.Readable.{Holds, checkOf, rowsHeld, findOf}
 use Rattle.image_spec.specs.Promises.{refusal, FoundAt, LookupExactly, SoundExactly, EditionsKnown, BodyHanded}
 use Rattle.image_spec.specs.Laws.{HeldIs, CheckFits}
 use Rattle.image_spec.proofs.FindLaws as found
-use Rattle.image_spec.proofs.NamedLaws.{named-ok, named-other}
+use Rattle.image_spec.proofs.NamedLaws.{named-ok, editions-named}
 
 -- ---- the check of an image that may be read
 
@@ -104,9 +102,7 @@ sound-exactly s id bytes l = (
 
 -- `EditionsKnown`
 pub editions-known : EditionsKnown
-editions-known s id l other = unsound-16 s id l
-    (found.editions-checked (layoutOf s) (named-ok s) s id
-    (⊎-elim {C = (numberAt s 0 2 ≡ layoutOf s .edition → ⊥) ⊎ (numberAt s 2 2 ≡ 1 → ⊥)} (λ w. inl (named-other s (w .0) (w .1))) inr other))
+editions-known s id l other = unsound-16 s id l (editions-named s id other)
 
 -- ---- the part that is handed back
 

@@ -12,11 +12,13 @@ use Rattle.octets.specs.Number.{numberAt, numberIn}
 use Rattle.octets.proofs.NumberLaws.{number-in}
 use Rattle.octets.proofs.Tests.{by-cond}
 use Rattle.image_spec.specs.declared.layout.Layout.{Layout}
-use Rattle.image_spec.specs.Layout.{headerWidth, editionPlace, edition1, edition2, LayoutOk}
+use Rattle.image_spec.specs.Layout.{modeEdition, headerWidth, editionPlace, modesPlace, edition1, edition2, LayoutOk}
 use Rattle.image_spec.specs.Image.{Row, Holds}
 use Rattle.image_spec.specs.Check.{layoutOf}
+use Rattle.image_spec.specs.Laws.{EditionsNamed}
 use Rattle.image_spec.proofs.RowPlaceLaws.{edition1-ok, edition2-ok}
 use Rattle.image_spec.proofs.SoundLaws.{HeaderSays, holds-says}
+use Rattle.image_spec.proofs.FindLaws.{editions-checked}
 
 -- `NamedOk`
 pub named-ok : (s : List ℕ) → LayoutOk (layoutOf s)
@@ -50,11 +52,18 @@ named-either s =
     (λ e. inr refl) (λ e. inl refl)
 
 -- bytes whose image edition is neither 1 nor 2 do not have the edition that is named
-pub named-other : (s : List ℕ) → (numberAt s editionPlace headerWidth ≡ 1 → ⊥) → (numberAt s editionPlace headerWidth ≡ 2 → ⊥)
+named-other : (s : List ℕ) → (numberAt s editionPlace headerWidth ≡ 1 → ⊥) → (numberAt s editionPlace headerWidth ≡ 2 → ⊥)
     → numberAt s editionPlace headerWidth ≡ layoutOf s .edition → ⊥
 named-other s no-1 no-2 e =
     ⊎-elim {C = ⊥} (λ (n : layoutOf s ≡ edition1). no-1 (e ∙ ap (λ (l : Layout). l .edition) n))
     (λ (n : layoutOf s ≡ edition2). no-2 (e ∙ ap (λ (l : Layout). l .edition) n)) (named-either s)
+
+-- `EditionsNamed`
+pub editions-named : EditionsNamed
+editions-named s id other =
+    editions-checked (layoutOf s) (named-ok s) s id
+    (⊎-elim {C = (numberAt s editionPlace headerWidth ≡ layoutOf s .edition → ⊥) ⊎ (numberAt s modesPlace headerWidth ≡ modeEdition → ⊥)}
+    (λ w. inl (named-other s (w .0) (w .1))) inr other)
 
 -- a buffer holds rows in the edition that its header names exactly when it holds them in edition 1 or in edition 2
 pub holds-named : (s : List ℕ) (rs : List Row) → Holds (layoutOf s) s rs ↔ (Holds edition1 s rs ⊎ Holds edition2 s rs)

@@ -130,6 +130,19 @@ EditionsCheckedFor l = (s id : List ℕ)
     → (numberAt s editionPlace headerWidth ≡ l .edition → ⊥) ⊎ (numberAt s modesPlace headerWidth ≡ modeEdition → ⊥)
     → checkOf l s id ≡ Unsound
 
+-- a check of an image that may be read calls one of another edition than 1 and 2, or of another mode edition, unsound
+abbrev pub EditionsNamed : Type 0
+EditionsNamed = (s id : List ℕ)
+    → ((numberAt s editionPlace headerWidth ≡ 1 → ⊥) × (numberAt s editionPlace headerWidth ≡ 2 → ⊥))
+    ⊎ (numberAt s modesPlace headerWidth ≡ modeEdition → ⊥)
+    → checkOf (layoutOf s) s id ≡ Unsound
+
+-- the header of a buffer that holds rows in edition 1, or 2, names that edition
+abbrev pub HeaderNames : Type 0
+HeaderNames =
+    ((s : List ℕ) (rs : List Row) → Holds edition1 s rs → layoutOf s ≡ edition1)
+    × ((s : List ℕ) (rs : List Row) → Holds edition2 s rs → layoutOf s ≡ edition2)
+
 -- the body that is held lies in the image, and its fields are those that were read of it
 abbrev pub HeldFits : List ℕ → Held → Type 0
 HeldFits s Missing = Unit {0}

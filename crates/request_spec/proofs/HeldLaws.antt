@@ -16,9 +16,11 @@ use Rattle.image_spec.specs.declared.ImageCheck.{ImageCheck}
 use Rattle.image_spec.specs.declared.ImageCheck.the-variants.{Sound}
 use Rattle.image_spec.specs.Image.{Row, reading, bodyWith}
 use Rattle.image_spec.specs.Check.{isSound, isHeld}
-use Rattle.image_spec.specs.Edition1.{imageOf, Holds, checkOf}
+use Rattle.image_spec.specs.Image.{imageOf}
+use Rattle.image_spec.specs.Check.{layoutOf}
+use Rattle.image_spec.specs.Readable.{Holds, checkOf}
 use Rattle.image_spec.specs.Laws.{HeldIs}
-use Rattle.image_spec.proofs.Laws.{check-tells}
+use Rattle.image_spec.proofs.Laws.{named-ok, check-tells}
 use Rattle.request_spec.specs.declared.Decision.{Decision}
 use Rattle.request_spec.specs.declared.Decision.the-variants as answers
 use Rattle.request_spec.specs.declared.Matched.{Matched}
@@ -62,12 +64,12 @@ pub decided-on-body : (s : List ℕ) (q : Request) (bs : List Row) (b : List ℕ
     → bodyWith (q .id) bs ≡ some b → reading b ≡ Read f
     → decisionOf s q ≡ heldBy q b f
 decided-on-body s q bs b f h e r =
-    let w = check-tells s (q .id) bs h in
-    decided-in s q (Sound (length bs) (length (imageOf bs)) (w .0)) (w .1) ∙ go (w .0) (w .2)
+    let w = check-tells (layoutOf s) (named-ok s) s (q .id) bs h in
+    decided-in s q (Sound (length bs) (length (imageOf (layoutOf s) bs)) (w .0)) (w .1) ∙ go (w .0) (w .2)
   where
-    go : (k : Held) → HeldIs s (q .id) bs k → decidedIn s q (Sound (length bs) (length (imageOf bs)) k) ≡ heldBy q b f
+    go : (k : Held) → HeldIs s (q .id) bs k → decidedIn s q (Sound (length bs) (length (imageOf (layoutOf s) bs)) k) ≡ heldBy q b f
     go Missing i = absurd (none-some b (sym i ∙ e))
-    go (Body at len g) i =
+    go (Body row at len g) i =
         let here : part s at len ≡ b = some-same (part s at len) b (sym (i .which) ∙ e) in
         ap (λ (x : List ℕ). heldBy q x g) here ∙ ap (heldBy q b) (fields-same g f (sym (i .reads) ∙ ap reading here ∙ r))
 
@@ -80,9 +82,9 @@ missingBy q = decidedBy q true false (record { notBefore = 0; notAfter = 0; fay 
 -- a request for an id that a sound image does not hold is decided without a body
 pub decided-on-none : (s : List ℕ) (q : Request) (bs : List Row) → Holds s bs → bodyWith (q .id) bs ≡ none → decisionOf s q ≡ missingBy q
 decided-on-none s q bs h e =
-    let w = check-tells s (q .id) bs h in
-    decided-in s q (Sound (length bs) (length (imageOf bs)) (w .0)) (w .1) ∙ go (w .0) (w .2)
+    let w = check-tells (layoutOf s) (named-ok s) s (q .id) bs h in
+    decided-in s q (Sound (length bs) (length (imageOf (layoutOf s) bs)) (w .0)) (w .1) ∙ go (w .0) (w .2)
   where
-    go : (k : Held) → HeldIs s (q .id) bs k → decidedIn s q (Sound (length bs) (length (imageOf bs)) k) ≡ missingBy q
+    go : (k : Held) → HeldIs s (q .id) bs k → decidedIn s q (Sound (length bs) (length (imageOf (layoutOf s) bs)) k) ≡ missingBy q
     go Missing i = refl
-    go (Body at len g) i = absurd (none-some (part s at len) (sym e ∙ i .which))
+    go (Body row at len g) i = absurd (none-some (part s at len) (sym e ∙ i .which))

@@ -15,7 +15,7 @@ use Rattle.descriptor_spec.specs.View.{descriptorView}
 use Rattle.descriptor_spec.specs.Code.{fieldsOf, readingOf}
 use Rattle.descriptor_spec.proofs.Laws.{reads-exactly, seen-handed}
 use Rattle.image_spec.specs.Image.{Row, reading, bodyWith}
-use Rattle.image_spec.specs.Edition1.{Holds}
+use Rattle.image_spec.specs.Readable.{Holds}
 use Rattle.request_spec.specs.declared.Matched.{Matched}
 use Rattle.request_spec.specs.declared.Matched.the-variants.{Nothing}
 use Rattle.request_spec.specs.Request.{Request, wellFormed}

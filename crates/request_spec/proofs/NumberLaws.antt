@@ -22,8 +22,8 @@ use Rattle.steps.specs.Laws.{mapped, passesBy}
 use Rattle.steps.proofs.Laws.{order-mapped, passed-end, same-end, passed-by, not-by}
 use Rattle.steps.proofs.Promises as order
 use Rattle.image_spec.specs.declared.ImageCheck.the-variants.{Unsound}
-use Rattle.image_spec.specs.Edition1.{checkOf}
-use Rattle.image_spec.proofs.Laws.{editions-checked}
+use Rattle.image_spec.specs.Readable.{checkOf}
+use Rattle.image_spec.proofs.Laws.{editions-named}
 use Rattle.request_spec.specs.declared.Decision.{Decision}
 use Rattle.request_spec.specs.declared.Decision.the-variants as answers
 use Rattle.request_spec.specs.declared.DecisionNumbers.{DecisionNumbers}
@@ -61,7 +61,7 @@ unfolding inOrder orElse stepsBy laterSteps argumentsOk wellFormed clockOk isVer
 unsound-numbers s q e = ap numbersOf (decided-in s q Unsound e) ∙ by-numbers q false false (factsIn s Unsound) Nothing
 
 -- a sound image that does not hold the id
-missing-numbers : (q : Request) → numbersOf (missingBy q) ≡ answerFor q notHeld
+pub missing-numbers : (q : Request) → numbersOf (missingBy q) ≡ answerFor q notHeld
 unfolding inOrder orElse stepsBy laterSteps argumentsOk wellFormed clockOk isVerdict resourceOk
 missing-numbers q = by-numbers q true false (record { notBefore = 0; notAfter = 0; fay = []; terminal = [] }) Nothing
 
@@ -184,7 +184,7 @@ refused-exactly s q x r u other =
 pub editions-refused : EditionsRefused
 unfolding inOrder orElse
 editions-refused s q other =
-    let e = unsound-numbers s q (editions-checked s (q .id) other) in (
+    let e = unsound-numbers s q (editions-named s (q .id) other) in (
       λ z. false≢true (passed-by answerOf 16 (stepsFor q badImage)
           (not-by answerOf 0 (stepsFor q badImage) (refusal 0) (never-zero q badImage) (sym (ap answerOf e) ∙ z) .0)),
       λ f. e ∙ rw f,

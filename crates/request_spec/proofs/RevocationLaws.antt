@@ -21,7 +21,7 @@ use Rattle.steps.proofs.Laws.{not-by}
 use Rattle.image_spec.specs.declared.Held.the-variants.{Missing, Body}
 use Rattle.image_spec.specs.declared.ImageCheck.{ImageCheck}
 use Rattle.image_spec.specs.declared.ImageCheck.the-variants.{Sound, Unsound}
-use Rattle.image_spec.specs.Edition1.{checkOf}
+use Rattle.image_spec.specs.Readable.{checkOf}
 use Rattle.request_spec.specs.declared.Decision.{Decision}
 use Rattle.request_spec.specs.declared.Decision.the-variants as answers
 use Rattle.request_spec.specs.declared.Matched.{Matched}
@@ -156,7 +156,7 @@ of-image P q l l′ k s =
     (subst (P (decidedIn s (withRevoked q l′) v)) (sym (decided-in s (withRevoked q l) v refl)) (go v))
   where
     go : (v : ImageCheck) → P (decidedIn s (withRevoked q l′) v) (decidedIn s (withRevoked q l) v)
-    go (Sound n end (Body at len f)) = k true true _ _
+    go (Sound n end (Body row at len f)) = k true true _ _
     go (Sound n end Missing) = k true false _ _
     go Unsound = k false false _ _
 

@@ -25,7 +25,7 @@ use Rattle.image_spec.specs.declared.Held.the-variants.{Missing, Body}
 use Rattle.image_spec.specs.declared.ImageCheck.{ImageCheck}
 use Rattle.image_spec.specs.declared.ImageCheck.the-variants.{Sound, Unsound}
 use Rattle.image_spec.specs.Check.{isSound, isHeld}
-use Rattle.image_spec.specs.Edition1.{checkOf}
+use Rattle.image_spec.specs.Readable.{checkOf}
 use Rattle.request_spec.specs.declared.Decision.{Decision}
 use Rattle.request_spec.specs.declared.DecisionNumbers.{DecisionNumbers}
 use Rattle.request_spec.specs.declared.Decision.the-variants as answers
@@ -163,13 +163,13 @@ decidedOn q lease b f =
 
 -- the facts of the body that was found
 abbrev pub factsIn : List ℕ → ImageCheck → Facts
-factsIn s (Sound n end (Body at len f)) = factsOf (part s at len) f
+factsIn s (Sound n end (Body row at len f)) = factsOf (part s at len) f
 factsIn s (Sound n end Missing) = record { notBefore = 0; notAfter = 0; fay = []; terminal = [] }
 factsIn s Unsound = record { notBefore = 0; notAfter = 0; fay = []; terminal = [] }
 
 -- its grant that is picked
 abbrev pub matchedIn : List ℕ → Request → ImageCheck → Matched
-matchedIn s q (Sound n end (Body at len f)) = matchedOn (part s at len) f (q .resource) (q .mode)
+matchedIn s q (Sound n end (Body row at len f)) = matchedOn (part s at len) f (q .resource) (q .mode)
 matchedIn s q (Sound n end Missing) = Nothing
 matchedIn s q Unsound = Nothing
 

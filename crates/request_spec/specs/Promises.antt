@@ -29,7 +29,7 @@ use Rattle.time.specs.declared.Milliseconds.{Milliseconds}
 use Rattle.steps.specs.declared.Window.{Window}
 use Rattle.steps.specs.Order.{Step, step, inOrder, AllPass, FirstFails}
 use Rattle.image_spec.specs.Image.{Row, rowOf}
-use Rattle.image_spec.specs.Edition1.{Holds}
+use Rattle.image_spec.specs.Readable.{Holds}
 use Rattle.submission_spec.specs.Submission.{submitted, afterOf, numberOf}
 use Rattle.request_spec.specs.declared.DecisionNumbers.{DecisionNumbers}
 use Rattle.request_spec.specs.Request.{Request, requestOf}
@@ -73,7 +73,7 @@ pub record Among (rs : List Row) (id : List ℕ) (d : Descriptor) : Type 0 where
   pub inside : place < length rs
   pub there : getD rs place (rowOf []) .body ≡ encode d
 
--- what the bytes s hold under the id: they are the image of no list of rows; or of rows of which none has the id; or of rows of which
+-- what the bytes s hold under the id, in edition 1 or 2: they are the image of no list of rows; or of rows of which none has the id; or of rows of which
 -- that of d has it
 abbrev pub Under : List ℕ → List ℕ → Stored → Type 0
 Under s id badImage = AreBytes s × ((rs : List Row) → Holds s rs → ⊥)
@@ -248,9 +248,11 @@ abbrev pub RefusalsZero : Type 0
 RefusalsZero = (s : List ℕ) (q : Request) → (numbersOf (decisionOf s q) .answer ≡ 0 → ⊥) → (numbersOf (decisionOf s q) .answer ≡ 24 → ⊥)
     → numbersOf (decisionOf s q) ≡ refusal (numbersOf (decisionOf s q) .answer)
 
--- an image whose image edition or mode edition is another than 1 grants nothing; it is answered 16, where the arguments are well formed
+-- an image whose image edition is another than 1 and 2, or whose mode edition is another than 1, grants nothing; it is answered 16, where the
+-- arguments are well formed
 abbrev pub EditionsRefused : Type 0
-EditionsRefused = (s : List ℕ) (q : Request) → (numberAt s 0 2 ≡ 1 → ⊥) ⊎ (numberAt s 2 2 ≡ 1 → ⊥)
+EditionsRefused = (s : List ℕ) (q : Request)
+    → ((numberAt s 0 2 ≡ 1 → ⊥) × (numberAt s 0 2 ≡ 2 → ⊥)) ⊎ (numberAt s 2 2 ≡ 1 → ⊥)
     → (numbersOf (decisionOf s q) .answer ≡ 0 → ⊥) × (formed q ≡ true → numbersOf (decisionOf s q) ≡ refusal 16)
 
 -- ---- what is granted
@@ -409,15 +411,18 @@ EndBoundary = (s : List ℕ) (q : Request) (d : Descriptor) → Under s (q .id) 
 -- what was submitted with the answer 0 is an allowed descriptor's encoding, and after it a request for its id is decided on that very
 -- descriptor
 abbrev pub StoredDecided : Type 0
-StoredDecided = (d b : List ℕ) (clock verdict : ℕ) (window : Window) → AreBytes d → AreBytes b
+StoredDecided = (d b : List ℕ) (clock verdict : ℕ) (window : Window) → clock < 2 ^ 64 → AreBytes d → AreBytes b
     → numberOf (submitted d b clock verdict window) ≡ 0
     → (c : Descriptor) × Allowed c × (b ≡ encode c)
     × ((q : Request) → q .id ≡ c .payload .id
     → Under (afterOf d b clock verdict window) (q .id) (held c)
     × (numbersOf (decisionOf (afterOf d b clock verdict window) q) ≡ answerFor q (held c)))
 
--- after a submission, whatever it answered, a request for an id that what was submitted does not have is answered as before it
+-- after a submission, whatever it answered, a request for an id that what was submitted does not have is answered as before it; or the
+-- descriptor that was held under that id was expired at the submission, and was removed: then as one that is not held
 abbrev pub OthersDecided : Type 0
-OthersDecided = (d b : List ℕ) (clock verdict : ℕ) (window : Window) (q : Request) → AreBytes d → AreBytes b
+OthersDecided = (d b : List ℕ) (clock verdict : ℕ) (window : Window) (q : Request) → clock < 2 ^ 64 → AreBytes d → AreBytes b
     → ((c : Descriptor) → Allowed c → b ≡ encode c → q .id ≡ c .payload .id → ⊥)
-    → numbersOf (decisionOf (afterOf d b clock verdict window) q) ≡ numbersOf (decisionOf d q)
+    → let after = afterOf d b clock verdict window in
+    (numbersOf (decisionOf after q) ≡ numbersOf (decisionOf d q))
+    ⊎ ((c : Descriptor) × Under d (q .id) (held c) × (c .payload .notAfter ≤ clock) × (numbersOf (decisionOf after q) ≡ answerFor q notHeld))

@@ -8,8 +8,8 @@ use lib.ListN.{length, getD, set, length-append}
 use lib.Dec.{eqb}
 use Rattle.image_spec.specs.Image.{Row, joined}
 use Rattle.image_spec.specs.Close.{expired, gone, stays, keep, kept}
-use Rattle.image_spec.specs.Choose.{isExpired, unexpired, markBy, marked}
-use Rattle.image_spec.specs.Removal.{rowIn, left, goesOf, putBack}
+use Rattle.image_spec.specs.Choose.{isExpired, unexpired, markBy, marked, goesOf}
+use Rattle.image_spec.specs.Removal.{rowIn, left, putBack}
 
 -- ---- what each mark says of its row
 

@@ -13,8 +13,8 @@ use Rattle.image_spec.specs.Layout.{mostRows, rowPlace, LayoutOk}
 use Rattle.image_spec.specs.Image.{Row, joined, imageOf}
 use Rattle.image_spec.specs.Grow.{hasRoom}
 use Rattle.image_spec.specs.Close.{gone, kept}
-use Rattle.image_spec.specs.Choose.{unexpired, marked, fitsIn, Chosen, chosenOf, choiceOf, stayingOf}
-use Rattle.image_spec.specs.Removal.{left, goesOf, Goes, Removal}
+use Rattle.image_spec.specs.Choose.{unexpired, marked, fitsIn, Chosen, chosenOf, choiceOf, goesOf, stayingOf}
+use Rattle.image_spec.specs.Removal.{left, Goes, Removal}
 use Rattle.image_spec.proofs.RowPlaceLaws.{place-order}
 use Rattle.image_spec.proofs.RowLaws.{image-length}
 use Rattle.image_spec.proofs.MoreLaws.{length-more}

@@ -150,6 +150,11 @@ askOf l rs more room = record {
 unfoldable pub choiceOf : Layout → ℕ → ℕ → List Row → ℕ → Chosen
 choiceOf l room clock rs more = chosen l (askOf l rs more room) (length rs) (marked clock rs) 0 0
 
+-- whether each row goes, by its mark
+abbrev pub goesOf : List ℕ → List Bool
+goesOf [] = []
+goesOf (g ∷ gs) = eqb g gone ∷ goesOf gs
+
 -- the rows that stay so that there is room for a body of `more` bytes
 unfoldable pub stayingOf : Layout → ℕ → ℕ → List Row → ℕ → List Row
 stayingOf l room clock rs more = kept (choiceOf l room clock rs more .marks) rs

@@ -30,8 +30,9 @@ use Rattle.image_spec.specs.Image.{Row, rowOf, reading, isRead, idOf, mo
 use Rattle.image_spec.specs.Check.{rowLength, rowAt, layoutOf, checkOf, rowsHeld}
 use Rattle.image_spec.specs.Close.{kept, withRows, closedUp}
 use Rattle.image_spec.specs.Grow.{addedOf, afterAdd, hasRoom, withBody}
-use Rattle.image_spec.specs.Choose.{endOf, isExpired, unexpired, choiceOf, stayingOf, roomOf, afterRoom}
-use Rattle.image_spec.specs.Removal.{rowIn, left, goesOf, Goes, Removal}
+use Rattle.image_spec.specs.Close.{closedUp}
+use Rattle.image_spec.specs.Choose.{unexpired, choiceOf, goesOf, stayingOf, roomOf, afterRoom}
+use Rattle.image_spec.specs.Removal.{left, Removal}
 
 -- ---- where rows stand
 

@@ -4,10 +4,8 @@ use mathlib.Core.Bool.{Bool, true, false}
 use mathlib.Core.List.{List, [], _∷_}
 use Prim.Native.Nat.{ℕ, zero, suc, _≤_, _<_}
 use lib.ListN.{length, getD}
-use lib.Dec.{eqb}
 use Rattle.image_spec.specs.declared.layout.Layout.{Layout}
 use Rattle.image_spec.specs.Image.{Row, rowOf}
-use Rattle.image_spec.specs.Close.{gone}
 use Rattle.image_spec.specs.Choose.{isExpired}
 use Rattle.image_spec.specs.Grow.{hasRoom}
 
@@ -21,11 +19,6 @@ left [] rs = []
 left (g ∷ gs) [] = []
 left (true ∷ gs) (r ∷ rs) = left gs rs
 left (false ∷ gs) (r ∷ rs) = r ∷ left gs rs
-
--- whether each row goes, by its mark
-abbrev pub goesOf : List ℕ → List Bool
-goesOf [] = []
-goesOf (g ∷ gs) = eqb g gone ∷ goesOf gs
 
 -- the row at the place stays after all
 abbrev pub putBack : List Bool → ℕ → List Bool

@@ -9,7 +9,7 @@ use native.Mathlib.Numerals.{add-one}
 use lib.ListN.{length, take, drop, getD, set, drop-of-length-le}
 use lib.Seq.{drop-cons, take-all, take-suc-set}
 use lib.Dec.{ltb, eqb}
-use borrow.Author.Tests.{lt-ltb, le-ltb, le-leb, lt-leb, eq-eqb, ne-eqb}
+use borrow.Author.Tests.{lt-ltb, le-ltb, le-leb, lt-leb, eq-eqb, ne-eqb, ltb-true, ltb-false}
 use Rattle.octets.specs.Bytes.{part}
 use Rattle.octets.specs.Span.{inside}
 use Rattle.octets.specs.Number.{numberIn}
@@ -52,14 +52,20 @@ module _ (l : Layout) (ok : LayoutOk l) (d : List ℕ) (i p : ℕ) (h : i < most
       q ∙ ap endIn m ∙ ap (λ (y : List ℕ). endIn (readingOf (readOf y))) body
 
 -- a row is not expired
-pub mark-current : (l : Layout) (d : List ℕ) (i clock t : ℕ) → t ≡ endOf (bodyAt l d i) → clock < t → current ≡ markAt l d clock i
+pub mark-current : (l : Layout) (d : List ℕ) (i clock t : ℕ) (b : Bool) → t ≡ endOf (bodyAt l d i) → b ≡ ltb clock t → b ≡ true
+    → current ≡ markAt l d clock i
 unfolding markAt
-mark-current l d i clock t e h = ap markBy (sym (lt-leb (endOf (bodyAt l d i)) clock (omega arith)))
+mark-current l d i clock t b e f h =
+    let k : clock < t = ltb-true clock t (sym f ∙ h) in
+    ap markBy (sym (lt-leb (endOf (bodyAt l d i)) clock (omega arith)))
 
 -- a row is expired
-pub mark-expired : (l : Layout) (d : List ℕ) (i clock t : ℕ) → t ≡ endOf (bodyAt l d i) → t ≤ clock → expired ≡ markAt l d clock i
+pub mark-expired : (l : Layout) (d : List ℕ) (i clock t : ℕ) (b : Bool) → t ≡ endOf (bodyAt l d i) → b ≡ ltb clock t → b ≡ false
+    → expired ≡ markAt l d clock i
 unfolding markAt
-mark-expired l d i clock t e h = ap markBy (sym (le-leb (endOf (bodyAt l d i)) clock (omega arith)))
+mark-expired l d i clock t b e f h =
+    let k : t ≤ clock = ltb-false clock t (sym f ∙ h) in
+    ap markBy (sym (le-leb (endOf (bodyAt l d i)) clock (omega arith)))
 
 -- ---- all marks
 

@@ -55,23 +55,20 @@ fn size_at(layout: Layout, d: &[u8], i: usize) -> usize
 }
 
 // When what was read ends; 0 where nothing was.
-fn end_in(reading: Reading) -> u64
-    ensures { λ r. ⌜ r ≡ endIn reading ⌝ }
+fn end_in(reading: Reading) -> Seconds
+    ensures { λ r. ⌜ r .0 ≡ endIn reading ⌝ }
 {
     match reading {
-        Reading::Read(fields) => {
-            let end = fields.not_after;
-            end.0
-        }
-        Reading::Structure => 0,
-        Reading::Validity => 0,
+        Reading::Read(fields) => fields.not_after,
+        Reading::Structure => Seconds(0),
+        Reading::Validity => Seconds(0),
     }
 }
 
 // When the body of row i ends.
-fn end_at(layout: Layout, d: &[u8], i: usize) -> u64
+fn end_at(layout: Layout, d: &[u8], i: usize) -> Seconds
     requires { ⌜ LayoutOk layout × (i < mostRows layout) ⌝ }
-    ensures { λ r. ⌜ r ≡ endOf (bodyAt layout (now (d .entry)) i) ⌝ }
+    ensures { λ r. ⌜ r .0 ≡ endOf (bodyAt layout (now (d .entry)) i) ⌝ }
 {
     let at = number_at(d, place(layout, i) + OFFSET_PLACE, BODY_WIDTH) as usize;
     let n = size_at(layout, d, i);
@@ -83,7 +80,7 @@ fn mark_at(layout: Layout, d: &[u8], i: usize, clock: Seconds) -> u8
     requires { ⌜ LayoutOk layout × (i < mostRows layout) ⌝ }
     ensures { λ r. ⌜ r ≡ markAt layout (now (d .entry)) (clock .0) i ⌝ }
 {
-    if clock.0 < end_at(layout, d, i) {
+    if clock.is_before(end_at(layout, d, i)) {
         return CURRENT;
     }
     EXPIRED

@@ -15,10 +15,8 @@ use Rattle.image_spec.proofs.PlaceLaws as place
 use Rattle.image_spec.proofs.FindLaws as found
 use Rattle.image_spec.proofs.GrowLaws as grow
 use Rattle.image_spec.proofs.CloseLaws as close
-use Rattle.image_spec.proofs.StoreLaws as store
-use Rattle.image_spec.proofs.RemovalLaws as removal
-use Rattle.image_spec.proofs.OnceLaws as once
-use Rattle.image_spec.proofs.BufferChoice as buffer
+use Rattle.image_spec.specs.Laws.{TouchedBodies, TouchedImage, TouchedNone, AfterTouch2, AfterTouch1}
+use Rattle.image_spec.proofs.TouchLaws as touch
 
 -- ---- where rows stand
 
@@ -131,8 +129,19 @@ edition2-ok = place1.edition2-ok
 pub named-ok : NamedOk
 named-ok = named.named-ok
 
-pub editions-named : EditionsNamed
-editions-named = named.editions-named
+-- ---- a row that was used
 
-pub header-names : HeaderNames
-header-names = (named.names-1, named.names-2)
+pub touched-bodies : TouchedBodies
+touched-bodies = touch.touched-bodies
+
+pub touched-image : TouchedImage
+touched-image = touch.touched-both
+
+pub touched-none : TouchedNone
+touched-none = touch.touched-1
+
+pub after-touch2 : AfterTouch2
+after-touch2 = touch.after-touch2
+
+pub after-touch1 : AfterTouch1
+after-touch1 = touch.after-touch1

@@ -17,7 +17,7 @@ use Rattle.image_spec.specs.Laws.{BodyWithExactlyFor}
 use Rattle.image_spec.proofs.ListLaws.{has-snoc, rest-new, with-first, with-rest}
 
 -- a body at a place of the list is one of those that have its id
-has-place : (bs : List Row) (i : ℕ) (b : List ℕ) → i < length bs → getD bs i (rowOf []) .body ≡ b → hasId (idOf b) bs ≡ true
+pub has-place : (bs : List Row) (i : ℕ) (b : List ℕ) → i < length bs → getD bs i (rowOf []) .body ≡ b → hasId (idOf b) bs ≡ true
 unfolding hasId
 has-place [] i b h e = absurd (omega arith)
 has-place (x ∷ bs) zero b h e = ap (λ (t : Bool). t || hasId (idOf b) bs) (equal-same (idOf (x .body)) (idOf b) (ap idOf e))

@@ -30,9 +30,10 @@ use Rattle.image_spec.specs.Image.{Row, rowOf, reading, isRead, idOf, mo
 use Rattle.image_spec.specs.Check.{rowLength, rowAt, layoutOf, checkOf, rowsHeld}
 use Rattle.image_spec.specs.Close.{kept, withRows, closedUp}
 use Rattle.image_spec.specs.Grow.{addedOf, afterAdd, hasRoom, withBody}
-use Rattle.image_spec.specs.Close.{closedUp}
-use Rattle.image_spec.specs.Choose.{unexpired, choiceOf, goesOf, stayingOf, roomOf, afterRoom}
-use Rattle.image_spec.specs.Removal.{left, Removal}
+use Prim.Native.Nat.{_^_}
+use Rattle.octets.specs.Bytes.{same}
+use Rattle.image_spec.specs.Layout.{momentSize}
+use Rattle.image_spec.specs.Touch.{touched, touchedAt, afterTouch}
 
 -- ---- where rows stand
 
@@ -310,3 +311,31 @@ Edition2Ok = LayoutOk edition2
 
 abbrev pub NamedOk : Type 0
 NamedOk = (s : List ℕ) → LayoutOk (layoutOf s)
+
+-- ---- a row that was used
+
+-- a moment changes no body
+abbrev pub TouchedBodies : Type 0
+TouchedBodies = (id other : List ℕ) (t : ℕ) (rs : List Row)
+    → (bodyWith other (touched id t rs) ≡ bodyWith other rs) × (length (touched id t rs) ≡ length rs)
+
+-- in a buffer that holds rows, of which row i has the id, the write of its moment leaves the image of the rows of which that one was used,
+-- and beyond it what stood there; the buffer then holds these rows
+abbrev pub TouchedImage : Type 0
+TouchedImage = (l : Layout) → LayoutOk l → (s : List ℕ) (rs : List Row) (i : ℕ) (id : List ℕ) (t : ℕ) → Holds l s rs → i < length rs
+    → same (idOf (getD rs i (rowOf []) .body)) id ≡ true → t < 256 ^ momentSize l
+    → (touchedAt l s i t ≡ withRows l s (touched id t rs)) × Holds l (touchedAt l s i t) (touched id t rs)
+
+-- in edition 1, whose rows have no moment, nothing is written
+abbrev pub TouchedNone : Type 0
+TouchedNone = (s : List ℕ) (i t : ℕ) → touchedAt edition1 s i t ≡ s
+
+-- the same in the edition that the header names: an image of edition 2
+abbrev pub AfterTouch2 : Type 0
+AfterTouch2 = (s : List ℕ) (rs : List Row) (i : ℕ) (id : List ℕ) (t : ℕ) → Holds edition2 s rs → i < length rs
+    → same (idOf (getD rs i (rowOf []) .body)) id ≡ true → t < 2 ^ 64
+    → (afterTouch s i t ≡ withRows edition2 s (touched id t rs)) × Holds edition2 (afterTouch s i t) (touched id t rs)
+
+-- and one of edition 1
+abbrev pub AfterTouch1 : Type 0
+AfterTouch1 = (s : List ℕ) (rs : List Row) (i t : ℕ) → Holds edition1 s rs → afterTouch s i t ≡ s

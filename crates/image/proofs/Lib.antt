@@ -2,3 +2,4 @@ pub mod RowsCode
 pub mod SlotCode
 pub mod GrowCode
 pub mod CheckCode
+pub mod TouchCode

@@ -10,9 +10,9 @@ pub use image_spec::Finding;
 pub use image_spec::Held;
 pub use image_spec::ImageCheck;
 pub use image_spec::StoredNumbers;
+use image_spec::layout::EDITION_PLACE;
 use image_spec::layout::EDITION1;
 use image_spec::layout::EDITION2;
-use image_spec::layout::EDITION_PLACE;
 use image_spec::layout::HEADER_WIDTH;
 use image_spec::layout::Layout;
 use time::Seconds;
@@ -20,6 +20,7 @@ ghost use mathlib.Core.Path.{_≡_};
 ghost use Rattle.octets.specs.Bytes.{PartOf};
 ghost use Rattle.image_spec.specs.Check.{bodySpan, layoutOf};
 ghost use Rattle.image_spec.specs.NewImage.{creationOf};
+ghost use Rattle.image_spec.specs.Touch.{afterTouch};
 ghost use Rattle.image_spec.specs.Readable.{checkOf, findOf};
 ghost use Rattle.image_spec.specs.Edition2.{checkOf as checkLatest, afterNew, addedOf, afterAdd};
 
@@ -89,4 +90,13 @@ pub fn add_body(
         × (now (image .exit) ≡ afterAdd (now (image .entry)) rows end (now (body .entry)) id mask (used .0)) ⌝ }
 {
     grow::add_body(EDITION2, image, rows, end, body, id, mask, used)
+}
+
+// Raises the last-used moment of a row of the image, of edition 1 or 2, where the moment is later; in edition 1, whose rows have none, nothing
+// is written.
+pub fn touch(image: &mut [u8], row: usize, moment: Seconds)
+    ensures { λ _. ⌜ now (image .exit) ≡ afterTouch (now (image .entry)) row (moment .0) ⌝ }
+{
+    let layout = layout_of(image);
+    moments::touch(layout, image, row, moment);
 }

@@ -10,6 +10,7 @@ ghost use Rattle.octets.specs.Number.{bigEndian, numberIn};
 ghost use Rattle.octets.specs.Write.{putAt};
 ghost use Rattle.time.specs.Time.{seconds};
 ghost use Rattle.image_spec.specs.Layout.{rowSize, momentPlace, momentSize, LayoutOk};
+ghost use Rattle.image_spec.specs.Touch.{raisedAt, touchedAt};
 
 // The last-used moment of the row at r.
 pub(crate) fn moment_at(layout: Layout, s: &[u8], r: usize) -> Seconds
@@ -34,4 +35,28 @@ pub(crate) fn put_moment(layout: Layout, d: &mut [u8], r: usize, moment: Seconds
         layout.row_size - layout.moment_place,
         moment.0,
     );
+}
+
+// Writes the last-used moment of the row at r where it is later than the one that stands there.
+fn raise_moment(layout: Layout, d: &mut [u8], r: usize, moment: Seconds)
+    requires { ⌜ LayoutOk layout × (r + rowSize layout ≤ length (now d)) ⌝ }
+    ensures { λ _. ⌜ now (d .exit) ≡ raisedAt layout (now (d .entry)) r (moment .0) ⌝ }
+{
+    let used = moment_at(layout, d, r);
+    if !used.is_before(moment) {
+        return;
+    }
+    put_moment(layout, d, r, moment);
+}
+
+// The same of row i, where it lies in the bytes.
+pub(crate) fn touch(layout: Layout, d: &mut [u8], i: usize, moment: Seconds)
+    requires { ⌜ LayoutOk layout ⌝ }
+    ensures { λ _. ⌜ now (d .exit) ≡ touchedAt layout (now (d .entry)) i (moment .0) ⌝ }
+{
+    let r = image_rows::place(layout, i);
+    if d.len() < r + layout.row_size {
+        return;
+    }
+    raise_moment(layout, d, r, moment);
 }

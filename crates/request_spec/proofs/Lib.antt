@@ -13,6 +13,7 @@ pub mod BeforeLaws
 pub mod LeaseLaws
 pub mod OlderLaws
 pub mod StoredLaws
+pub mod AfterLaws
 pub mod Promises
 pub mod Cases
 pub mod Laws

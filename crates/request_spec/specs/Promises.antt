@@ -4,8 +4,8 @@ use mathlib.Core.Logic.{_↔_, _⊎_}
 use mathlib.Core.Bool.{Bool, true, false, not, cond, _&&_, _||_}
 use mathlib.Core.List.{List, [], _∷_, _++_}
 use mathlib.Core.Option.{Option, none, some}
-use Prim.Native.Nat.{ℕ, _+_, _/_, _%_, _^_, _≤_, _<_, min, max}
-use lib.ListN.{length, getD}
+use Prim.Native.Nat.{ℕ, _+_, _/_, _%_, _*_, _^_, _≤_, _<_, min, max}
+use lib.ListN.{length, take, drop, getD}
 use lib.IntN.{ℤ, pos, _-ℤ_}
 use lib.Signed.{_≤ℤ_, _<ℤ_}
 use lib.Dec.{leb, ltb, eqb}
@@ -28,12 +28,17 @@ use Rattle.time.specs.declared.Seconds.{Seconds}
 use Rattle.time.specs.declared.Milliseconds.{Milliseconds}
 use Rattle.steps.specs.declared.Window.{Window}
 use Rattle.steps.specs.Order.{Step, step, inOrder, AllPass, FirstFails}
-use Rattle.image_spec.specs.Image.{Row, rowOf}
+use Rattle.image_spec.specs.Layout.{edition1, edition2}
+use Rattle.image_spec.specs.Image.{Row, rowOf, idOf}
+use Rattle.image_spec.specs.Image as image
+use Rattle.image_spec.specs.Touch.{touched}
+use Rattle.image_spec.specs.Upgrade.{afterUpgrade}
 use Rattle.image_spec.specs.Readable.{Holds}
 use Rattle.submission_spec.specs.Submission.{submitted, afterOf, numberOf}
 use Rattle.request_spec.specs.declared.DecisionNumbers.{DecisionNumbers}
 use Rattle.request_spec.specs.Request.{Request, requestOf}
 use Rattle.request_spec.specs.Decision.{decisionOf, numbersOf}
+use Rattle.request_spec.specs.After.{afterRequest}
 
 -- ---- the arguments
 
@@ -282,6 +287,51 @@ GrantedGives = (s : List ℕ) (q : Request) → AreBytes s → numbersOf (decisi
     × ((g : Grant) × Picked (d .payload .grants) (q .mode) (pathOf (q .resource)) (numbersOf (decisionOf s q) .grant) g
     × (numbersOf (decisionOf s q) .mask ≡ unionOf (g ∷ [])))
     × (numbersOf (decisionOf s q) .«session_end» ≡ min (d .payload .notAfter) (secondsOf q + q .session .0))
+
+-- ---- the image after a request
+
+-- the row with the id was used at the moment: its last-used moment is the larger of the two; the others are as they were
+abbrev pub TouchedExactly : Type 0
+TouchedExactly = (id : List ℕ) (t : ℕ)
+    → (touched id t [] ≡ [])
+    × ((r : Row) (rs : List Row) → idOf (r .body) ≡ id → touched id t (r ∷ rs) ≡ record { body = r .body; used = max (r .used) t } ∷ rs)
+    × ((r : Row) (rs : List Row) → (idOf (r .body) ≡ id → ⊥) → touched id t (r ∷ rs) ≡ r ∷ touched id t rs)
+
+-- a request that is not granted leaves every byte as it was
+abbrev pub RefusalKeeps : Type 0
+RefusalKeeps = (s : List ℕ) (q : Request) → (numbersOf (decisionOf s q) .answer ≡ 0 → ⊥) → afterRequest s q ≡ s
+
+-- so does one that is granted on an image of edition 1
+abbrev pub Grant1Keeps : Type 0
+Grant1Keeps = (s : List ℕ) (q : Request) (rs : List Row) → image.Holds edition1 s rs → afterRequest s q ≡ s
+
+-- one that is granted on an image of edition 2 leaves the image of the same rows, but that the one with the id was used now; and beyond it
+-- what stood there
+abbrev pub Grant2Touches : Type 0
+Grant2Touches = (s : List ℕ) (q : Request) (rs : List Row) → image.Holds edition2 s rs → numbersOf (decisionOf s q) .answer ≡ 0
+    → let after = image.imageOf edition2 (touched (q .id) (secondsOf q) rs) in
+    (afterRequest s q ≡ after ++ drop (length after) s)
+    × image.Holds edition2 (afterRequest s q) (touched (q .id) (secondsOf q) rs)
+
+-- it changes the 8 bytes of that row's last-used moment and nothing else: what stands before them and after them stays
+abbrev pub GrantChanges8 : Type 0
+GrantChanges8 = (s : List ℕ) (q : Request) (rs : List Row) → image.Holds edition2 s rs → numbersOf (decisionOf s q) .answer ≡ 0
+    → (i : ℕ) × (i < length rs) × (idOf (getD rs i (rowOf []) .body) ≡ q .id)
+    × (let p = 8 + 40 * i + 32 in
+    (length (afterRequest s q) ≡ length s) × (take p (afterRequest s q) ≡ take p s) × (drop (p + 8) (afterRequest s q) ≡ drop (p + 8) s))
+
+-- the last-used moments decide nothing: after a request every request is answered what it was answered before it
+abbrev pub MomentsDecideNothing : Type 0
+MomentsDecideNothing = (s : List ℕ) (q p : Request) → AreBytes s
+    → numbersOf (decisionOf (afterRequest s q) p) ≡ numbersOf (decisionOf s p)
+
+-- ---- an image turned into edition 2
+
+-- an image of edition 1 and the image of edition 2 that it is turned into answer every request alike
+abbrev pub UpgradeDecides : Type 0
+UpgradeDecides = (old d : List ℕ) (q : Request) (rs : List Row) → image.Holds edition1 old rs
+    → length (image.imageOf edition2 rs) ≤ length d
+    → numbersOf (decisionOf (afterUpgrade old d) q) ≡ numbersOf (decisionOf old q)
 
 -- ---- document 01's rule, which document 02 amends
 

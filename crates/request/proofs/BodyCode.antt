@@ -8,15 +8,16 @@ use Rattle.octets.proofs.PartLaws.{lent-part}
 use Rattle.descriptor_spec.specs.declared.Fields.{Fields}
 use Rattle.image_spec.specs.declared.Held.the-variants.{Body}
 use Rattle.image_spec.specs.declared.ImageCheck.the-variants.{Sound}
-use Rattle.image_spec.specs.Edition1.{checkOf}
+use Rattle.image_spec.specs.Check.{layoutOf}
+use Rattle.image_spec.specs.Readable.{checkOf}
 use Rattle.image_spec.specs.Laws.{HeldFits, CheckFits}
-use Rattle.image_spec.proofs.Laws.{read-in, check-inside}
+use Rattle.image_spec.proofs.Laws.{named-ok, read-in, check-inside}
 use Rattle.request.specs.Code.{BodyFits}
 
-module _ (s id : List ℕ) (n end at len : ℕ) (f : Fields) (bytes : AreBytes s) (e : Sound n end (Body at len f) ≡ checkOf s id) where
+module _ (s id : List ℕ) (n end row at len : ℕ) (f : Fields) (bytes : AreBytes s) (e : Sound n end (Body row at len f) ≡ checkOf s id) where
   -- what is known of the body
-  known : HeldFits s (Body at len f)
-  known = subst (CheckFits s) (sym e) (check-inside s id bytes) .1
+  known : HeldFits s (Body row at len f)
+  known = subst (CheckFits s) (sym e) (check-inside (layoutOf s) (named-ok s) s id bytes) .1
 
   -- it lies in the image
   pub held-inside : at + len ≤ length s

@@ -22,7 +22,7 @@ use Rattle.image_spec.specs.declared.Held.the-variants.{Missing, Body}
 use Rattle.image_spec.specs.declared.ImageCheck.{ImageCheck}
 use Rattle.image_spec.specs.declared.ImageCheck.the-variants.{Sound, Unsound}
 use Rattle.image_spec.specs.Check.{isSound, isHeld}
-use Rattle.image_spec.specs.Edition1.{checkOf}
+use Rattle.image_spec.specs.Readable.{checkOf}
 use Rattle.request_spec.specs.declared.Decision.{Decision}
 use Rattle.request_spec.specs.declared.Decision.the-variants as answers
 use Rattle.request.specs.declared.Environment.{Environment}
@@ -227,16 +227,16 @@ module _ (s : List ℕ) (q : Request) where
     decide-missing e = decided (passes w (passes refl (fails refl))) ∙ by-check e
 
     -- where the id is held, the steps on its body are left
-    held-steps : (n end at len : ℕ) (f : Fields) → decisionBy (Sound n end (Body at len f))
+    held-steps : (n end row at len : ℕ) (f : Fields) → decisionBy (Sound n end (Body row at len f))
         ≡ decidedOn q (leaseFor q) (part s at len) f
     unfolding stepsBy decidedOn inOrder orElse
-    held-steps n end at len f = rw w
+    held-steps n end row at len f = rw w
 
     -- they decide, with the lease that was found
-    pub decide-body : {n end at len : ℕ} {f : Fields} {x : Decision} {lease : Option Lease}
-        → Sound n end (Body at len f) ≡ checkOf s (q .id) → lease ≡ leaseFor q
+    pub decide-body : {n end row at len : ℕ} {f : Fields} {x : Decision} {lease : Option Lease}
+        → Sound n end (Body row at len f) ≡ checkOf s (q .id) → lease ≡ leaseFor q
         → x ≡ decidedOn (withLeases q []) lease (take (at + len - at) (drop at s)) f → x ≡ decisionOf s q
-    decide-body {n} {end} {at} {len} {f} {x} {lease} e l h =
+    decide-body {n} {end} {row} {at} {len} {f} {x} {lease} e l h =
         h ∙ decided-apart q [] lease (take (at + len - at) (drop at s)) f
         ∙ ap (λ (y : Option Lease). decidedOn q y (take (at + len - at) (drop at s)) f) l
-        ∙ ap (λ (b : List ℕ). decidedOn q (leaseFor q) b f) (lent-part s at len) ∙ sym (held-steps n end at len f) ∙ by-check e
+        ∙ ap (λ (b : List ℕ). decidedOn q (leaseFor q) b f) (lent-part s at len) ∙ sym (held-steps n end row at len f) ∙ by-check e

@@ -3,3 +3,4 @@ pub mod ArgumentCode
 pub mod DecideCode
 pub mod LeasedCode
 pub mod BodyCode
+pub mod AfterCode

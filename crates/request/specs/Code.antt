@@ -27,7 +27,12 @@ use Rattle.request.specs.declared.decide.Applicability.the-variants.{App
 use Rattle.request_spec.specs.declared.Matched.{Matched}
 use Rattle.request_spec.specs.declared.Matched.the-variants.{IsAt, Nothing}
 use Rattle.request_spec.specs.Request.{Request, argumentsOk}
-use Rattle.request_spec.specs.Decision.{moreExact, descriptorSteps, keySteps, marginFor, leaseSteps, factsOf, matchedOn}
+use Rattle.request_spec.specs.Decision.{moreExact, descriptorSteps, keySteps, marginFor, leaseSteps, factsOf, matchedOn, decisionOf}
+use Rattle.request_spec.specs.After.{isGranted, usedBy}
+use Rattle.image_spec.specs.Touch.{afterTouch}
+use Rattle.image_spec.specs.Readable.{checkOf}
+use Rattle.request.specs.declared.examine.Examined.{Examined}
+use Rattle.request.specs.declared.examine.Examined.the-variants.{On, Apart}
 
 -- the identifiers that the steps look at lie in the body
 pub record BodyFits (b : List ℕ) (f : Fields) : Type 0 where
@@ -95,3 +100,11 @@ signedBy grant mask notAfter found e =
     let clock = wholeSeconds (e .clock) in
     inOrder (keySteps (e .verdict) (e .window) (clock .0))
     (leasedBy grant mask (plusAtMost clock (e .session) notAfter) found (e .clock .0))
+
+-- ---- the image
+
+-- what examining a request answers: the decision; on the body of a row, and then what is written for a grant is that row's moment; or it is
+-- no grant
+abbrev pub ExaminedAs : List ℕ → Request → Examined → Type 0
+ExaminedAs s q (On row a) = (a ≡ decisionOf s q) × ((t : ℕ) → afterTouch s row t ≡ usedBy s t (checkOf s (q .id)))
+ExaminedAs s q (Apart a) = (a ≡ decisionOf s q) × (isGranted a ≡ false)

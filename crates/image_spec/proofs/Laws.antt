@@ -17,6 +17,8 @@ use Rattle.image_spec.proofs.GrowLaws as grow
 use Rattle.image_spec.proofs.CloseLaws as close
 use Rattle.image_spec.specs.Laws.{TouchedBodies, TouchedImage, TouchedNone, AfterTouch2, AfterTouch1}
 use Rattle.image_spec.proofs.TouchLaws as touch
+use Rattle.image_spec.specs.Laws.{PlacesWider, SoundBounds}
+use Rattle.image_spec.proofs.UpgradeLaws as upgrade
 
 -- ---- where rows stand
 
@@ -145,3 +147,11 @@ after-touch2 = touch.after-touch2
 
 pub after-touch1 : AfterTouch1
 after-touch1 = touch.after-touch1
+
+-- ---- one edition turned into another
+
+pub places-wider : PlacesWider
+places-wider = upgrade.places-wider
+
+pub sound-bounds : SoundBounds
+sound-bounds = upgrade.sound-bounds

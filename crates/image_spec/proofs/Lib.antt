@@ -23,5 +23,6 @@ pub mod RowsClosed
 pub mod BodiesClosed
 pub mod CloseLaws
 pub mod TouchLaws
+pub mod UpgradeLaws
 pub mod Laws
 pub mod Promises

@@ -17,15 +17,20 @@ use Rattle.image_spec.specs.Promises.{NewImage}
 use Rattle.image_spec.proofs.RaiseLaws.{put-four}
 use Rattle.image_spec.proofs.RowLaws.{header-length}
 
--- the four numbers of a header written one after the other are the header of no rows, and no other byte is changed
-fresh-header : (l : Layout) (d : List ℕ) → headerSize ≤ length d → newBytes l d ≡ header l 0 ++ drop headerSize d
+-- the four numbers of a header written one after the other are the header of no rows written
+pub header-written : (l : Layout) (d : List ℕ) → headerSize ≤ length d → newBytes l d ≡ over d 0 (header l 0)
 unfolding newBytes header
-fresh-header l d h =
+header-written l d h =
     let w : (m : ℕ) → length (bigEndian headerWidth m) ≡ headerWidth = length-bigEndian headerWidth in
-    let fit : 0 + length (header l 0) ≤ length d = omega (arith, header-length l 0) in
     put-four d 0 modesPlace countPlace headerZero (bigEndian headerWidth (l .edition)) (bigEndian headerWidth modeEdition)
     (bigEndian headerWidth 0) (bigEndian headerWidth 0) (omega (arith, w (l .edition))) (omega (arith, w modeEdition))
     (omega (arith, w 0)) (omega (arith, w 0))
+
+-- they are that header, and no other byte is changed
+fresh-header : (l : Layout) (d : List ℕ) → headerSize ≤ length d → newBytes l d ≡ header l 0 ++ drop headerSize d
+fresh-header l d h =
+    let fit : 0 + length (header l 0) ≤ length d = omega (arith, header-length l 0) in
+    header-written l d h
     ∙ has-front (over d 0 (header l 0)) (header l 0) (over-has d 0 (header l 0) fit)
     ∙ ap (λ (x : List ℕ). header l 0 ++ x)
     (over-after d 0 (header l 0) (length (header l 0)) fit (omega arith) ∙ ap (λ (n : ℕ). drop n d) (header-length l 0))

@@ -11,6 +11,8 @@ use Rattle.image_spec.proofs.FindLaws as found
 use Rattle.image_spec.proofs.NamedLaws as named
 use Rattle.image_spec.proofs.LookupLaws as lookup
 use Rattle.image_spec.proofs.NewImageLaws as newBytes
+use Rattle.image_spec.specs.Promises.{UpgradeExactly, UpgradeFinds}
+use Rattle.image_spec.proofs.UpgradeLaws as upgrade
 
 -- ---- the layout
 
@@ -67,3 +69,11 @@ body-handed = lookup.body-handed
 
 pub new-image : NewImage
 new-image = newBytes.new-image
+
+-- ---- an image of edition 1 turned into one of edition 2
+
+pub upgrade-exactly : UpgradeExactly
+upgrade-exactly = upgrade.upgrade-exactly
+
+pub upgrade-finds : UpgradeFinds
+upgrade-finds = upgrade.upgrade-finds

@@ -70,7 +70,7 @@ unfolding header
 header-length l n = simp (length-append, length-bigEndian)
 
 -- zero fits any bytes
-zero-fits : (w : ℕ) → 0 < 256 ^ w
+pub zero-fits : (w : ℕ) → 0 < 256 ^ w
 zero-fits zero = lit< tt
 zero-fits (suc w) = rw pow-suc (omega (arith, zero-fits w))
 

@@ -339,3 +339,14 @@ AfterTouch2 = (s : List ℕ) (rs : List Row) (i : ℕ) (id : List ℕ) (t : ℕ)
 -- and one of edition 1
 abbrev pub AfterTouch1 : Type 0
 AfterTouch1 = (s : List ℕ) (rs : List Row) (i t : ℕ) → Holds edition1 s rs → afterTouch s i t ≡ s
+
+-- ---- one edition turned into another
+
+-- rows that are no shorter stand no earlier
+abbrev pub PlacesWider : Type 0
+PlacesWider = (from to : Layout) → rowSize from ≤ rowSize to → (n : ℕ) → rowPlace from n ≤ rowPlace to n
+
+-- an image that a check calls sound has no more rows than there may be, and its bodies begin after them and end in the bytes
+abbrev pub SoundBounds : Type 0
+SoundBounds = (l : Layout) → LayoutOk l → (s id : List ℕ) → AreBytes s → (n end : ℕ) (h : Held) → checkOf l s id ≡ Sound n end h
+    → (n ≤ mostRows l) × (rowPlace l n ≤ end) × (end ≤ length s)

@@ -23,6 +23,7 @@ use Rattle.image_spec.specs.Check.{bodySpan, numbersOf}
 use Rattle.image_spec.specs.NewImage.{creationOf, numberOf}
 use Rattle.image_spec.specs.Readable.{Holds as Readable, findOf}
 use Rattle.image_spec.specs.Edition2.{afterNew}
+use Rattle.image_spec.specs.Upgrade.{upgradeOf, afterUpgrade, writtenOf}
 
 -- ---- the layout
 
@@ -172,3 +173,27 @@ NewImage =
     × (afterNew d ≡ 0x00 ∷ 0x02 ∷ 0x00 ∷ 0x01 ∷ 0x00 ∷ 0x00 ∷ 0x00 ∷ 0x00 ∷ drop 8 d)
     × (afterNew d ≡ imageOf edition2 [] ++ drop 8 d))
     × ((d : List ℕ) → length d < 8 → (numberOf (creationOf d) ≡ 17) × (afterNew d ≡ d))
+
+-- ---- an image of edition 1 turned into one of edition 2
+
+-- 16: the old bytes hold no list of rows in edition 1. 17: the buffer is shorter than the image of the same rows in edition 2. With either the
+-- length is 0, and the buffer is left as it was. Else 0 and the length of that image, which stands at the start of the buffer, followed by
+-- what stood there; it holds the same rows, whose last-used moments are 0.
+pub record UpgradeExactly : Type 0 where
+  pub bad-image : (old d : List ℕ) → AreBytes old → ((rs : List Row) → Holds edition1 old rs → ⊥)
+      → (writtenOf (upgradeOf old d) ≡ record { answer = 16; len = 0 }) × (afterUpgrade old d ≡ d)
+  pub too-short : (old d : List ℕ) (rs : List Row) → Holds edition1 old rs → length d < length (imageOf edition2 rs)
+      → (writtenOf (upgradeOf old d) ≡ record { answer = 17; len = 0 }) × (afterUpgrade old d ≡ d)
+  pub upgraded : (old d : List ℕ) (rs : List Row) → Holds edition1 old rs → length (imageOf edition2 rs) ≤ length d
+      → (writtenOf (upgradeOf old d) ≡ record { answer = 0; len = length (imageOf edition2 rs) })
+      × (afterUpgrade old d ≡ imageOf edition2 rs ++ drop (length (imageOf edition2 rs)) d)
+      × Holds edition2 (afterUpgrade old d) rs
+      × Every (λ r. r .used ≡ 0) rs
+
+-- after an upgrade with 0 every id is answered what it was answered before, with the same bytes
+abbrev pub UpgradeFinds : Type 0
+UpgradeFinds = (old d : List ℕ) (rs : List Row) (id : List ℕ) → Holds edition1 old rs → writtenOf (upgradeOf old d) .answer ≡ 0
+    → let after = afterUpgrade old d in
+    let n = numbersOf (findOf after id) in
+    let m = numbersOf (findOf old id) in
+    (n .answer ≡ m .answer) × (part after (n .«body_at») (n .«body_len») ≡ part old (m .«body_at») (m .«body_len»))

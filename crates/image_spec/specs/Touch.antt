@@ -1,5 +1,5 @@
 -- The last-used moment of a row, raised: what the code writes, and what that is over a list of rows.
-use mathlib.Core.Bool.{Bool, true, false, cond}
+use mathlib.Core.Bool.{true, false, cond}
 use mathlib.Core.List.{List, [], _∷_}
 use Prim.Native.Nat.{ℕ, _+_, max}
 use lib.Dec.{leb, ltb}

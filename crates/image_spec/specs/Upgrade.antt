@@ -1,14 +1,13 @@
 -- An image of one edition turned into one of another, in a second buffer: what the code answers and writes. A reader of the promises does
 -- not need this page.
-use mathlib.Core.Bool.{Bool, true, false, cond}
-use mathlib.Core.List.{List}
+use mathlib.Core.Bool.{cond}
+use mathlib.Core.List.{List, []}
 use Prim.Native.Nat.{ℕ, zero, suc, _+_, _-_}
-use lib.ListN.{length, replicate}
-use lib.Dec.{leb, ltb}
+use lib.ListN.{length}
+use lib.Dec.{leb}
 use Rattle.octets.specs.Bytes.{part}
 use Rattle.octets.specs.Number.{bigEndian, numberIn}
 use Rattle.octets.specs.Write.{putAt}
-use Rattle.descriptor_spec.specs.Allowed.{idSize}
 use Rattle.image_spec.specs.declared.layout.Layout.{Layout}
 use Rattle.image_spec.specs.declared.ImageCheck.{ImageCheck}
 use Rattle.image_spec.specs.declared.ImageCheck.the-variants.{Sound, Unsound}
@@ -56,17 +55,18 @@ abbrev pub upgradeBy : Layout → Layout → List ℕ → ImageCheck → Upgrade
 upgradeBy from to d (Sound n end h) = cond (leb (newLength from to n end) (length d)) (Upgraded (newLength from to n end)) TooShort
 upgradeBy from to d Unsound = BadImage
 
+-- by the same check, what the buffer comes to: as it was, but where the new image fits
 abbrev pub afterBy : Layout → Layout → List ℕ → List ℕ → ImageCheck → List ℕ
 afterBy from to old d (Sound n end h) = cond (leb (newLength from to n end) (length d)) (copied from to old d n end) d
 afterBy from to old d Unsound = d
 
--- an image of edition 1 turned into one of edition 2 in the buffer d
+-- an image of edition 1 turned into one of edition 2 in the buffer d; no id is looked for
 unfoldable pub upgradeOf : List ℕ → List ℕ → Upgrade
-upgradeOf old d = upgradeBy edition1 edition2 d (checkOf edition1 old (replicate idSize 0))
+upgradeOf old d = upgradeBy edition1 edition2 d (checkOf edition1 old [])
 
 -- the buffer after
 unfoldable pub afterUpgrade : List ℕ → List ℕ → List ℕ
-afterUpgrade old d = afterBy edition1 edition2 old d (checkOf edition1 old (replicate idSize 0))
+afterUpgrade old d = afterBy edition1 edition2 old d (checkOf edition1 old [])
 
 -- document 02's answer, and with 0 the length of what was written
 abbrev pub writtenOf : Upgrade → Written

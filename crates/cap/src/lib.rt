@@ -6,6 +6,7 @@ use cbor_item::ItemNumbers;
 use descriptor::DescriptorNumbers;
 use descriptor::GrantNumbers;
 use image::StoredNumbers;
+use image::Written;
 use narrowing::NarrowingNumbers;
 use request::DecisionNumbers;
 use request::Environment;
@@ -22,11 +23,14 @@ ghost use Rattle.descriptor_spec.specs.Numbers as descriptors;
 ghost use Rattle.grant_reader.specs.Code.{nthOf};
 ghost use Rattle.image_spec.specs.Check as images;
 ghost use Rattle.image_spec.specs.NewImage as creations;
-ghost use Rattle.image_spec.specs.Edition1 as edition1;
+ghost use Rattle.image_spec.specs.Readable as readable;
+ghost use Rattle.image_spec.specs.Edition2 as edition2;
+ghost use Rattle.image_spec.specs.Upgrade as upgrades;
 ghost use Rattle.submission_spec.specs.Submission as submissions;
 ghost use Rattle.time.specs.Time.{seconds, milliseconds};
 ghost use Rattle.request_spec.specs.Request.{requestOf};
 ghost use Rattle.request_spec.specs.Decision as requests;
+ghost use Rattle.request_spec.specs.After.{afterRequest};
 ghost use Rattle.narrowing_spec.specs.Narrow as narrowings;
 ghost use Rattle.cap.specs.Numbers.{windowOf};
 
@@ -70,7 +74,7 @@ pub extern "C" fn cap_match(pattern: &[u8], resource: &[u8]) -> MatchingNumbers
 #[no_mangle]
 pub extern "C" fn cap_image_new(image: &mut [u8]) -> u64
     ensures answer { λ r. ⌜ (r ≡ creations.numberOf (creations.creationOf (now (image .entry))))
-        × (now (image .exit) ≡ edition1.afterNew (now (image .entry))) ⌝ }
+        × (now (image .exit) ≡ edition2.afterNew (now (image .entry))) ⌝ }
     ensures lent { λ _. ⌜ AreBytes (now (image .entry)) ⌝ }
 {
     numbers::of_creation(image::new_image(image))
@@ -79,10 +83,20 @@ pub extern "C" fn cap_image_new(image: &mut [u8]) -> u64
 // Looks for the body with the id.
 #[no_mangle]
 pub extern "C" fn cap_image_find(image: &[u8], id: &[u8]) -> StoredNumbers
-    ensures answer { λ r. ⌜ r ≡ images.numbersOf (edition1.findOf (now (image .entry)) (now (id .entry))) ⌝ }
+    ensures answer { λ r. ⌜ r ≡ images.numbersOf (readable.findOf (now (image .entry)) (now (id .entry))) ⌝ }
     ensures lent { λ _. ⌜ AreBytes (now (image .entry)) × AreBytes (now (id .entry)) ⌝ }
 {
     numbers::of_finding(image::find(image, id))
+}
+
+// Turns an image of edition 1 into one of edition 2.
+#[no_mangle]
+pub extern "C" fn cap_image_upgrade(old: &[u8], image: &mut [u8]) -> Written
+    ensures answer { λ r. ⌜ (r ≡ upgrades.writtenOf (upgrades.upgradeOf (now (old .entry)) (now (image .entry))))
+        × (now (image .exit) ≡ upgrades.afterUpgrade (now (old .entry)) (now (image .entry))) ⌝ }
+    ensures lent { λ _. ⌜ AreBytes (now (old .entry)) × AreBytes (now (image .entry)) ⌝ }
+{
+    numbers::of_upgrade(image::upgrade(old, image))
 }
 
 // Submits a descriptor to the image.
@@ -106,10 +120,10 @@ pub extern "C" fn cap_submit(
     numbers::of_submission(submission::submit(image, descriptor, Seconds(clock), verdict, key))
 }
 
-// Decides a request.
+// Decides a request; a grant raises the last-used moment of its row.
 #[no_mangle]
 pub extern "C" fn cap_request(
-    image: &[u8],
+    image: &mut [u8],
     id: &[u8],
     fay: &[u8],
     terminal: &[u8],
@@ -124,7 +138,11 @@ pub extern "C" fn cap_request(
     has_valid_until: u64,
     valid_until: u64,
 ) -> DecisionNumbers
-    ensures answer { λ r. ⌜ r ≡ requests.numbersOf (requests.decisionOf (now (image .entry))
+    ensures answer { λ r. ⌜ (r ≡ requests.numbersOf (requests.decisionOf (now (image .entry))
+        (requestOf (now (id .entry)) (now (fay .entry)) (now (terminal .entry)) (now (resource .entry)) mode
+        (milliseconds «now_ms») (seconds «session_length») (now (revoked .entry)) (now (leases .entry)) verdict
+        (windowOf «valid_from» «has_valid_until» «valid_until»))))
+        × (now (image .exit) ≡ afterRequest (now (image .entry))
         (requestOf (now (id .entry)) (now (fay .entry)) (now (terminal .entry)) (now (resource .entry)) mode
         (milliseconds «now_ms») (seconds «session_length») (now (revoked .entry)) (now (leases .entry)) verdict
         (windowOf «valid_from» «has_valid_until» «valid_until»))) ⌝ }

@@ -30,11 +30,12 @@ use Rattle.image_spec.specs.Image as image
 use Rattle.image_spec.specs.Check.{isSound, isHeld, layoutOf}
 use Rattle.image_spec.specs.Close.{withRows}
 use Rattle.image_spec.specs.Touch.{touched, raisedAt, touchedAt, afterTouch}
+use Rattle.image_spec.specs.Upgrade.{afterUpgrade}
 use Rattle.image_spec.specs.Readable.{Holds, checkOf, rowsHeld}
 use Rattle.image_spec.specs.Laws.{HeldBody, HeldIs}
 use Rattle.image_spec.proofs.Laws.{edition2-ok, named-ok, header-names, place-within, check-tells, check-says, body-with-exactly}
 use Rattle.image_spec.proofs.Laws.{touched-bodies, after-touch2, after-touch1}
-use Rattle.image_spec.proofs.Promises.{readable-exactly}
+use Rattle.image_spec.proofs.Promises.{readable-exactly, upgrade-exactly}
 use Rattle.request_spec.specs.declared.Decision.{Decision}
 use Rattle.request_spec.specs.declared.Decision.the-variants as answers
 use Rattle.request_spec.specs.declared.DecisionNumbers.{DecisionNumbers}
@@ -42,7 +43,7 @@ use Rattle.request_spec.specs.Request.{Request, argumentsOk, wellFormed}
 use Rattle.request_spec.specs.Decision.{factsIn, matchedIn, decisionOf, numbersOf}
 use Rattle.request_spec.specs.After.{isGranted, usedBy, afterRequest}
 use Rattle.request_spec.specs.Promises.{secondsOf, formed, notHeld, stepsWith, grantedFor, TouchedExactly, RefusalKeeps, Grant1Keeps}
-use Rattle.request_spec.specs.Promises.{Grant2Touches, GrantChanges8, MomentsDecideNothing}
+use Rattle.request_spec.specs.Promises.{Grant2Touches, GrantChanges8, MomentsDecideNothing, UpgradeDecides}
 use Rattle.request_spec.proofs.HeldLaws.{decided-in, malformed-first, missingBy, decided-on-none}
 use Rattle.request_spec.proofs.StoredLaws.{readable, found-alike}
 use Rattle.request_spec.proofs.NumberLaws.{missing-numbers}
@@ -269,3 +270,12 @@ moments-decide-nothing s q p bytes =
     go z (Sound n end (Body row at len f)) e = same-answers z row at len n end f e
     go z (Sound n end Missing) e = refl
     go z Unsound e = refl
+
+-- ---- an image turned into edition 2
+
+-- `UpgradeDecides`
+pub upgrade-decides : UpgradeDecides
+upgrade-decides old d q rs h room =
+    let w = upgrade-exactly .upgraded old d rs h room in
+    ap numbersOf (found-alike old (afterUpgrade old d) q rs rs (readable-exactly old rs .1 (inl h))
+    (readable (afterUpgrade old d) rs (w .2)) refl)

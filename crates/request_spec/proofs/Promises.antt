@@ -4,6 +4,8 @@ use Rattle.request_spec.specs.Promises.{ArgumentsInOrder, AllStored, Dec
 use Rattle.request_spec.specs.Promises.{RefusalsZero, EditionsRefused, GrantedGives, BeginBoundary, EndBoundary, StoredDecided}
 use Rattle.request_spec.specs.Promises.{OthersDecided, RevokedRefused, RowMoreRefuses, EarlyRowWaits, StaysRevoked, PickedOnce}
 use Rattle.request_spec.specs.Promises.{AnsweredAsBefore, WithoutLease, GrantMargin, StaleMargin, OtherLeases, OlderSyncRefused}
+use Rattle.request_spec.specs.Promises.{TouchedExactly, RefusalKeeps, Grant1Keeps, Grant2Touches, GrantChanges8}
+use Rattle.request_spec.specs.Promises.{MomentsDecideNothing, UpgradeDecides}
 use Rattle.request_spec.proofs.UnderLaws as under
 use Rattle.request_spec.proofs.NumberLaws as numbers
 use Rattle.request_spec.proofs.ServingLaws as serving
@@ -14,6 +16,7 @@ use Rattle.request_spec.proofs.LeaseLaws as lease
 use Rattle.request_spec.proofs.OlderLaws as older
 use Rattle.request_spec.proofs.BoundaryLaws as boundary
 use Rattle.request_spec.proofs.StoredLaws as stored
+use Rattle.request_spec.proofs.AfterLaws as after
 
 -- ---- the arguments
 
@@ -49,6 +52,31 @@ picked-once = serving.picked-one-place
 
 pub granted-gives : GrantedGives
 granted-gives = given.granted-gives
+
+-- ---- the image after a request
+
+pub touched-exactly : TouchedExactly
+touched-exactly = after.touched-exactly
+
+pub refusal-keeps : RefusalKeeps
+refusal-keeps = after.refusal-keeps
+
+pub grant1-keeps : Grant1Keeps
+grant1-keeps = after.grant1-keeps
+
+pub grant2-touches : Grant2Touches
+grant2-touches = after.grant2-touches
+
+pub grant-changes8 : GrantChanges8
+grant-changes8 = after.grant-changes8
+
+pub moments-decide-nothing : MomentsDecideNothing
+moments-decide-nothing = after.moments-decide-nothing
+
+-- ---- an image turned into edition 2
+
+pub upgrade-decides : UpgradeDecides
+upgrade-decides = after.upgrade-decides
 
 -- ---- document 01's rule, which document 02 amends
 

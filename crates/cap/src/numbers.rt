@@ -9,6 +9,8 @@ use descriptor::Reading;
 use image::Creation;
 use image::Finding;
 use image::StoredNumbers;
+use image::Upgrade;
+use image::Written;
 use narrowing::Narrowing;
 use narrowing::NarrowingNumbers;
 use request::Decision;
@@ -26,6 +28,7 @@ ghost use Rattle.descriptor.specs.Code.{grantRead};
 ghost use Rattle.descriptor_spec.specs.Numbers as descriptors;
 ghost use Rattle.image_spec.specs.Check as images;
 ghost use Rattle.image_spec.specs.NewImage as creations;
+ghost use Rattle.image_spec.specs.Upgrade as upgrades;
 ghost use Rattle.submission_spec.specs.Submission as submissions;
 ghost use Rattle.request_spec.specs.Decision as requests;
 ghost use Rattle.narrowing_spec.specs.Narrow as narrowings;
@@ -237,6 +240,27 @@ fn stored(answer: u64, at: usize, len: usize) -> StoredNumbers
         answer,
         body_at: at as u64,
         body_len: len as u64,
+    }
+}
+
+// An upgrade's.
+pub(crate) fn of_upgrade(upgrade: Upgrade) -> Written
+    ensures { λ r. ⌜ r ≡ upgrades.writtenOf upgrade ⌝ }
+{
+    match upgrade {
+        Upgrade::Upgraded { len } => written(0, len),
+        Upgrade::BadImage => written(16, 0),
+        Upgrade::TooShort => written(17, 0),
+    }
+}
+
+// The answer, and how many bytes were written.
+fn written(answer: u64, len: usize) -> Written
+    ensures { λ r. ⌜ r ≡ record { answer = answer; len = len } ⌝ }
+{
+    Written {
+        answer,
+        len: len as u64,
     }
 }
 

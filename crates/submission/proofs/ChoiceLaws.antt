@@ -20,24 +20,28 @@ use Rattle.image_spec.specs.declared.Held.{Held}
 use Rattle.image_spec.specs.declared.Held.the-variants.{Missing, Body}
 use Rattle.image_spec.specs.declared.ImageCheck.{ImageCheck}
 use Rattle.image_spec.specs.declared.ImageCheck.the-variants.{Sound, Unsound}
-use Rattle.image_spec.specs.Image.{rowOf, reading, idOf}
+use Rattle.image_spec.specs.Image.{reading, idOf}
 use Rattle.image_spec.specs.Check.{isHeld}
-use Rattle.image_spec.specs.Edition1.{checkOf, rowsHeld, hasRoom}
+use Rattle.image_spec.specs.Choose.{unexpired}
+use Rattle.image_spec.specs.Edition2.{checkOf, rowsHeld, hasRoom}
 use Rattle.submission_spec.specs.declared.Submission.{Submission}
 use Rattle.submission_spec.specs.declared.Submission.the-variants as answers
 use Rattle.submission.specs.declared.choose.Choice.{Choice}
 use Rattle.submission.specs.declared.choose.Choice.the-variants.{Answer, Store}
 use Rattle.submission.specs.declared.choose.Admission.{Admission}
-use Rattle.submission_spec.specs.Submission.{longestLead, stepsBy, numberOf, afterAnswer}
+use Rattle.submission_spec.specs.Submission.{longestLead, rowNow, stepsBy, numberOf, afterAnswer}
 use Rattle.submission.specs.Code.{admitted, placed, whenAdmitted, chosenRead, chosenUnread, chosenBy, choiceOf}
 use Rattle.submission_spec.proofs.Laws.{numbers-tell, refused-keeps}
 
 -- ---- what a choice says
 
 -- the body is to be stored: the id is not held, and every step but the last passes, which is whether there is room
+-- beside the rows that are not expired
 pub record Storing (d b : List ℕ) (clock verdict : ℕ) (window : Window) (r : Reading) (v : ImageCheck) (n end id mask : ℕ) : Type 0 where
-  pub done : hasRoom d (rowsHeld d) (rowOf b) ≡ true → answers.Done ≡ inOrder (stepsBy d b clock verdict window r v) answers.Done
-  pub full : hasRoom d (rowsHeld d) (rowOf b) ≡ false → answers.Full ≡ inOrder (stepsBy d b clock verdict window r v) answers.Done
+  pub done : hasRoom d (unexpired clock (rowsHeld d)) (rowNow b clock) ≡ true
+      → answers.Done ≡ inOrder (stepsBy d b clock verdict window r v) answers.Done
+  pub full : hasRoom d (unexpired clock (rowsHeld d)) (rowNow b clock) ≡ false
+      → answers.Full ≡ inOrder (stepsBy d b clock verdict window r v) answers.Done
   pub found : v ≡ Sound n end Missing
   pub fields : Fields
   pub reads : r ≡ Read fields
@@ -47,7 +51,7 @@ pub record Storing (d b : List ℕ) (clock verdict : ℕ) (window : Window) (r :
 -- an answer is what the steps come to, and leaves the buffer as it was; a body that is to be stored has passed all but the last
 abbrev pub ChoiceIs : List ℕ → List ℕ → ℕ → ℕ → Window → Reading → ImageCheck → Choice → Type 0
 ChoiceIs d b clock verdict window r v (Answer a) = (a ≡ inOrder (stepsBy d b clock verdict window r v) answers.Done)
-    × (afterAnswer d b (isHeld v) a ≡ d)
+    × (afterAnswer d b clock (isHeld v) a ≡ d)
 ChoiceIs d b clock verdict window r v (Store n end id mask) = Storing d b clock verdict window r v n end id mask
 
 -- a refusal whose step fails, where those before it pass, is a choice that says so
@@ -56,8 +60,7 @@ refuses : (d b : List ℕ) (clock verdict : ℕ) (window : Window) (r : Reading)
 refuses d b clock verdict window r v a n e =
     let steps : List (Step Submission) = stepsBy d b clock verdict window r v in (
       sym (numbers-tell (inOrder steps answers.Done) a (failed-by numberOf (numberOf a) steps answers.Done e)),
-      refused-keeps d b
-          (isHeld v) a (λ z. omega (arith, ap numberOf z)),
+      refused-keeps d b clock (isHeld v) a (λ z. omega (arith, ap numberOf z)),
     )
 
 -- where every step passes, the answer is 0
@@ -74,8 +77,8 @@ module _ (d b : List ℕ) (clock verdict : ℕ) (window : Window) (known : isVer
     -- where the steps before it pass, the place of the body is what the last two steps come to
     placed-is : (h : Held) → ChoiceIs d b clock verdict window (Read f) (Sound n end h) (placed d b n end h f)
     unfolding stepsBy placed
-    placed-is (Body at len g) =
-        let v : ImageCheck = Sound n end (Body at len g) in
+    placed-is (Body row at len g) =
+        let v : ImageCheck = Sound n end (Body row at len g) in
         by-cond (ChoiceIs d b clock verdict window (Read f) v) (same (part d at len) b)
         (λ e. (all-done d b clock verdict window (Read f) v (rw (known, early, issuer, key, signed, e)), refl))
         (λ e. refuses d b clock verdict window (Read f) v answers.Duplicate (omega arith) (rw (known, early, issuer, key, signed, e)))

@@ -1,7 +1,7 @@
 -- Laws that the proofs of the code apply: what the tests and calls of the code say of the definitions of specs/Code.antt.
 -- Assumes nothing.
-use mathlib.Core.Path.{_≡_, sym, ap, _∙_, subst}
-use mathlib.Core.Bool.{Bool, true, false, not}
+use mathlib.Core.Path.{_≡_, refl, sym, ap, ap₂, _∙_, subst}
+use mathlib.Core.Bool.{Bool, true, false, not, cond}
 use mathlib.Core.List.{List}
 use Prim.Native.Nat.{ℕ, _+_, _-_, _≤_, _<_}
 use native.Mathlib.Omega.{arith}
@@ -22,8 +22,16 @@ use Rattle.image_spec.specs.declared.Held.{Held}
 use Rattle.image_spec.specs.declared.Held.the-variants.{Missing, Body}
 use Rattle.image_spec.specs.declared.ImageCheck.{ImageCheck}
 use Rattle.image_spec.specs.declared.ImageCheck.the-variants.{Sound, Unsound}
+use Rattle.image_spec.specs.declared.Added.{Added}
+use Rattle.image_spec.specs.declared.Added.the-variants.{Done, Full}
+use Rattle.image_spec.specs.declared.Room.{Room}
+use Rattle.image_spec.specs.declared.Room.the-variants.{Made, NoRoom}
+use Rattle.image_spec.specs.Layout.{edition2}
 use Rattle.image_spec.specs.Image.{reading, idIn, idOf}
-use Rattle.image_spec.specs.Edition1.{checkOf}
+use Rattle.image_spec.specs.Grow.{fits, grown}
+use Rattle.image_spec.specs.Grow as grow
+use Rattle.image_spec.specs.Choose.{roomOf, afterRoom}
+use Rattle.image_spec.specs.Edition2.{checkOf, addedOf, afterAdd}
 use Rattle.image_spec.specs.Laws.{HeldFits}
 use Rattle.image_spec.proofs.Laws.{read-in}
 use Rattle.descriptor_spec.specs.Allowed.{idSize}
@@ -36,6 +44,7 @@ use Rattle.submission.specs.declared.choose.Admission.{Admission}
 use Rattle.submission.specs.declared.choose.Admission.the-variants.{Refused, Admitted}
 use Rattle.submission_spec.specs.Submission.{longestLead}
 use Rattle.submission.specs.Code.{admitted, placed, whenAdmitted, chosenRead, chosenUnread, chosenBy, choiceOf}
+use Rattle.submission.specs.Code.{storedAs, storedIn, afterIn, storedAfterRemoval, afterRemoval, storedOr, afterOr, storedOf, afterStore}
 
 -- ---- the beginning, the issuer, the key and the signature
 
@@ -81,11 +90,11 @@ module _ (before clock verdict : ℕ) (window : Window) (h : before ≤ clock + 
 -- ---- a body that is held, and one that is not
 
 -- the body that is held lies in the image
-pub held-room : (d : List ℕ) (h : Held) (at len : ℕ) (g : Fields) → HeldFits d h → h ≡ Body at len g → at + len ≤ length d
-held-room d h at len g k e = subst (HeldFits d) e k .0
+pub held-room : (d : List ℕ) (h : Held) (row at len : ℕ) (g : Fields) → HeldFits d h → h ≡ Body row at len g → at + len ≤ length d
+held-room d h row at len g k e = subst (HeldFits d) e k .0
 
 module _ (d b : List ℕ) (n end : ℕ) (h : Held) (f : Fields) where
-  module _ (at len : ℕ) (g : Fields) (e : h ≡ Body at len g) (t : Bool) (k : t ≡ same (take (at + len - at) (drop at d)) b) where
+  module _ (row at len : ℕ) (g : Fields) (e : h ≡ Body row at len g) (t : Bool) (k : t ≡ same (take (at + len - at) (drop at d)) b) where
     -- the bytes that the code compares are those of the body that is held
     same-held : same (part d at len) b ≡ t
     same-held = sym (k ∙ ap (λ (x : List ℕ). same x b) (lent-part d at len))
@@ -182,3 +191,58 @@ module _ (d b : List ℕ) (clock verdict : ℕ) (window : Window) (h : verdict �
   pub choice-validity : (r : Choice) → o ≡ Validity → r ≡ chosenUnread answers.Validity (checkOf d (replicate idSize 0))
       → r ≡ choiceOf d b clock verdict window
   choice-validity r e p = p ∙ choice-by Validity e
+
+-- ---- storing the body
+
+module _ (d b : List ℕ) (n end id mask clock : ℕ) where
+  module _ (o : Room) (d₁ : List ℕ)
+      (e : (o ≡ roomOf edition2 d n end clock (length b)) × (d₁ ≡ afterRoom edition2 d n end clock (length b))) where
+    -- room was made: the body is added after the rows that stay
+    pub removal-made : (m at : ℕ) → o ≡ Made m at → (a : Added) (d₂ : List ℕ)
+        → (a ≡ addedOf d₁ m at b id) × (d₂ ≡ afterAdd d₁ m at b id mask clock) → (r : Submission) → r ≡ storedAs a
+        → (r ≡ storedAfterRemoval d n end b id clock) × (d₂ ≡ afterRemoval d n end b id mask clock)
+    unfolding storedAfterRemoval afterRemoval
+    removal-made m at u a d₂ k r g = (
+      g ∙ ap storedAs (k .0) ∙ ap₂ (λ (x : List ℕ) (y : Room). storedIn x b id y) (e .1) (sym u ∙ e .0),
+      k .1 ∙ ap₂ (λ (x : List ℕ) (y : Room). afterIn x b id mask clock y) (e .1) (sym u ∙ e .0),
+    )
+
+    -- no room was made
+    pub removal-none : o ≡ NoRoom → (answers.Full ≡ storedAfterRemoval d n end b id clock) × (d₁ ≡ afterRemoval d n end b id mask clock)
+    unfolding storedAfterRemoval afterRemoval
+    removal-none u = (
+      ap₂ (λ (x : List ℕ) (y : Room). storedIn x b id y) (e .1) (sym u ∙ e .0),
+      ap₂ (λ (x : List ℕ) (y : Room). afterIn x b id mask clock y) (e .1) (sym u ∙ e .0),
+    )
+
+  -- a body that cannot be added leaves the buffer as it was
+  full-keeps : addedOf d n end b id ≡ Full → afterAdd d n end b id mask clock ≡ d
+  unfolding grow.addedOf grow.afterAdd
+  full-keeps = go (fits edition2 d n end b id) (grown edition2 d n end b id mask clock)
+    where
+      go : (t : Bool) (larger : List ℕ) → cond t Done Full ≡ Full → cond t larger d ≡ d
+      go true larger u = ap (afterOr larger d) u
+      go false larger u = refl
+
+  module _ (a : Added) (d₁ : List ℕ) (e : (a ≡ addedOf d n end b id) × (d₁ ≡ afterAdd d n end b id mask clock)) where
+    -- the body was added as it is
+    pub store-fits : a ≡ Done → (answers.Done ≡ storedOf d n end b id clock) × (d₁ ≡ afterStore d n end b id mask clock)
+    unfolding storedOf afterStore
+    store-fits u = (
+      ap (storedOr (storedAfterRemoval d n end b id clock)) (sym u ∙ e .0),
+      e .1 ∙ ap (afterOr (afterAdd d n end b id mask clock) (afterRemoval d n end b id mask clock)) (sym u ∙ e .0),
+    )
+
+    -- it was not: expired rows are removed first
+    pub store-removes : a ≡ Full → (r : Submission) (d₂ : List ℕ)
+        → (r ≡ storedAfterRemoval d₁ n end b id clock) × (d₂ ≡ afterRemoval d₁ n end b id mask clock)
+        → (r ≡ storedOf d n end b id clock) × (d₂ ≡ afterStore d n end b id mask clock)
+    unfolding storedOf afterStore
+    store-removes u r d₂ k =
+        let full : Full ≡ addedOf d n end b id = sym u ∙ e .0 in
+        let same-buffer : d₁ ≡ d = e .1 ∙ full-keeps (sym full) in (
+          k .0 ∙ ap (λ (x : List ℕ). storedAfterRemoval x n end b id clock) same-buffer
+              ∙ ap (storedOr (storedAfterRemoval d n end b id clock)) full,
+          k .1 ∙ ap (λ (x : List ℕ). afterRemoval x n end b id mask clock) same-buffer
+              ∙ ap (afterOr (afterAdd d n end b id mask clock) (afterRemoval d n end b id mask clock)) full,
+        )

@@ -3,6 +3,7 @@
 use mathlib.Core.Bool.{cond}
 use mathlib.Core.List.{List}
 use Prim.Native.Nat.{ℕ, _+_}
+use lib.ListN.{length}
 use lib.Dec.{leb}
 use Rattle.octets.specs.Bytes.{part, same}
 use Rattle.descriptor_spec.specs.declared.Fields.{Fields}
@@ -16,8 +17,12 @@ use Rattle.image_spec.specs.declared.ImageCheck.{ImageCheck}
 use Rattle.image_spec.specs.declared.ImageCheck.the-variants.{Sound, Unsound}
 use Rattle.image_spec.specs.declared.Added.{Added}
 use Rattle.image_spec.specs.declared.Added.the-variants.{Done, Full}
+use Rattle.image_spec.specs.declared.Room.{Room}
+use Rattle.image_spec.specs.declared.Room.the-variants.{Made, NoRoom}
+use Rattle.image_spec.specs.Layout.{edition2}
 use Rattle.image_spec.specs.Image.{reading, idOf}
-use Rattle.image_spec.specs.Edition1.{checkOf}
+use Rattle.image_spec.specs.Choose.{roomOf, afterRoom}
+use Rattle.image_spec.specs.Edition2.{checkOf, addedOf, afterAdd}
 use Rattle.submission_spec.specs.declared.Submission.{Submission}
 use Rattle.submission_spec.specs.declared.Submission.the-variants as answers
 use Rattle.submission.specs.declared.choose.Choice.{Choice}
@@ -38,7 +43,7 @@ admitted before clock verdict window =
 
 -- whether the body is held, held with other bytes, or to be stored
 unfoldable pub placed : List ℕ → List ℕ → ℕ → ℕ → Held → Fields → Choice
-placed d b n end (Body at len g) f = cond (same (part d at len) b) (Answer answers.Done) (Answer answers.Duplicate)
+placed d b n end (Body row at len g) f = cond (same (part d at len) b) (Answer answers.Done) (Answer answers.Duplicate)
 placed d b n end Missing f = Store n end (f .id) (f .mask)
 
 -- the refusal, or where the body is placed
@@ -68,9 +73,48 @@ unfoldable pub choiceOf : List ℕ → List ℕ → ℕ → ℕ → Window → C
 choiceOf d b clock verdict window =
     cond (isVerdict verdict) (chosenBy d b clock verdict window (reading b) (checkOf d (idOf b))) (Answer answers.Malformed)
 
--- ---- the stage that writes
+-- ---- the stages that write
 
 -- what adding the body comes to
 abbrev pub storedAs : Added → Submission
 storedAs Done = answers.Done
 storedAs Full = answers.Full
+
+-- where room was made the body is added after the rows that stay
+abbrev pub storedIn : List ℕ → List ℕ → ℕ → Room → Submission
+storedIn d b id (Made n end) = storedAs (addedOf d n end b id)
+storedIn d b id NoRoom = answers.Full
+
+-- the buffer after that
+abbrev pub afterIn : List ℕ → List ℕ → ℕ → ℕ → ℕ → Room → List ℕ
+afterIn d b id mask clock (Made n end) = afterAdd d n end b id mask clock
+afterIn d b id mask clock NoRoom = d
+
+-- what storing the body comes to where expired rows are removed first
+unfoldable pub storedAfterRemoval : List ℕ → ℕ → ℕ → List ℕ → ℕ → ℕ → Submission
+storedAfterRemoval d n end b id clock =
+    storedIn (afterRoom edition2 d n end clock (length b)) b id (roomOf edition2 d n end clock (length b))
+
+-- the buffer after that
+unfoldable pub afterRemoval : List ℕ → ℕ → ℕ → List ℕ → ℕ → ℕ → ℕ → List ℕ
+afterRemoval d n end b id mask clock =
+    afterIn (afterRoom edition2 d n end clock (length b)) b id mask clock (roomOf edition2 d n end clock (length b))
+
+-- the body is added as it is, or else
+abbrev pub storedOr : Submission → Added → Submission
+storedOr a Done = answers.Done
+storedOr a Full = a
+
+-- the buffer with the body added as it is, or else
+abbrev pub afterOr : List ℕ → List ℕ → Added → List ℕ
+afterOr larger d Done = larger
+afterOr larger d Full = d
+
+-- what storing the body comes to: only where it cannot be added as it is are expired rows removed
+unfoldable pub storedOf : List ℕ → ℕ → ℕ → List ℕ → ℕ → ℕ → Submission
+storedOf d n end b id clock = storedOr (storedAfterRemoval d n end b id clock) (addedOf d n end b id)
+
+-- the buffer after that
+unfoldable pub afterStore : List ℕ → ℕ → ℕ → List ℕ → ℕ → ℕ → ℕ → List ℕ
+afterStore d n end b id mask clock =
+    afterOr (afterAdd d n end b id mask clock) (afterRemoval d n end b id mask clock) (addedOf d n end b id)

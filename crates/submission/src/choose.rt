@@ -10,7 +10,7 @@ use time::Seconds;
 ghost use mathlib.Core.Path.{_≡_};
 ghost use Prim.Native.Nat.{_+_};
 ghost use lib.ListN.{replicate};
-ghost use Rattle.image_spec.specs.Edition1.{checkOf};
+ghost use Rattle.image_spec.specs.Edition2.{checkOf};
 ghost use Rattle.descriptor_spec.specs.Allowed.{idSize};
 ghost use Rattle.image_spec.specs.Laws.{HeldFits, CheckFits};
 ghost use Rattle.octets.specs.Bytes.{AreBytes};
@@ -62,7 +62,12 @@ fn place(image: &[u8], body: &[u8], rows: u64, end: usize, held: Held, fields: F
     ensures { λ r. ⌜ r ≡ placed (now (image .entry)) (now (body .entry)) rows end held fields ⌝ }
 {
     match held {
-        Held::Body { at, len, fields: _ } => {
+        Held::Body {
+            row: _,
+            at,
+            len,
+            fields: _,
+        } => {
             if octets::same_bytes(&image[at..at + len], body) {
                 return Choice::Answer(Submission::Done);
             }
@@ -107,7 +112,7 @@ fn choose_unread(image: &[u8], answer: Submission) -> Choice
     ensures { λ r. ⌜ r ≡ chosenUnread answer (checkOf (now (image .entry)) (replicate idSize 0)) ⌝ }
 {
     let none = [0u8; ID_SIZE];
-    match image::check(image, &none) {
+    match image::check_latest(image, &none) {
         ImageCheck::Sound {
             rows: _,
             end: _,
@@ -133,7 +138,7 @@ pub(crate) fn choose(
     match descriptor::read_descriptor(body) {
         Reading::Read(fields) => {
             let id = fields.id;
-            let found = image::check(image, &body[id..id + ID_SIZE]);
+            let found = image::check_latest(image, &body[id..id + ID_SIZE]);
             choose_read(image, body, clock, verdict, window, fields, found)
         }
         Reading::Structure => choose_unread(image, Submission::Structure),

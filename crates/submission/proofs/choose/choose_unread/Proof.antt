@@ -5,10 +5,10 @@ use Rattle.submission.proofs.choose.choose_unread.Statement.{statement}
 use Rattle.submission.proofs.choose.choose_unread.Tie as tie
 
 returns : tie.Need-returns
-returns c = unread-sound _ _ _ _ (c .before .before .check .ensures) _ _ _ (c .enum-told .given .1)
+returns c = unread-sound _ _ _ _ (c .before .before .check-latest .ensures) _ _ _ (c .enum-told .given .1)
 
 returns-2 : tie.Need-returns-2
-returns-2 c = unread-unsound _ _ _ _ (c .before .before .check .ensures) (c .enum-told2 .given .1)
+returns-2 c = unread-unsound _ _ _ _ (c .before .before .check-latest .ensures) (c .enum-told2 .given .1)
 
 pub choose-unread-spec : {M : Type 1} → statement M
 choose-unread-spec =

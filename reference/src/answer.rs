@@ -12,7 +12,7 @@ pub(crate) const UNKNOWN_ISSUER: u64 = 3;
 pub(crate) const INVALID_SIGNATURE: u64 = 4;
 /// Other bytes are held under the id.
 pub(crate) const DUPLICATE_DESCRIPTOR_ID: u64 = 5;
-/// No row or no room is left.
+/// No row or no room is left, also without the expired rows.
 pub(crate) const STORAGE_FULL: u64 = 6;
 /// The id is not held.
 pub(crate) const DESCRIPTOR_NOT_FOUND: u64 = 7;
@@ -32,9 +32,9 @@ pub(crate) const AUTHORIZATION_INSUFFICIENT: u64 = 13;
 pub(crate) const VERIFICATION_KEY_INVALID: u64 = 14;
 /// Malformed arguments.
 pub(crate) const MALFORMED_ARGUMENTS: u64 = 15;
-/// The bytes are no sound image.
+/// The bytes are no sound image of an edition that the call takes.
 pub(crate) const BAD_IMAGE: u64 = 16;
-/// The buffer is too short for a new image.
+/// The buffer is too short for a new or an upgraded image.
 pub(crate) const OUTPUT_TOO_SHORT: u64 = 17;
 /// The child's period is not inside the parent's.
 pub(crate) const PERIOD_NOT_INSIDE: u64 = 18;

@@ -1,17 +1,11 @@
 //! The stored image: a table of contents of rows, then the bodies.
 
+use std::collections::HashSet;
+
 use crate::answer::{BAD_IMAGE, DESCRIPTOR_NOT_FOUND, DONE, MALFORMED_ARGUMENTS, OUTPUT_TOO_SHORT};
 use crate::descriptor::{read, Reading};
+use crate::edition::{Edition, EDITION_1, EDITION_2, HEADER, ROW_START};
 use crate::item::big_endian;
-
-/// The first eight bytes of an image without rows: image edition 1, mode edition 1, no rows, zero.
-const NEW_HEADER: [u8; HEADER] = [0, 1, 0, 1, 0, 0, 0, 0];
-/// The length of the header.
-const HEADER: usize = 8;
-/// The length of a row.
-pub(crate) const ROW: usize = 32;
-/// The most rows of an image.
-pub(crate) const MOST_ROWS: usize = 64;
 
 /// What looking for a body answers.
 #[derive(Clone, Copy, Debug, Default, PartialEq, Eq)]
@@ -24,36 +18,41 @@ pub struct Stored {
     pub body_len: u64,
 }
 
-/// A sound image: its rows, and the place after its last body.
-pub(crate) struct Image<'a> {
-    pub(crate) rows: Vec<Row<'a>>,
-    pub(crate) end: usize,
+/// What a call that writes to the start of a buffer answers.
+#[derive(Clone, Copy, Debug, Default, PartialEq, Eq)]
+pub struct Written {
+    /// 0, or the number of the first step that fails.
+    pub answer: u64,
+    /// How many bytes were written; 0 with a refusal.
+    pub len: u64,
 }
 
-/// A sound row: its body, where that lies, and how it reads.
+/// An image: its edition and its rows in their order.
+pub(crate) struct Image<'a> {
+    pub(crate) edition: &'static Edition,
+    pub(crate) rows: Vec<Row<'a>>,
+}
+
+/// A row: its body, how that reads, and the moment at which it was last used, 0 where the edition has none.
+#[derive(Clone, Copy)]
 pub(crate) struct Row<'a> {
-    pub(crate) body_at: usize,
     pub(crate) body: &'a [u8],
     pub(crate) reading: Reading<'a>,
-}
-
-/// The place of the row with the index.
-fn row_place(index: usize) -> usize {
-    HEADER + ROW * index
+    pub(crate) last_used: u64,
 }
 
 /// Makes a new image of no bodies: 0 or 17.
 pub fn image_new(image: &mut [u8]) -> u64 {
     match image.first_chunk_mut() {
         Some(header) => {
-            *header = NEW_HEADER;
+            *header = EDITION_2.header(0);
             DONE
         }
         None => OUTPUT_TOO_SHORT,
     }
 }
 
-/// Looks for the body with the id in the image.
+/// Looks for the body with the id in the image, of either edition.
 pub fn image_find(image: &[u8], id: &[u8]) -> Stored {
     let refused = |answer| Stored {
         answer,
@@ -66,82 +65,115 @@ pub fn image_find(image: &[u8], id: &[u8]) -> Stored {
         return refused(BAD_IMAGE);
     };
     match image.find(id) {
-        Some(row) => Stored {
+        Some(index) => Stored {
             answer: DONE,
-            body_at: row.body_at as u64,
-            body_len: row.body.len() as u64,
+            body_at: image.body_place(index) as u64,
+            body_len: image.rows[index].body.len() as u64,
         },
         None => refused(DESCRIPTOR_NOT_FOUND),
+    }
+}
+
+/// Writes an image of edition 1 as one of edition 2, with the moment 0 in each row, to a second buffer: 16, then 17, else 0 and its
+/// length.
+pub fn image_upgrade(old: &[u8], image: &mut [u8]) -> Written {
+    let refused = |answer| Written { answer, len: 0 };
+    let Some(old) = Image::of_edition(&EDITION_1, old) else {
+        return refused(BAD_IMAGE);
+    };
+    let new = Image {
+        edition: &EDITION_2,
+        ..old
+    };
+    let written = new.bytes();
+    let Some(start) = image.get_mut(..written.len()) else {
+        return refused(OUTPUT_TOO_SHORT);
+    };
+    start.copy_from_slice(&written);
+    Written {
+        answer: DONE,
+        len: written.len() as u64,
     }
 }
 
 impl<'a> Image<'a> {
     /// The image that the bytes hold, if it is sound.
     pub(crate) fn of(bytes: &'a [u8]) -> Option<Image<'a>> {
-        let count = row_count(bytes)?;
-        let table = bytes.get(HEADER..row_place(count))?;
-        let mut image = Image {
-            rows: Vec::with_capacity(count),
-            end: row_place(count),
-        };
-        for written in table.chunks(ROW) {
-            let row = sound_row(bytes, written, image.end)?;
-            if image.find(row.reading.id()).is_some() {
+        let (edition, count) = Edition::of(bytes)?;
+        let mut body_at = edition.row_place(count);
+        let table = bytes.get(HEADER..body_at)?;
+        let mut rows = Vec::with_capacity(count);
+        let mut ids = HashSet::with_capacity(count);
+        for written in table.chunks(edition.row) {
+            let row = sound_row(edition, bytes, written, body_at)?;
+            if !ids.insert(row.reading.id()) {
                 return None;
             }
-            image.end += row.body.len();
-            image.rows.push(row);
+            body_at += row.body.len();
+            rows.push(row);
         }
-        Some(image)
+        Some(Image { edition, rows })
     }
 
-    /// The row with the id.
-    pub(crate) fn find(&self, id: &[u8]) -> Option<&Row<'a>> {
-        self.rows.iter().find(|row| row.reading.id() == id)
+    /// The image that the bytes hold, if it is sound and of the edition.
+    pub(crate) fn of_edition(edition: &Edition, bytes: &'a [u8]) -> Option<Image<'a>> {
+        Image::of(bytes).filter(|image| image.edition == edition)
+    }
+
+    /// The index of the row with the id.
+    pub(crate) fn find(&self, id: &[u8]) -> Option<usize> {
+        self.rows.iter().position(|row| row.reading.id() == id)
+    }
+
+    /// The place of the body of the row with the index; with the number of rows, the place after the last body.
+    fn body_place(&self, index: usize) -> usize {
+        let before = self.rows[..index].iter().map(|row| row.body.len());
+        self.edition.row_place(self.rows.len()) + before.sum::<usize>()
+    }
+
+    /// The bytes of the image.
+    pub(crate) fn bytes(&self) -> Vec<u8> {
+        let mut body_at = self.edition.row_place(self.rows.len());
+        let mut bytes = Vec::with_capacity(self.body_place(self.rows.len()));
+        bytes.extend(self.edition.header(self.rows.len()));
+        bytes.resize(body_at, 0);
+        let table = bytes[HEADER..].chunks_mut(self.edition.row);
+        for (row, written) in self.rows.iter().zip(table) {
+            written[..ROW_START].copy_from_slice(&row.start(body_at));
+            self.edition.set_moment(written, row.last_used);
+            body_at += row.body.len();
+        }
+        self.rows.iter().for_each(|row| bytes.extend(row.body));
+        bytes
     }
 }
 
-/// The row that 32 bytes of the table describe, if it is sound and its body starts at the place.
-fn sound_row<'a>(bytes: &'a [u8], written: &[u8], body_at: usize) -> Option<Row<'a>> {
+impl Row<'_> {
+    /// The part of the row that both editions have, where its body lies at the place; places and lengths of an image are far below
+    /// 2^32.
+    fn start(&self, body_at: usize) -> [u8; ROW_START] {
+        let mut start = [0; ROW_START];
+        start[..16].copy_from_slice(self.reading.id());
+        start[16..20].copy_from_slice(&(body_at as u32).to_be_bytes());
+        start[20..24].copy_from_slice(&(self.body.len() as u32).to_be_bytes());
+        start[24] = self.reading.numbers.mask as u8;
+        start
+    }
+}
+
+/// The row that a row of the table describes, if it is sound and its body starts at the place.
+fn sound_row<'a>(
+    edition: &Edition,
+    bytes: &'a [u8],
+    written: &[u8],
+    body_at: usize,
+) -> Option<Row<'a>> {
     let length = big_endian(&written[20..24]) as usize;
     let body = bytes[body_at..].get(..length)?;
-    let reading = read(body).ok()?;
-    let expected = row_bytes(reading.id(), body_at, length, reading.numbers.mask);
-    (written == expected).then_some(Row {
-        body_at,
+    let row = Row {
         body,
-        reading,
-    })
-}
-
-/// The 32 bytes of a row; places and lengths of an image are far below 2^32.
-fn row_bytes(id: &[u8], body_at: usize, length: usize, mask: u64) -> [u8; ROW] {
-    let mut row = [0; ROW];
-    row[..16].copy_from_slice(id);
-    row[16..20].copy_from_slice(&(body_at as u32).to_be_bytes());
-    row[20..24].copy_from_slice(&(length as u32).to_be_bytes());
-    row[24] = mask as u8;
-    row
-}
-
-/// The number of rows by the header, if the header is sound.
-fn row_count(bytes: &[u8]) -> Option<usize> {
-    let header: [u8; HEADER] = *bytes.first_chunk()?;
-    let rows = usize::from(u16::from_be_bytes([header[4], header[5]]));
-    let others = [&header[..4], &header[6..]] == [&NEW_HEADER[..4], &NEW_HEADER[6..]];
-    (others && rows <= MOST_ROWS).then_some(rows)
-}
-
-/// Adds a row and a body to a sound image of so many rows that ends at the given place; there is room for both.
-pub(crate) fn append(bytes: &mut [u8], rows: usize, end: usize, id: &[u8], mask: u64, body: &[u8]) {
-    let table_end = row_place(rows);
-    bytes.copy_within(table_end..end, table_end + ROW);
-    for row in bytes[HEADER..table_end].chunks_mut(ROW) {
-        let moved = big_endian(&row[16..20]) as usize + ROW;
-        row[16..20].copy_from_slice(&(moved as u32).to_be_bytes());
-    }
-    let row = row_bytes(id, end + ROW, body.len(), mask);
-    bytes[table_end..][..ROW].copy_from_slice(&row);
-    bytes[end + ROW..][..body.len()].copy_from_slice(body);
-    bytes[5] += 1;
+        reading: read(body).ok()?,
+        last_used: edition.moment_of(written),
+    };
+    (written[..ROW_START] == row.start(body_at)).then_some(row)
 }

@@ -6,16 +6,18 @@
 mod answer;
 mod cursor;
 mod descriptor;
+mod edition;
 mod image;
 mod item;
 mod lease;
 mod narrowing;
 mod request;
 mod resource;
+mod room;
 mod submission;
 
 pub use descriptor::{descriptor_read, grant_at, Descriptor, Grant};
-pub use image::{image_find, image_new, Stored};
+pub use image::{image_find, image_new, image_upgrade, Stored, Written};
 pub use item::{item_read, Item};
 pub use narrowing::{narrow, Narrowing};
 pub use request::{request, Decision, Request};

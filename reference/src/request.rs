@@ -9,6 +9,7 @@ use crate::answer::{
     TERMINAL_MISMATCH, VERDICT_BAD, VERDICT_NO_KEY, VERIFICATION_KEY_INVALID,
 };
 use crate::descriptor::{Grant, Reading};
+use crate::edition::MOMENT;
 use crate::image::Image;
 use crate::item::big_endian;
 use crate::lease::{is_clock, seconds_clock, State, Table};
@@ -66,6 +67,12 @@ pub struct Decision {
     pub margin: i64,
 }
 
+/// A decision that grants, and the place of the moment of the row that it is made on, if that has one.
+struct Granted {
+    decision: Decision,
+    moment_at: Option<usize>,
+}
+
 /// The number of the step that fails, and its margin.
 struct Refusal {
     answer: u64,
@@ -86,33 +93,57 @@ impl Request<'_> {
     }
 }
 
-/// Decides a request for the stored descriptor with the id.
-pub fn request(image: &[u8], with: &Request) -> Decision {
-    decide(image, with).unwrap_or_else(|Refusal { answer, margin }| Decision {
-        answer,
-        margin,
-        ..Decision::default()
-    })
+/// Decides a request for the stored descriptor with the id. Where it is granted, the last-used moment of the row becomes the clock
+/// in seconds if that is larger.
+pub fn request(image: &mut [u8], with: &Request) -> Decision {
+    match decide(image, with) {
+        Ok(Granted {
+            decision,
+            moment_at,
+        }) => {
+            if let Some(at) = moment_at {
+                raise(&mut image[at..][..MOMENT], with.now());
+            }
+            decision
+        }
+        Err(Refusal { answer, margin }) => Decision {
+            answer,
+            margin,
+            ..Decision::default()
+        },
+    }
+}
+
+/// Sets a moment to now if now is larger.
+fn raise(moment: &mut [u8], now: u64) {
+    if now > big_endian(moment) {
+        moment.copy_from_slice(&now.to_be_bytes());
+    }
 }
 
 /// The decision that grants the request, or the refusal of the first step that fails.
-fn decide(image: &[u8], with: &Request) -> Result<Decision, Refusal> {
+fn decide(image: &[u8], with: &Request) -> Result<Granted, Refusal> {
     let leases = Table::of(with.leases).ok_or(MALFORMED_ARGUMENTS)?;
     if !is_well_formed(with) {
         return Err(MALFORMED_ARGUMENTS.into());
     }
     let image = Image::of(image).ok_or(BAD_IMAGE)?;
-    let held = image.find(with.id).ok_or(DESCRIPTOR_NOT_FOUND)?.reading;
-    check_descriptor(&held, with)?;
-    let (place, grant) = most_exact_grant(&held, with).ok_or(AUTHORIZATION_INSUFFICIENT)?;
+    let index = image.find(with.id).ok_or(DESCRIPTOR_NOT_FOUND)?;
+    let held = &image.rows[index].reading;
+    check_descriptor(held, with)?;
+    let (place, grant) = most_exact_grant(held, with).ok_or(AUTHORIZATION_INSUFFICIENT)?;
     check_key(with)?;
     let margin = check_lease(&leases, with)?;
-    Ok(Decision {
+    let decision = Decision {
         answer: DONE,
         grant: place as u64,
         mask: grant.mask,
         session_end: session_end(held.numbers.not_after, with),
         margin,
+    };
+    Ok(Granted {
+        decision,
+        moment_at: image.edition.moment_place(index),
     })
 }
 

@@ -5,7 +5,8 @@ use crate::answer::{
     UNKNOWN_ISSUER, VALIDITY_OUT_OF_RANGE, VERDICT_BAD, VERDICT_NO_KEY, VERIFICATION_KEY_INVALID,
 };
 use crate::descriptor::{read, Descriptor};
-use crate::image::{append, Image, MOST_ROWS, ROW};
+use crate::edition::EDITION_2;
+use crate::image::{Image, Row};
 
 /// How far ahead of the clock a period may begin: a day.
 const LONGEST_WAIT: u64 = 86_400;
@@ -27,30 +28,35 @@ pub struct Submission {
 
 /// Submits a descriptor to the image: 0, or the number of the first step that fails.
 pub fn submit(image: &mut [u8], descriptor: &[u8], with: &Submission) -> u64 {
-    match try_submit(image, descriptor, with) {
-        Ok(()) => DONE,
+    match image_after(image, descriptor, with) {
+        Ok(None) => DONE,
+        Ok(Some(after)) => {
+            image[..after.len()].copy_from_slice(&after);
+            DONE
+        }
         Err(answer) => answer,
     }
 }
 
-/// Submits a descriptor, or says which step fails.
-fn try_submit(bytes: &mut [u8], body: &[u8], with: &Submission) -> Result<(), u64> {
+/// The bytes of the image that holds the descriptor too, none where it holds it already, or which step fails.
+fn image_after(bytes: &[u8], body: &[u8], with: &Submission) -> Result<Option<Vec<u8>>, u64> {
     if with.verdict > VERDICT_NO_KEY {
         return Err(MALFORMED_ARGUMENTS);
     }
-    let image = Image::of(bytes).ok_or(BAD_IMAGE)?;
+    let image = Image::of_edition(&EDITION_2, bytes).ok_or(BAD_IMAGE)?;
     let reading = read(body)?;
     check_clock_and_key(&reading.numbers, with)?;
-    if let Some(row) = image.find(reading.id()) {
-        let same = row.body == body;
-        return same.then_some(()).ok_or(DUPLICATE_DESCRIPTOR_ID);
+    if let Some(index) = image.find(reading.id()) {
+        let same = image.rows[index].body == body;
+        return same.then_some(None).ok_or(DUPLICATE_DESCRIPTOR_ID);
     }
-    let (rows, end) = (image.rows.len(), image.end);
-    if rows == MOST_ROWS || bytes.len() - end < ROW + body.len() {
-        return Err(STORAGE_FULL);
-    }
-    append(bytes, rows, end, reading.id(), reading.numbers.mask, body);
-    Ok(())
+    let new = Row {
+        body,
+        reading,
+        last_used: with.now,
+    };
+    let after = image.with_row(new, bytes.len(), with.now);
+    Ok(Some(after.ok_or(STORAGE_FULL)?.bytes()))
 }
 
 /// The steps between reading and the table of contents.

@@ -3,10 +3,13 @@
 use std::collections::HashSet;
 
 use descriptor::{encode, image_of, Rule, FAY, ID, T};
+use draw::Draw;
 use reference::{matching, narrow, request, Decision, Request};
 
 #[path = "support/descriptor.rs"]
 mod descriptor;
+#[path = "support/draw.rs"]
+mod draw;
 
 /// The names of the patterns, and one that no pattern has.
 const NAMES: [&str; 3] = ["a", "b", "fresh"];
@@ -145,7 +148,7 @@ fn decided(rules: &[Rule], path: &str, mode: u64) -> Decision {
         session_length: 100,
         ..Request::default()
     };
-    request(&image_of(rules), &asked)
+    request(&mut image_of(rules), &asked)
 }
 
 /// A refusal.
@@ -207,18 +210,7 @@ fn texts(levels: &[&str], most: usize) -> Vec<String> {
     all.split_off(1)
 }
 
-/// A small generator of numbers, the same in each run.
-struct Draw(u64);
-
 impl Draw {
-    fn below(&mut self, bound: u64) -> u64 {
-        self.0 = self
-            .0
-            .wrapping_mul(6_364_136_223_846_793_005)
-            .wrapping_add(1_442_695_040_888_963_407);
-        (self.0 >> 33) % bound
-    }
-
     fn rules(&mut self, most: u64) -> Vec<Rule> {
         (0..=self.below(most)).map(|_| self.rule()).collect()
     }

@@ -1,5 +1,7 @@
 //! The lease steps of a request: each boundary, each limit, the order of the steps, and whole runs of the clock.
 
+use std::ops::Range;
+
 use descriptor::{image_of, Rule, FAY, ID, T};
 use reference::{request, Decision, Request};
 
@@ -12,6 +14,9 @@ const OTHER: [u8; 16] = [9; 16];
 const LAST_MOMENT: u64 = 1 << 53;
 /// The longest future skew and tolerance, in milliseconds.
 const DAY: u64 = 86_400_000;
+
+/// Where the last-used moment of the image's one row lies.
+const MOMENT: Range<usize> = 40..48;
 
 /// A row of the lease table.
 #[derive(Clone, Copy)]
@@ -89,7 +94,18 @@ impl Host {
 
     /// What that request is answered.
     fn decide(&self, now_ms: u64, leases: &[u8]) -> Decision {
-        request(&self.image, &self.asked(now_ms, leases))
+        self.answered(&self.asked(now_ms, leases))
+    }
+
+    /// What a request is answered; a refusal leaves the image as it is, a grant all of it but the row's last moment.
+    fn answered(&self, asked: &Request) -> Decision {
+        let mut image = self.image.clone();
+        let decision = request(&mut image, asked);
+        if decision.answer == 0 {
+            image[MOMENT].copy_from_slice(&self.image[MOMENT]);
+        }
+        assert!(image == self.image, "{asked:?}");
+        decision
     }
 
     /// The answer and the margin alone.
@@ -199,7 +215,7 @@ fn lease_steps_follow_the_signature() {
         (2500, revoked.clone()),
     ] {
         let asked = host.asked(now_ms, &leases);
-        let decide = |asked| request(&host.image, &asked);
+        let decide = |asked| host.answered(&asked);
         assert_eq!(
             decide(Request {
                 verdict: 1,
@@ -272,7 +288,7 @@ fn the_clock_in_seconds_is_rounded_down() {
     assert_eq!(host.decide(4999, &[]), granted(4999, 0));
     assert_eq!(host.decide(5000, &[]), refused(10, 0));
     let list = [&ID[..], &3u64.to_be_bytes()].concat();
-    let answer = |asked| request(&host.image, &asked).answer;
+    let answer = |asked| host.answered(&asked).answer;
     let listed = |now_ms| {
         answer(Request {
             revoked: &list,

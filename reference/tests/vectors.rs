@@ -5,8 +5,8 @@ use std::fmt::Write;
 use std::path::Path;
 
 use reference::{
-    descriptor_read, grant_at, image_find, image_new, item_read, matching, narrow, request, submit,
-    Request, Submission,
+    descriptor_read, grant_at, image_find, image_new, image_upgrade, item_read, matching, narrow,
+    request, submit, Request, Submission,
 };
 
 /// A file of the stored vectors of a crate.
@@ -57,7 +57,7 @@ fn cap_vectors() {
     let mut rest = &input[..];
     let mut out = String::new();
     let mut gate = Gate {
-        store: vec![0; 65536],
+        store: Vec::new(),
         lent: 0,
     };
     while !rest.is_empty() {
@@ -156,7 +156,7 @@ fn sum(bytes: &[u8]) -> u64 {
     bytes.iter().fold(7, next) % 4_294_967_291
 }
 
-/// The buffer of which the first bytes are lent as the image.
+/// The buffer of which the first bytes are lent as the image; it grows where more are lent.
 struct Gate {
     store: Vec<u8>,
     lent: usize,
@@ -173,23 +173,19 @@ impl Gate {
             [3, index] => grant(a, index),
             [4] => matched(a, b),
             [5] => narrowed(a, b),
-            [6, length] => {
-                self.store[..a.len()].copy_from_slice(a);
-                self.lent = length as usize;
-                self.shown()
-            }
+            [6, length] => self.lend(a, length as usize),
             [7] => format!(": {}{}", image_new(self.image()), self.shown()),
             [8] => self.lookup(a),
-            [9, now, verdict, valid_from, has_valid_until, valid_until] => {
-                let with = Submission {
+            [9, now, verdict, valid_from, has_valid_until, valid_until] => self.submitted(
+                a,
+                &Submission {
                     now,
                     verdict,
                     valid_from,
                     has_valid_until,
                     valid_until,
-                };
-                format!(": {}{}", submit(self.image(), a, &with), self.shown())
-            }
+                },
+            ),
             [10, mode, now_ms, session_length, verdict, valid_from, has_valid_until, valid_until] => {
                 self.decision(&Request {
                     id: a,
@@ -207,6 +203,8 @@ impl Gate {
                     valid_until,
                 })
             }
+            [11] => self.upgraded(a),
+            [12, count, id_at, now, step] => self.filled(a, [count, id_at, now, step]),
             _ => panic!("an unknown record"),
         }
     }
@@ -215,10 +213,23 @@ impl Gate {
         &mut self.store[..self.lent]
     }
 
+    /// The image begins with these bytes, and so many of it are lent.
+    fn lend(&mut self, start: &[u8], length: usize) -> String {
+        self.lent = length;
+        let longest = self.store.len().max(start.len()).max(length);
+        self.store.resize(longest, 0);
+        self.store[..start.len()].copy_from_slice(start);
+        self.shown()
+    }
+
     fn lookup(&mut self, id: &[u8]) -> String {
         let found = image_find(self.image(), id);
         let numbers = [found.body_len, found.body_at];
         answered(found.answer, ", body # at #", &numbers)
+    }
+
+    fn submitted(&mut self, body: &[u8], with: &Submission) -> String {
+        format!(": {}{}", submit(self.image(), body, with), self.shown())
     }
 
     fn decision(&mut self, with: &Request) -> String {
@@ -226,7 +237,29 @@ impl Gate {
         let numbers = [d.grant, d.mask, d.session_end, d.margin.unsigned_abs()];
         let sign = if d.margin < 0 { "-" } else { "" };
         let line = format!(", grant #, mask #, session_end #, margin {sign}#");
-        answered(d.answer, &line, &numbers)
+        answered(d.answer, &line, &numbers) + &self.shown()
+    }
+
+    fn upgraded(&mut self, old: &[u8]) -> String {
+        let w = image_upgrade(old, self.image());
+        format!(": {}, len {}{}", w.answer, w.len, self.shown())
+    }
+
+    /// Submits a descriptor so many times, with the numbers from 1 on as the last four bytes of its id and a clock that goes on by
+    /// the step, and says what the last submission answers.
+    fn filled(&mut self, template: &[u8], [count, id_at, now, step]: [u64; 4]) -> String {
+        let mut body = template.to_vec();
+        let mut answer = 0;
+        for k in 0..count {
+            let number = (k as u32 + 1).to_be_bytes();
+            body[id_at as usize + 12..][..4].copy_from_slice(&number);
+            let with = Submission {
+                now: now + k * step,
+                ..Submission::default()
+            };
+            answer = submit(self.image(), &body, &with);
+        }
+        format!(": {answer}{}", self.shown())
     }
 
     /// The length, the number of rows and a sum of the image.

@@ -18,7 +18,7 @@ pub struct Rule {
 /// The image of a descriptor with the rules as its grants.
 pub fn image_of(rules: &[Rule]) -> Vec<u8> {
     let body = encode(rules);
-    let mut image = vec![0; 8 + 32 + body.len()];
+    let mut image = vec![0; 8 + 40 + body.len()];
     let with = Submission {
         now: 2,
         ..Submission::default()
@@ -30,17 +30,22 @@ pub fn image_of(rules: &[Rule]) -> Vec<u8> {
 
 /// The bytes of a descriptor with the rules as its grants, valid from 2 to 5 seconds.
 pub fn encode(rules: &[Rule]) -> Vec<u8> {
+    encode_as(rules, ID, 5)
+}
+
+/// The bytes of a descriptor with the rules as its grants and the id, valid from 2 seconds up to a moment below 24.
+pub fn encode_as(rules: &[Rule], id: &[u8; 16], not_after: u8) -> Vec<u8> {
     let mut out = b"\xa3\x67payload\xa8\x66grants".to_vec();
     out.push(0x80 + rules.len() as u8);
     for rule in rules {
         grant(&mut out, rule);
     }
-    out.extend(
-        b"\x69issued_at\x01\x69issuer_id\x61i\x69not_after\x05\x6anot_before\x02\x6bterminal_id",
-    );
+    out.extend(b"\x69issued_at\x01\x69issuer_id\x61i\x69not_after");
+    out.push(not_after);
+    out.extend(b"\x6anot_before\x02\x6bterminal_id");
     text(&mut out, T);
     out.extend(b"\x6ddescriptor_id\x50");
-    out.extend(ID);
+    out.extend(id);
     text(&mut out, "subject_fay_id");
     text(&mut out, FAY);
     out.extend(b"\x67version\x01\x69signature\xa3\x66key_id\x61k\x69algorithm\x71ecdsa-p256-sha256\x6fsignature_value\x41s");

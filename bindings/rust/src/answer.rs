@@ -19,7 +19,7 @@ pub enum Answer {
     InvalidSignature = 4,
     /// Other bytes are held under the id.
     DuplicateDescriptorId = 5,
-    /// 64 rows are held, or the larger image exceeds the buffer.
+    /// 1,024 rows are held, or the larger image exceeds the buffer, also without the expired ones.
     StorageFull = 6,
     /// The id is not held.
     DescriptorNotFound = 7,
@@ -39,9 +39,9 @@ pub enum Answer {
     VerificationKeyInvalid = 14,
     /// An argument is malformed.
     MalformedArguments = 15,
-    /// The bytes are no sound image of a known edition.
+    /// The bytes are no sound image of an edition that the call takes.
     BadImage = 16,
-    /// The buffer is too short for a new image.
+    /// The buffer is too short for a new or an upgraded image.
     OutputTooShort = 17,
     /// The child's period is not inside the parent's.
     PeriodNotInside = 18,

@@ -139,18 +139,27 @@ pub fn matching(pattern: &[u8], resource: &[u8]) -> Result<Option<u64>, Answer> 
     done(matching.answer).map(|()| (matching.yes == 1).then_some(matching.names))
 }
 
-/// Makes a new image of no bodies.
+/// Makes a new image of no bodies, of edition 2.
 pub fn image_new(image: &mut [u8]) -> Result<(), Answer> {
     done(numbers::image_new(image))
 }
 
-/// Looks for the body with the id in the image and hands it back as the part of the image where it lies.
+/// Looks for the body with the id in the image, which is of edition 1 or 2, and hands it back as the part of the image where it
+/// lies.
 pub fn image_find<'a>(image: &'a [u8], id: &[u8; 16]) -> Result<&'a [u8], Answer> {
     let stored = numbers::image_find(image, id);
     done(stored.answer).map(|()| part(image, stored.body_at, stored.body_len))
 }
 
-/// Submits a descriptor to the image, which then holds it.
+/// Writes an image of edition 1 as one of edition 2 to the start of a second buffer, with the last-used moment 0 in each row, and
+/// says how many bytes it has. A buffer of 512 bytes more than `old` is long enough.
+pub fn image_upgrade(old: &[u8], image: &mut [u8]) -> Result<u64, Answer> {
+    let written = numbers::image_upgrade(old, image);
+    done(written.answer).map(|()| written.len)
+}
+
+/// Submits a descriptor to the image, which must be of edition 2 and then holds it, last used now. Where it doesn't fit, rows that
+/// are expired now are removed, least recently used first, only until it does.
 pub fn submit(image: &mut [u8], descriptor: &[u8], now: Seconds, key: &Key) -> Result<(), Answer> {
     done(numbers::submit(
         image,
@@ -164,8 +173,9 @@ pub fn submit(image: &mut [u8], descriptor: &[u8], now: Seconds, key: &Key) -> R
 }
 
 /// Decides a request for the stored descriptor with the id. Of the grants that serve the decision has the one with most levels
-/// matched by equal names, the first of those; and what is left of the lease, 0 where the id has none.
-pub fn request(image: &[u8], with: &Request) -> Result<numbers::Decision, RequestRefusal> {
+/// matched by equal names, the first of those; and what is left of the lease, 0 where the id has none. A grant raises the last-used
+/// moment of the row, in an image of edition 2, to the clock in seconds, and changes nothing else; a refusal changes nothing.
+pub fn request(image: &mut [u8], with: &Request) -> Result<numbers::Decision, RequestRefusal> {
     let decision = numbers::request(
         image,
         with.id,

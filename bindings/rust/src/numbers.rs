@@ -120,6 +120,16 @@ pub struct Stored {
     pub body_len: u64,
 }
 
+/// What a call that writes to the start of a buffer answers.
+#[derive(Clone, Copy, Debug, PartialEq, Eq)]
+#[repr(C)]
+pub struct Written {
+    /// 0, or the number of the first step that fails.
+    pub answer: u64,
+    /// With 0: how many bytes were written at the start of the buffer; the bytes after them stay. Else 0.
+    pub len: u64,
+}
+
 /// What a request answers.
 #[derive(Clone, Copy, Debug, PartialEq, Eq)]
 #[repr(C)]
@@ -162,6 +172,12 @@ extern "C" {
     ) -> Matching;
     fn cap_image_new(image: *mut u8, image_len: usize) -> u64;
     fn cap_image_find(image: *const u8, image_len: usize, id: *const u8, id_len: usize) -> Stored;
+    fn cap_image_upgrade(
+        old: *const u8,
+        old_len: usize,
+        image: *mut u8,
+        image_len: usize,
+    ) -> Written;
     fn cap_submit(
         image: *mut u8,
         image_len: usize,
@@ -174,7 +190,7 @@ extern "C" {
         valid_until: Seconds,
     ) -> u64;
     fn cap_request(
-        image: *const u8,
+        image: *mut u8,
         image_len: usize,
         id: *const u8,
         id_len: usize,
@@ -235,19 +251,29 @@ pub fn matching(pattern: &[u8], resource: &[u8]) -> Matching {
     }
 }
 
-/// Makes a new image of no bodies: 0 or 17.
+/// Makes a new image of no bodies, of edition 2: 0 or 17.
 pub fn image_new(image: &mut [u8]) -> u64 {
     // SAFETY: as said at the top.
     unsafe { cap_image_new(image.as_mut_ptr(), image.len()) }
 }
 
-/// Looks for the body with the id in the image.
+/// Looks for the body with the id in the image, which is of edition 1 or 2.
 pub fn image_find(image: &[u8], id: &[u8]) -> Stored {
     // SAFETY: as said at the top.
     unsafe { cap_image_find(image.as_ptr(), image.len(), id.as_ptr(), id.len()) }
 }
 
-/// Submits a descriptor to the image: 0, or the number of the first step that fails.
+/// Writes an image of edition 1 as one of edition 2 to the start of a second buffer, with the last-used moment 0 in each row: 16 for
+/// anything but a sound image of edition 1, then 17 where the buffer is too short, which one of 512 bytes more than `old` never is.
+pub fn image_upgrade(old: &[u8], image: &mut [u8]) -> Written {
+    // SAFETY: as said at the top.
+    unsafe { cap_image_upgrade(old.as_ptr(), old.len(), image.as_mut_ptr(), image.len()) }
+}
+
+/// Submits a descriptor to the image, which must be of edition 2: 0, or the number of the first step that fails. Storing sets the
+/// row's last-used moment to now. Where 1,024 rows are held or the larger image exceeds the buffer, rows that are expired now
+/// (now >= not_after) are removed, least recently used first, the earlier row on a tie, only until it fits. Where it wouldn't fit
+/// without all of them, the answer is 6 and nothing is removed.
 pub fn submit(
     image: &mut [u8],
     descriptor: &[u8],
@@ -282,9 +308,11 @@ pub fn submit(
 /// different ids. The limits of these numbers are in `include/cap.h`; a row that is not so, whichever id it has, and a clock above
 /// 2^53 are answered 15. Rows in ascending order of id are checked fastest. The steps of the lease come last, and only they look at
 /// the milliseconds of `now_ms`.
+/// On a grant the last-used moment of the row, 8 bytes of an image of edition 2, becomes the clock in seconds if that is larger; no
+/// other byte changes. A refusal changes nothing, nor does a grant on an image of edition 1.
 #[allow(clippy::too_many_arguments)]
 pub fn request(
-    image: &[u8],
+    image: &mut [u8],
     id: &[u8],
     fay: &[u8],
     terminal: &[u8],
@@ -302,7 +330,7 @@ pub fn request(
     // SAFETY: as said at the top.
     unsafe {
         cap_request(
-            image.as_ptr(),
+            image.as_mut_ptr(),
             image.len(),
             id.as_ptr(),
             id.len(),

@@ -10,6 +10,8 @@ mod compare;
 mod encoder;
 #[path = "support/gate.rs"]
 mod gate;
+#[path = "support/image_slips.rs"]
+mod image_slips;
 #[path = "support/lease_row.rs"]
 mod lease_row;
 #[path = "support/lease_slips.rs"]
@@ -18,9 +20,12 @@ mod lease_slips;
 mod random;
 #[path = "support/slips.rs"]
 mod slips;
+#[path = "support/wrong_image.rs"]
+mod wrong_image;
 
 use compare::Compare;
 use gate::{Library, Ordinary};
+use image_slips::{ImageSlip, IMAGE_SLIPS};
 use lease_slips::LEASE_SLIPS;
 use random::Random;
 use slips::{Slip, Wrong, SLIPS};
@@ -88,6 +93,27 @@ fn submissions() {
 }
 
 #[test]
+fn removals() {
+    let compare = agree("removals", cases::removals::run, "submit", &[0, 5, 6]);
+    assert!(compare.count("request", 0) > 0);
+}
+
+#[test]
+fn capacity() {
+    agree("capacity", cases::capacity::run, "submit", &[0, 5, 6, 16]);
+}
+
+#[test]
+fn upgrades() {
+    agree(
+        "upgrades",
+        cases::upgrades::run,
+        "image_upgrade",
+        &[0, 16, 17],
+    );
+}
+
+#[test]
 fn requests() {
     let answers = [0, 4, 7, 8, 9, 10, 11, 12, 13, 14, 15, 16, 23, 24, 25, 26];
     agree("requests", cases::requests::run, "request", &answers);
@@ -97,6 +123,12 @@ fn requests() {
 fn leases() {
     let answers = [0, 4, 9, 10, 15, 23, 24, 25, 26];
     agree("leases", cases::leases::run, "request", &answers);
+}
+
+#[test]
+fn moments() {
+    let answers = [0, 4, 7, 8, 9, 10, 11, 12, 13, 14, 15, 16, 23, 24, 25, 26];
+    agree("moments", cases::moments::run, "request", &answers);
 }
 
 #[test]
@@ -131,13 +163,36 @@ fn cases_for(slip: Slip) -> Cases {
         Slip::OtherModeNamed | Slip::ConstrainedNamed | Slip::MaskOfFirst => cases::named::run,
         Slip::HighestMode | Slip::LevelsAlwaysOne => cases::narrowing::run,
         Slip::Lease(_) => cases::leases::run,
+        Slip::Image(slip) => slip.map_or(cases::images::run, cases_for_images),
+    }
+}
+
+/// The cases that must show a slip with images.
+fn cases_for_images(slip: ImageSlip) -> Cases {
+    use ImageSlip::*;
+    match slip {
+        NewOfEdition1 | LimitOfEdition1 | LimitOfEdition2 | CountOfOneByte => cases::images::run,
+        MomentsZero | MomentsBounded | OldNotFound => cases::images::run,
+        LimitOneLess | LimitOneMore | DuplicatesOfFirst64 => cases::capacity::run,
+        OffsetsReadShort | OffsetsWrittenShort | RemovedForRoomOnly => cases::capacity::run,
+        OldSubmittedTo | OldRepeatTaken | OldAfterReading => cases::submissions::run,
+        MomentLowered | MomentLeft | MomentInMilliseconds => cases::moments::run,
+        MomentRoundedUp | MomentOfSession | MomentOfRefusal => cases::moments::run,
+        MomentBeforeLease | MomentOfFirstRow | MomentOfAllRows => cases::moments::run,
+        OldMomentWritten | OldNotAsked => cases::moments::run,
+        UpgradeOfEdition2 | UpgradeShortFirst | UpgradeRoomOneMore => cases::upgrades::run,
+        UpgradeStarted | UpgradeAtOne | UpgradeOffsetsKept => cases::upgrades::run,
+        UpgradeTailCleared | UpgradeTailCopied => cases::upgrades::run,
+        UpgradeLenOfBuffer | UpgradeLenOfOld => cases::upgrades::run,
+        _ => cases::removals::run,
     }
 }
 
 #[test]
 fn slips_are_noticed() {
     let leases = LEASE_SLIPS.map(|slip| Slip::Lease(Some(slip)));
-    for slip in SLIPS.into_iter().chain(leases) {
+    let images = IMAGE_SLIPS.map(|slip| Slip::Image(Some(slip)));
+    for slip in SLIPS.into_iter().chain(leases).chain(images) {
         let wrong = Wrong(slip);
         let mut compare = Compare::new(&Library, &wrong);
         cases_for(slip)(&mut compare, &mut Random::new(setting("CAP_SEED", 1)), 50);
@@ -152,6 +207,25 @@ fn lease_steps_without_a_slip_agree() {
     let right = Wrong(Slip::Lease(None));
     let mut compare = Compare::new(&Ordinary, &right);
     for cases in [cases::leases::run, cases::requests::run] {
+        cases(&mut compare, &mut Random::new(setting("CAP_SEED", 1)), 50);
+    }
+    assert_eq!(compare.differences(), 0, "{}", compare.notes());
+}
+
+/// What the slips with images are slips of agrees with the ordinary implementation.
+#[test]
+fn calls_with_images_without_a_slip_agree() {
+    let right = Wrong(Slip::Image(None));
+    let mut compare = Compare::new(&Ordinary, &right);
+    for cases in [
+        cases::images::run,
+        cases::submissions::run,
+        cases::removals::run,
+        cases::capacity::run,
+        cases::upgrades::run,
+        cases::requests::run,
+        cases::moments::run,
+    ] {
         cases(&mut compare, &mut Random::new(setting("CAP_SEED", 1)), 50);
     }
     assert_eq!(compare.differences(), 0, "{}", compare.notes());

@@ -8,7 +8,7 @@ use cap::{
     numbers, Answer, Key, Lease, LeaseTable, Margin, Milliseconds, Mode, Refusal, Request,
     RequestRefusal, Revocation, Seconds, Verdict,
 };
-use encoder::{grant, image, Model, Row, FAY, MODES, TERMINAL};
+use encoder::{grant, image, image_of, Model, Row, FAY, MODES, TERMINAL};
 
 const GOOD: Key = Key {
     verdict: Verdict::Good,
@@ -156,13 +156,13 @@ fn a_body_is_stored_found_and_asked_for() {
         session_end: Seconds(3000),
         margin: Margin(0),
     };
-    assert_eq!(cap::request(&image, &asked), Ok(granted));
+    assert_eq!(cap::request(&mut image, &asked), Ok(granted));
     let write = Request {
         mode: Mode::Write,
         ..asked
     };
     assert_eq!(
-        cap::request(&image, &write),
+        cap::request(&mut image, &write),
         Err(RequestRefusal::Other(Answer::AuthorizationInsufficient))
     );
     let later = [
@@ -173,13 +173,13 @@ fn a_body_is_stored_found_and_asked_for() {
         revoked: &later,
         ..asked
     };
-    assert_eq!(cap::request(&image, &not_yet_revoked), Ok(granted));
+    assert_eq!(cap::request(&mut image, &not_yet_revoked), Ok(granted));
     let revoked = Request {
         now: Milliseconds(2_501_000),
         ..not_yet_revoked
     };
     assert_eq!(
-        cap::request(&image, &revoked),
+        cap::request(&mut image, &revoked),
         Err(RequestRefusal::Other(Answer::DescriptorRevoked))
     );
     let forged = Request {
@@ -190,9 +190,55 @@ fn a_body_is_stored_found_and_asked_for() {
         ..asked
     };
     assert_eq!(
-        cap::request(&image, &forged),
+        cap::request(&mut image, &forged),
         Err(RequestRefusal::Other(Answer::InvalidSignature))
     );
+}
+
+#[test]
+fn a_grant_raises_the_moment_of_the_row() {
+    let model = Model::plain();
+    let id = model.id.clone().try_into().expect("16 bytes");
+    let resource = format!("{TERMINAL}/a/b");
+    let used = |last_used| image(&[Row::used(&model, last_used)]);
+    for (before, after) in [(0, 2500), (2499, 2500), (2501, 2501)] {
+        let mut bytes = used(before);
+        assert!(cap::request(&mut bytes, &asked(&id, &resource)).is_ok());
+        assert_eq!(bytes, used(after));
+    }
+    let mut old = image_of(1, &[Row::of(&model)]);
+    assert!(cap::request(&mut old, &asked(&id, &resource)).is_ok());
+    assert_eq!(old, image_of(1, &[Row::of(&model)]));
+}
+
+#[test]
+fn an_expired_row_gives_room() {
+    let (held, new) = (Model::plain(), Model::plain().numbered(1));
+    let mut bytes = image(&[Row::of(&held)]);
+    let submit = |bytes: &mut [u8], now| cap::submit(bytes, &new.bytes(), Seconds(now), &GOOD);
+    assert_eq!(submit(&mut bytes, 2999), Err(Answer::StorageFull));
+    assert_eq!(bytes, image(&[Row::of(&held)]));
+    assert_eq!(submit(&mut bytes, 3000), Ok(()));
+    assert_eq!(bytes, image(&[Row::used(&new, 3000)]));
+}
+
+#[test]
+fn an_old_image_is_upgraded() {
+    let rows = [Model::plain(), Model::full().numbered(1)].map(|model| Row::of(&model));
+    let (old, new) = (image_of(1, &rows), image(&rows));
+    let with = |bytes: &mut [u8]| cap::submit(bytes, &rows[0].body, Seconds(2000), &GOOD);
+    assert_eq!(with(&mut old.clone()), Err(Answer::BadImage));
+    let mut bytes = vec![9; new.len() + 1];
+    let (short, exact) = (new.len() - 1, new.len());
+    assert_eq!(
+        cap::image_upgrade(&old, &mut bytes[..short]),
+        Err(Answer::OutputTooShort)
+    );
+    assert_eq!(bytes, vec![9; exact + 1]);
+    assert_eq!(cap::image_upgrade(&old, &mut bytes), Ok(exact as u64));
+    assert_eq!((&bytes[..exact], bytes[exact]), (&new[..], 9));
+    assert_eq!(with(&mut bytes), Ok(()));
+    assert_eq!(cap::image_upgrade(&new, &mut bytes), Err(Answer::BadImage));
 }
 
 #[test]
@@ -203,13 +249,13 @@ fn the_most_exact_grant_is_named() {
         grant(&["write"], "a/b"),
     ]);
     let id = model.id.clone().try_into().expect("16 bytes");
-    let (image, resource) = (image(&[Row::of(&model)]), format!("{TERMINAL}/a/b"));
-    let named = |mode| {
+    let (mut image, resource) = (image(&[Row::of(&model)]), format!("{TERMINAL}/a/b"));
+    let mut named = |mode| {
         let with = Request {
             mode,
             ..asked(&id, &resource)
         };
-        cap::request(&image, &with).map(|decision| (decision.grant, decision.mask))
+        cap::request(&mut image, &with).map(|decision| (decision.grant, decision.mask))
     };
     assert_eq!(named(Mode::Read), Ok((1, 3)));
     assert_eq!(named(Mode::Write), Ok((2, 2)));
@@ -234,8 +280,8 @@ const LEASE: Lease = Lease {
 fn a_lease_is_active_stale_or_refused() {
     let model = Model::plain();
     let id = model.id.clone().try_into().expect("16 bytes");
-    let (image, resource) = (image(&[Row::of(&model)]), format!("{TERMINAL}/a/b"));
-    let answer = |lease: Lease, now| {
+    let (mut image, resource) = (image(&[Row::of(&model)]), format!("{TERMINAL}/a/b"));
+    let mut answer = |lease: Lease, now| {
         let other = Lease {
             revoked: true,
             ..LEASE
@@ -245,7 +291,7 @@ fn a_lease_is_active_stale_or_refused() {
             leases: &LeaseTable::from_iter([Lease { id, ..lease }, other]),
             ..asked(&id, &resource)
         };
-        cap::request(&image, &with).map(|decision| decision.margin)
+        cap::request(&mut image, &with).map(|decision| decision.margin)
     };
     let refused = |answer| Err(RequestRefusal::Other(answer));
     let stale = |margin| {

@@ -1,31 +1,42 @@
-//! Images: each rule broken at each place, each cut, and what lookups, submissions and requests then answer.
+//! Images of both editions: each rule broken at each place, each cut, and what lookups, submissions, requests and upgrades then
+//! answer.
 
 use reference::{Request, Submission};
 
 use super::changes::edit;
 use super::descriptors::any_model;
 use crate::compare::Compare;
-use crate::encoder::{grant, image, Model, Row, FAY, MODES, TERMINAL};
+use crate::encoder::{grant, image_of, row_length, Model, Row, FAY, MODES, TERMINAL};
 use crate::random::Random;
+
+/// The editions that are known.
+pub const EDITIONS: [u16; 2] = [1, 2];
+/// Room for what a submission adds.
+const ROOM: usize = 700;
 
 /// All cases of images.
 pub fn run(compare: &mut Compare, random: &mut Random, rounds: usize) {
     new_images(compare, random);
     let rows = some_rows();
-    let sound = image(&rows);
-    every_byte_of_the_table(compare, &sound, random);
-    every_cut(compare, &rows[..2]);
-    for rows in broken_rows(&rows) {
-        all_calls(compare, &[image(&rows), vec![0x55; 700]].concat());
+    for edition in EDITIONS {
+        every_byte_of_the_table(compare, edition, &rows, random);
+        every_count(compare, edition, &rows);
+        every_cut(compare, edition, &rows[..2]);
+        for rows in broken_rows(&rows) {
+            all_calls(compare, &with_room(image_of(edition, &rows)));
+        }
+        for bytes in misplaced_bodies(edition, &rows) {
+            all_calls(compare, &with_room(bytes));
+        }
+        many_rows(compare, edition);
     }
-    for bytes in misplaced_bodies(&rows) {
-        all_calls(compare, &[bytes, vec![0x55; 700]].concat());
-    }
-    many_rows(compare);
+    every_edition(compare, &rows);
     for _ in 0..rounds {
-        let mut bytes = image(&rows);
+        let edition = *random.pick(&EDITIONS);
+        let mut bytes = image_of(edition, &rows);
         if random.once_in(3) {
-            bytes = image(&[Row::of(&any_model(random)), rows[0].clone()]);
+            let used = Row::used(&any_model(random), random.edge());
+            bytes = image_of(edition, &[used, rows[0].clone()]);
         }
         bytes.extend(random.bytes(600));
         all_calls(compare, &bytes);
@@ -34,7 +45,12 @@ pub fn run(compare: &mut Compare, random: &mut Random, rounds: usize) {
     }
 }
 
-/// Three rows with different modes.
+/// The bytes and room after them.
+fn with_room(bytes: Vec<u8>) -> Vec<u8> {
+    [bytes, vec![0x55; ROOM]].concat()
+}
+
+/// Three rows with different modes and moments.
 pub fn some_rows() -> Vec<Row> {
     let models = [
         Model::plain(),
@@ -45,10 +61,13 @@ pub fn some_rows() -> Vec<Row> {
         .numbered(1),
         Model::full().numbered(2),
     ];
-    models.iter().map(Row::of).collect()
+    let moments = [0, 2400, u64::MAX];
+    let used = models.iter().zip(moments);
+    used.map(|(model, moment)| Row::used(model, moment))
+        .collect()
 }
 
-/// A lookup of several ids, a submission and a request.
+/// A lookup of several ids, submissions, a request and upgrades.
 fn all_calls(compare: &mut Compare, bytes: &[u8]) {
     let first = Model::plain();
     for id in [
@@ -81,7 +100,10 @@ fn all_calls(compare: &mut Compare, bytes: &[u8]) {
         session_length: 100,
         ..Request::default()
     };
-    compare.request(bytes, &asked);
+    compare.request(&mut bytes.to_vec(), &asked);
+    for length in [bytes.len() + 100, 400] {
+        compare.image_upgrade(bytes, &mut vec![0x77; length]);
+    }
 }
 
 /// New images in buffers of each short length, and what they then hold.
@@ -94,9 +116,9 @@ fn new_images(compare: &mut Compare, random: &mut Random) {
 }
 
 /// Each byte of the header and the rows with other values.
-fn every_byte_of_the_table(compare: &mut Compare, sound: &[u8], random: &mut Random) {
-    let room = [sound, &[0; 700]].concat();
-    for at in 0..8 + 32 * 3 {
+fn every_byte_of_the_table(compare: &mut Compare, edition: u16, rows: &[Row], random: &mut Random) {
+    let room = with_room(image_of(edition, rows));
+    for at in 0..8 + row_length(edition) * rows.len() {
         let byte = room[at];
         for other in [
             0,
@@ -116,16 +138,34 @@ fn every_byte_of_the_table(compare: &mut Compare, sound: &[u8], random: &mut Ran
             all_calls(compare, &bytes);
         }
     }
-    for count in 0..300u16 {
+}
+
+/// Each number of rows up to 300, and those near the limits and above.
+fn every_count(compare: &mut Compare, edition: u16, rows: &[Row]) {
+    let room = with_room(image_of(edition, rows));
+    for count in (0..300).chain([1023, 1024, 1025, 0x0301, 0x0303, u16::MAX]) {
         let mut bytes = room.clone();
         bytes[4..6].copy_from_slice(&count.to_be_bytes());
         all_calls(compare, &bytes);
     }
 }
 
+/// The rows of one edition under the number of another, and under other numbers.
+fn every_edition(compare: &mut Compare, rows: &[Row]) {
+    for edition in EDITIONS {
+        for number in [0, 1, 2, 3, 0x0100, 0x0101, 0x0102, 0x0200, 0x0201, u16::MAX] {
+            for count in 0..=rows.len() {
+                let mut bytes = with_room(image_of(edition, &rows[..count]));
+                bytes[..2].copy_from_slice(&number.to_be_bytes());
+                all_calls(compare, &bytes);
+            }
+        }
+    }
+}
+
 /// The image cut to each length.
-fn every_cut(compare: &mut Compare, rows: &[Row]) {
-    let sound = image(rows);
+fn every_cut(compare: &mut Compare, edition: u16, rows: &[Row]) {
+    let sound = image_of(edition, rows);
     for length in 0..=sound.len() {
         compare.image_find(&sound[..length], &rows[0].id);
     }
@@ -178,33 +218,33 @@ fn broken_rows(rows: &[Row]) -> Vec<Vec<Row>> {
 }
 
 /// Images whose bodies have a gap between them, overlap, or stand in another order than the rows.
-fn misplaced_bodies(rows: &[Row]) -> Vec<Vec<u8>> {
-    let sound = image(rows);
-    let first = 8 + 32 * rows.len();
-    let (table, bodies) = sound.split_at(first);
+fn misplaced_bodies(edition: u16, rows: &[Row]) -> Vec<Vec<u8>> {
+    let sound = image_of(edition, rows);
+    let row = row_length(edition);
+    let (table, bodies) = sound.split_at(8 + row * rows.len());
     let length = rows[0].body.len();
     let mut gap = [table, &[0], bodies].concat();
-    for row in 0..rows.len() {
-        let at = 8 + 32 * row + 16;
+    for index in 0..rows.len() {
+        let at = 8 + row * index + 16;
         let moved = u32::from_be_bytes(gap[at..at + 4].try_into().expect("4 bytes")) + 1;
         gap[at..at + 4].copy_from_slice(&moved.to_be_bytes());
     }
+    let (one, two) = (&sound[8..8 + row], &sound[8 + row..8 + 2 * row]);
     let mut swapped = sound.clone();
-    let both = [&sound[40..72], &sound[8..40]].concat();
-    swapped[8..72].copy_from_slice(&both);
+    swapped[8..8 + 2 * row].copy_from_slice(&[two, one].concat());
     let mut shared = sound.clone();
-    shared[40..72].copy_from_slice(&sound[8..40]);
+    shared[8 + row..8 + 2 * row].copy_from_slice(one);
     let middle = [table, &bodies[..length], &[0], &bodies[length..]].concat();
     vec![gap, swapped, shared, middle]
 }
 
-/// Images of 63, 64 and 65 rows, sound but for the last.
-fn many_rows(compare: &mut Compare) {
+/// Images of up to 65 rows, and with an id that recurs.
+fn many_rows(compare: &mut Compare, edition: u16) {
     for count in [1, 2, 63, 64, 65] {
         let rows: Vec<Row> = (0..count)
             .map(|i| Row::of(&Model::plain().numbered(i)))
             .collect();
-        let mut bytes = image(&rows);
+        let mut bytes = image_of(edition, &rows);
         compare.image_find(&bytes, &rows[rows.len() - 1].id);
         compare.image_find(&bytes, &[9; 16]);
         let with = Submission {
@@ -222,6 +262,6 @@ fn many_rows(compare: &mut Compare) {
         }
         let mut twice = rows.clone();
         twice[0] = rows[rows.len() - 1].clone();
-        compare.image_find(&image(&twice), &rows[0].id);
+        compare.image_find(&image_of(edition, &twice), &rows[0].id);
     }
 }

@@ -1,14 +1,15 @@
 //! Requests: each step failing alone and in pairs and threes, each limit, revocation lists, and random patterns and paths. Leases
-//! have cases of their own.
+//! and moments have cases of their own.
 
 use reference::Request;
 
 use super::changes::set;
-use super::images::some_rows;
+use super::images::{some_rows, EDITIONS};
 use super::paths::{any_levels, any_name};
 use crate::compare::Compare;
 use crate::encoder::{
-    grant, image, modes_of, revocation, Grant, Model, Row, FAY, MODES, OTHER_TERMINAL, TERMINAL,
+    grant, image, image_of, modes_of, revocation, Grant, Model, Row, FAY, MODES, NEW_ROW,
+    OTHER_TERMINAL, TERMINAL,
 };
 use crate::lease_row::{LeaseRow, LAST_MOMENT};
 use crate::random::Random;
@@ -50,12 +51,12 @@ pub fn run(compare: &mut Compare, random: &mut Random, rounds: usize) {
 /// The arguments of a request.
 #[derive(Clone)]
 pub struct Asked {
-    image: Vec<u8>,
+    pub image: Vec<u8>,
     pub id: Vec<u8>,
-    fay: Vec<u8>,
-    terminal: Vec<u8>,
+    pub fay: Vec<u8>,
+    pub terminal: Vec<u8>,
     pub resource: Vec<u8>,
-    revoked: Vec<u8>,
+    pub revoked: Vec<u8>,
     pub leases: Vec<u8>,
     pub mode: u64,
     pub now_ms: u64,
@@ -67,8 +68,13 @@ pub struct Asked {
 }
 
 impl Asked {
-    /// A request that is granted.
-    fn fine() -> Asked {
+    /// A request that is granted, on an image of edition 2.
+    pub fn fine() -> Asked {
+        Asked::fine_of(2)
+    }
+
+    /// A request that is granted, on an image of an edition.
+    pub fn fine_of(edition: u16) -> Asked {
         let constrained = Grant {
             constraints: Some(vec![("k".into(), "v".into())]),
             ..grant(&["read", "configure"], "a/*")
@@ -86,7 +92,7 @@ impl Asked {
         .numbered(30);
         let mut rows = some_rows();
         rows.insert(1, Row::of(&model));
-        Asked::of(&model, image(&rows))
+        Asked::of(&model, image_of(edition, &rows))
     }
 
     /// A request for a descriptor.
@@ -128,7 +134,8 @@ impl Asked {
         self.now_ms / 1000
     }
 
-    pub fn run(&self, compare: &mut Compare) {
+    /// Makes the request, and answers with the image after it.
+    pub fn run(&self, compare: &mut Compare) -> Vec<u8> {
         let Asked {
             mode,
             now_ms,
@@ -154,7 +161,9 @@ impl Asked {
             has_valid_until,
             valid_until,
         };
-        compare.request(&self.image, &request);
+        let mut image = self.image.clone();
+        compare.request(&mut image, &request);
+        image
     }
 }
 
@@ -200,7 +209,8 @@ fn malformed() -> Vec<Change> {
         |a| a.leases.push(0),
         |a| a.leases = a.lease().repeat(2),
         |a| set(&mut a.image, 3, 2),
-        |a| a.image.truncate(8 + 32 * 4),
+        |a| set(&mut a.image, 1, 3),
+        |a| a.image.truncate(8 + NEW_ROW * 4),
         |a| a.image.clear(),
     ]
 }
@@ -208,6 +218,7 @@ fn malformed() -> Vec<Change> {
 /// Changes by which a step after those on the arguments and the image fails or just passes.
 fn later_steps() -> Vec<Change> {
     vec![
+        |a| a.image = Asked::fine_of(1).image,
         |a| a.id = vec![0x99; 16],
         |a| a.id = some_rows()[2].id.clone(),
         |a| a.revoked = revocation(&a.id, 0),
@@ -425,7 +436,9 @@ fn random_request(compare: &mut Compare, random: &mut Random) {
         ..grant(&modes_of(random.between(1, 15)), &any_levels(random, 4))
     });
     let model = Model::with(grants.collect());
-    let mut asked = Asked::of(&model, image(&[Row::of(&model)]));
+    let row = Row::used(&model, 1_990 + random.below(1_020) as u64);
+    let bytes = image_of(*random.pick(&EDITIONS), &[row]);
+    let mut asked = Asked::of(&model, bytes);
     asked.mode = random.below(MODES.len()) as u64;
     asked.now_ms = 1_990_000 + random.below(1_020_000) as u64;
     asked.session_length = random.edge();

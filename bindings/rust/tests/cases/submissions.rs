@@ -1,12 +1,13 @@
-//! Submissions: each step failing alone and in pairs, each limit, and long sequences on buffers of many lengths.
+//! Submissions: each step failing alone and in pairs, each limit, and long sequences on buffers of many lengths. Removal has cases
+//! of its own.
 
 use reference::Submission;
 
 use super::changes::{edit, set};
 use super::descriptors::any_model;
-use super::images::some_rows;
+use super::images::{some_rows, EDITIONS};
 use crate::compare::Compare;
-use crate::encoder::{image, Model, Row};
+use crate::encoder::{image, image_of, Model, Row, NEW_ROW};
 use crate::random::Random;
 
 const DAY: u64 = 86_400;
@@ -40,11 +41,13 @@ impl Submitted {
 
 /// Each step failing alone, and each two.
 fn steps(compare: &mut Compare) {
-    let changes: [fn(&mut Submitted); 24] = [
+    let changes: [fn(&mut Submitted); 27] = [
         |_| {},
         |s| s.with.verdict = 3,
         |s| s.with.verdict = u64::MAX,
-        |s| set(&mut s.image, 1, 2),
+        |s| set(&mut s.image, 1, 1),
+        |s| set(&mut s.image, 1, 3),
+        |s| s.image = [image_of(1, &some_rows()), vec![0xaa; 1000]].concat(),
         |s| s.image.truncate(7),
         |s| s.image.clear(),
         |s| s.body = Some(Vec::new()),
@@ -63,8 +66,9 @@ fn steps(compare: &mut Compare) {
         |s| s.with.verdict = 1,
         |s| s.model.id = some_rows()[0].id.clone(),
         |s| s.body = Some(some_rows()[1].body.clone()),
-        |s| s.image.truncate(image(&some_rows()).len() + 32),
+        |s| s.image.truncate(image(&some_rows()).len() + NEW_ROW),
         |s| s.image.truncate(image(&some_rows()).len()),
+        |s| s.image = image(&[Row::of(&s.model.clone().numbered(51))]),
     ];
     let fine = Submitted {
         image: [image(&some_rows()), vec![0xaa; 1000]].concat(),
@@ -81,7 +85,7 @@ fn steps(compare: &mut Compare) {
     };
     for first in changes {
         for second in changes {
-            for third in [changes[0], changes[19], changes[20]] {
+            for third in [changes[0], changes[21], changes[22]] {
                 let mut submitted = fine.clone();
                 first(&mut submitted);
                 second(&mut submitted);
@@ -108,7 +112,7 @@ fn clocks(compare: &mut Compare) {
         u64::MAX - 1,
         u64::MAX,
     ];
-    let empty = [&[0, 1, 0, 1, 0, 0, 0, 0][..], &[0xcc; 600]].concat();
+    let empty = [image(&[]), vec![0xcc; 600]].concat();
     for not_before in moments {
         let model = Model {
             issued_at: 0,
@@ -150,7 +154,7 @@ fn rooms(compare: &mut Compare) {
     };
     for count in 0..3 {
         let held = image(&rows[..count]);
-        let needed = 32 + body.len();
+        let needed = NEW_ROW + body.len();
         for room in (0..40).chain(needed - 35..needed + 5) {
             let mut bytes = [&held[..], &vec![0x77; room]].concat();
             compare.submit(&mut bytes, &body, &with);
@@ -159,7 +163,7 @@ fn rooms(compare: &mut Compare) {
     }
 }
 
-/// All rows of an image one after another, and more.
+/// Many rows one after another.
 fn fill(compare: &mut Compare, random: &mut Random) {
     let mut bytes = random.bytes(60_000);
     compare.image_new(&mut bytes);
@@ -198,7 +202,7 @@ fn sequence(compare: &mut Compare, random: &mut Random) {
         .collect();
     if random.once_in(8) {
         let rows: Vec<Row> = models[..random.below(4)].iter().map(Row::of).collect();
-        bytes.splice(0..0, image(&rows));
+        bytes.splice(0..0, image_of(*random.pick(&EDITIONS), &rows));
     } else {
         compare.image_new(&mut bytes);
     }

@@ -170,13 +170,35 @@ impl<'a> Compare<'a> {
         other[0]
     }
 
-    /// Requests.
-    pub fn request(&mut self, image: &[u8], with: &Request) {
-        let (one, other) = (
-            self.one.request(image, with),
-            self.other.request(image, with),
+    /// Upgrades an image to each of two copies of the buffer, which then is as the second leaves it.
+    pub fn image_upgrade(&mut self, old: &[u8], image: &mut [u8]) -> u64 {
+        let mut copy = image.to_vec();
+        let one = self.one.image_upgrade(old, &mut copy);
+        let other = self.other.image_upgrade(old, image);
+        self.note(
+            "image_upgrade",
+            &one,
+            &other,
+            copy == image,
+            &(Hex(old), image.len()),
         );
-        self.note("request", &one, &other, true, &(Hex(image), with));
+        other[0]
+    }
+
+    /// Requests, with each of two copies of the buffer, which then is as the second leaves it.
+    pub fn request(&mut self, image: &mut [u8], with: &Request) -> u64 {
+        let before = image.to_vec();
+        let mut copy = before.clone();
+        let one = self.one.request(&mut copy, with);
+        let other = self.other.request(image, with);
+        self.note(
+            "request",
+            &one,
+            &other,
+            copy == image,
+            &(Hex(&before), with),
+        );
+        other[0]
     }
 
     /// Narrows.

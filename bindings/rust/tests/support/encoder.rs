@@ -284,28 +284,59 @@ pub struct Row {
     pub id: Vec<u8>,
     pub mask: u8,
     pub body: Vec<u8>,
+    /// The moment at which it was last used, which a row of edition 1 doesn't have.
+    pub last_used: u64,
 }
 
 impl Row {
-    /// The row of a descriptor.
+    /// The row of a descriptor, last used at 0.
     pub fn of(model: &Model) -> Row {
+        Row::used(model, 0)
+    }
+
+    /// The row of a descriptor that was last used at a moment.
+    pub fn used(model: &Model, last_used: u64) -> Row {
         Row {
             id: model.id.clone(),
             mask: model.mask(),
             body: model.bytes(),
+            last_used,
         }
     }
 }
 
-/// The image with the rows.
+/// The length of a row of edition 1, and in edition 2 the place of a row's moment.
+pub const OLD_ROW: usize = 32;
+/// The length of a row of edition 2.
+pub const NEW_ROW: usize = 40;
+
+/// The length of a row of an edition.
+pub fn row_length(edition: u16) -> usize {
+    if edition == 1 {
+        OLD_ROW
+    } else {
+        NEW_ROW
+    }
+}
+
+/// The image of edition 2 with the rows.
 pub fn image(rows: &[Row]) -> Vec<u8> {
-    let mut out = [[0, 1], [0, 1], (rows.len() as u16).to_be_bytes(), [0, 0]].concat();
-    let mut at = 8 + 32 * rows.len();
+    image_of(2, rows)
+}
+
+/// The image of an edition with the rows.
+pub fn image_of(edition: u16, rows: &[Row]) -> Vec<u8> {
+    let header = [edition, 1, rows.len() as u16, 0];
+    let mut out = header.map(u16::to_be_bytes).concat();
+    let mut at = 8 + row_length(edition) * rows.len();
     for row in rows {
         out.extend(&row.id);
         out.extend((at as u32).to_be_bytes());
         out.extend((row.body.len() as u32).to_be_bytes());
         out.extend([row.mask, 0, 0, 0, 0, 0, 0, 0]);
+        if edition != 1 {
+            out.extend(row.last_used.to_be_bytes());
+        }
         at += row.body.len();
     }
     rows.iter().for_each(|row| out.extend(&row.body));

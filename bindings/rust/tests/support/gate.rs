@@ -12,7 +12,8 @@ pub trait Gate {
     fn image_new(&self, image: &mut [u8]) -> Vec<u64>;
     fn image_find(&self, image: &[u8], id: &[u8]) -> Vec<u64>;
     fn submit(&self, image: &mut [u8], descriptor: &[u8], with: &Submission) -> Vec<u64>;
-    fn request(&self, image: &[u8], with: &Request) -> Vec<u64>;
+    fn image_upgrade(&self, old: &[u8], image: &mut [u8]) -> Vec<u64>;
+    fn request(&self, image: &mut [u8], with: &Request) -> Vec<u64>;
     fn narrow(&self, parent: &[u8], child: &[u8]) -> Vec<u64>;
 }
 
@@ -94,6 +95,11 @@ macro_rules! shared_calls {
             list!(of::image_find(image, id); answer body_at body_len)
         }
 
+        fn image_upgrade(&self, old: &[u8], image: &mut [u8]) -> Vec<u64> {
+            use $of as of;
+            list!(of::image_upgrade(old, image); answer len)
+        }
+
         fn narrow(&self, parent: &[u8], child: &[u8]) -> Vec<u64> {
             use $of as of;
             list!(of::narrow(parent, child); answer grant mode levels)
@@ -123,7 +129,7 @@ impl Gate for Library {
         )]
     }
 
-    fn request(&self, image: &[u8], with: &Request) -> Vec<u64> {
+    fn request(&self, image: &mut [u8], with: &Request) -> Vec<u64> {
         let decision = cap::numbers::request(
             image,
             with.id,
@@ -151,7 +157,7 @@ impl Gate for Ordinary {
         vec![reference::submit(image, descriptor, with)]
     }
 
-    fn request(&self, image: &[u8], with: &Request) -> Vec<u64> {
+    fn request(&self, image: &mut [u8], with: &Request) -> Vec<u64> {
         list!(reference::request(image, with); answer grant mask session_end margin)
     }
 }

@@ -118,8 +118,9 @@ pub const LEASE_SLIPS: [LeaseSlip; 34] = [
     ClockRoundedUp,
 ];
 
-/// The numbers of a decision by an implementation with a slip; without one it is as the ordinary one.
-pub fn request(slip: Option<LeaseSlip>, image: &[u8], with: &Request) -> Vec<u64> {
+/// The numbers of a decision by an implementation with a slip; without one it is as the ordinary one. The image changes where the
+/// request is granted.
+pub fn request(slip: Option<LeaseSlip>, image: &mut [u8], with: &Request) -> Vec<u64> {
     let is = |other| slip == Some(other);
     let bound_passed = is(ClockBoundOfRowsOnly) && with.leases.is_empty();
     if !is_table(slip, with) || with.now_ms > LAST_MOMENT && !bound_passed {
@@ -132,13 +133,18 @@ pub fn request(slip: Option<LeaseSlip>, image: &[u8], with: &Request) -> Vec<u64
     if is(ClockRoundedUp) {
         without.now_ms = (with.now_ms.div_ceil(1000) * 1000).min(LAST_MOMENT);
     }
-    let decision = Ordinary.request(image, &without);
+    let mut after = image.to_vec();
+    let decision = Ordinary.request(&mut after, &without);
     if is(BeforeSignature) && decision[0] == 4 {
         without.verdict = 0;
-        let leased = with_lease(slip, Ordinary.request(image, &without), with);
+        let leased = with_lease(slip, Ordinary.request(&mut after, &without), with);
         return if leased[0] == 0 { decision } else { leased };
     }
-    with_lease(slip, decision, with)
+    let decision = with_lease(slip, decision, with);
+    if decision[0] == 0 {
+        image.copy_from_slice(&after);
+    }
+    decision
 }
 
 /// A decision without leases, and the lease steps after it.

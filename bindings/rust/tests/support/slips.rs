@@ -6,8 +6,11 @@ use std::collections::HashSet;
 use cap::part;
 use reference::{Request, Submission};
 
+use super::encoder::NEW_ROW;
 use super::gate::{Gate, Ordinary};
+use super::image_slips::ImageSlip;
 use super::lease_slips::{self, LeaseSlip};
+use super::wrong_image;
 
 /// A slip that an implementation might make.
 #[derive(Clone, Copy, Debug, PartialEq, Eq)]
@@ -45,9 +48,11 @@ pub enum Slip {
     LevelsAlwaysOne,
     /// A slip in the lease steps, or none.
     Lease(Option<LeaseSlip>),
+    /// A slip with images, or none.
+    Image(Option<ImageSlip>),
 }
 
-/// All slips but those in the lease steps.
+/// All slips but those in the lease steps and those with images.
 pub const SLIPS: [Slip; 31] = [
     Slip::EmptyStringAtZero,
     Slip::LongerHeadRead,
@@ -134,18 +139,34 @@ impl Gate for Wrong {
         if self.0 == Slip::NewImageCleared && image.len() >= 8 {
             image.fill(0);
         }
+        if let Slip::Image(slip) = self.0 {
+            return wrong_image::image_new(slip, image);
+        }
         Ordinary.image_new(image)
     }
 
+    fn image_upgrade(&self, old: &[u8], image: &mut [u8]) -> Vec<u64> {
+        if let Slip::Image(slip) = self.0 {
+            return wrong_image::image_upgrade(slip, old, image);
+        }
+        Ordinary.image_upgrade(old, image)
+    }
+
     fn image_find(&self, image: &[u8], id: &[u8]) -> Vec<u64> {
+        if let Slip::Image(slip) = self.0 {
+            return wrong_image::image_find(slip, image, id);
+        }
         let mut image = image.to_vec();
-        if self.0 == Slip::EditionNotRead && image.len() > 1 {
-            image[1] = 1;
+        if self.0 == Slip::EditionNotRead && image.len() > 1 && !image.starts_with(&[0, 1]) {
+            image[..2].copy_from_slice(&[0, 2]);
         }
         Ordinary.image_find(&image, id)
     }
 
     fn submit(&self, image: &mut [u8], descriptor: &[u8], with: &Submission) -> Vec<u64> {
+        if let Slip::Image(slip) = self.0 {
+            return wrong_image::submit(slip, image, descriptor, with);
+        }
         let not_before = reference::descriptor_read(descriptor).not_before;
         let mut with = *with;
         if self.0 == Slip::KeyNeverEnds {
@@ -164,9 +185,11 @@ impl Gate for Wrong {
         answer
     }
 
-    fn request(&self, image: &[u8], with: &Request) -> Vec<u64> {
-        if let Slip::Lease(slip) = self.0 {
-            return lease_slips::request(slip, image, with);
+    fn request(&self, image: &mut [u8], with: &Request) -> Vec<u64> {
+        match self.0 {
+            Slip::Lease(slip) => return lease_slips::request(slip, image, with),
+            Slip::Image(slip) => return wrong_image::request(slip, image, with),
+            _ => {}
         }
         let mut with = *with;
         if self.0 == Slip::KeyNeverEnds {
@@ -308,12 +331,12 @@ fn one_later(moment: &mut [u8]) {
     moment.copy_from_slice(&number.saturating_add(1).to_be_bytes());
 }
 
-/// Sets the bytes after the last body of a sound image to 0.
+/// Sets the bytes after the last body of a sound image of edition 2 to 0.
 fn clear_tail(image: &mut [u8]) {
-    let rows = usize::from(image[5]);
-    let lengths = (0..rows).map(|row| &image[8 + 32 * row + 20..][..4]);
+    let rows = usize::from(u16::from_be_bytes([image[4], image[5]]));
+    let lengths = (0..rows).map(|row| &image[8 + NEW_ROW * row + 20..][..4]);
     let bodies: usize = lengths
         .map(|n| u32::from_be_bytes(n.try_into().expect("4 bytes")) as usize)
         .sum();
-    image[8 + 32 * rows + bodies..].fill(0);
+    image[8 + NEW_ROW * rows + bodies..].fill(0);
 }

@@ -1,14 +1,14 @@
 //! Times the library against the ordinary implementation, both in one run: `cargo run --release --example bench`.
 //!
 //! Each time is that of the best of several rounds; the rounds of the two take turns. The ratio says how many times as long
-//! the library takes. A submission is timed with the copying of the image that it changes.
+//! the library takes. A submission and an upgrade are timed with the copying of the buffer that they change.
 
 use std::hint::black_box;
-use std::time::{Duration, Instant};
 
 use cap::{Milliseconds, Seconds};
-use encoder::{grant, image, revocation, Model, Row, FAY, TERMINAL};
+use encoder::{grant, image, image_of, revocation, Model, Row, FAY, NEW_ROW, TERMINAL};
 use lease_row::{lease_table, LeaseRow};
+use race::{line, race, race_and_print, ratio};
 use random::Random;
 use reference::{Request, Submission};
 
@@ -18,14 +18,11 @@ mod encoder;
 #[allow(dead_code)]
 #[path = "../tests/support/lease_row.rs"]
 mod lease_row;
+#[path = "support/race.rs"]
+mod race;
 #[allow(dead_code)]
 #[path = "../tests/support/random.rs"]
 mod random;
-
-/// How many rounds there are.
-const ROUNDS: usize = 60;
-/// How long a round lasts at least.
-const ROUND: Duration = Duration::from_millis(2);
 
 fn main() {
     println!("ratio: the library's time divided by ordinary Rust's\n");
@@ -33,7 +30,8 @@ fn main() {
     for grants in [1, 15, 256] {
         reading(grants);
     }
-    for (rows, revoked) in [(1, 0), (64, 0), (1, 1000)] {
+    checks();
+    for (rows, revoked) in [(1, 0), (64, 0), (1024, 0), (1, 1000)] {
         request(rows, revoked);
     }
     requests_with_leases();
@@ -50,14 +48,11 @@ fn main() {
     narrowing_of("narrowing, 256 equal, a mode each", equal_mode_each());
     narrowing_of("narrowing, 256 unlike, a mode each", unlike_mode_each());
     narrowing_of("narrowing, 256 unlike, two cover", two_of_256_cover());
-    for rows in [1, 63] {
+    for rows in [1, 63, 1023] {
         submission(rows);
     }
-}
-
-/// Prints a line of the table.
-fn line(case: &str, library: &str, ordinary: &str, ratio: &str) {
-    println!("{case:<36} {library:>14} {ordinary:>14} {ratio:>7}");
+    submissions_that_remove();
+    upgrade(64);
 }
 
 /// Reading of a descriptor with so many grants.
@@ -75,6 +70,30 @@ fn reading(grants: usize) {
         &speed(ordinary),
         &ratio(library, ordinary),
     );
+}
+
+/// Checks of images of 64 and 1,024 rows, and how many times as long the larger one takes.
+fn checks() {
+    let few = check(64);
+    let many = check(1024);
+    line(
+        "check, rows 1024 to 64",
+        &format!("{} times", ratio(many.0, few.0)),
+        &format!("{} times", ratio(many.1, few.1)),
+        "",
+    );
+}
+
+/// A check of an image of so many rows, with a lookup of the last, and its times.
+fn check(rows: u64) -> (f64, f64) {
+    let models: Vec<Model> = (0..rows).map(|number| rooms(1).numbered(number)).collect();
+    let held = image(&models.iter().map(Row::of).collect::<Vec<_>>());
+    let id = &models[models.len() - 1].id;
+    race_and_print(
+        &format!("check, rows {rows}"),
+        || cap::numbers::image_find(black_box(&held), black_box(id)).answer,
+        || reference::image_find(black_box(&held), black_box(id)).answer,
+    )
 }
 
 /// A request for the last of so many rows, with a revocation list of so many other ids.
@@ -138,9 +157,11 @@ fn requests_of_256() {
     ask("request, 256 serve, exact last", readers(rising), &names);
 }
 
-/// A request for the last of the descriptors, which are the rows of an image.
+/// A request for the last of the descriptors, which are the rows of an image. The first raises the moment of its row, the others
+/// leave it.
 fn race_requests(case: &str, models: &[Model], levels: &str, revoked: &[u8], leases: &[u8]) {
-    let held = image(&models.iter().map(Row::of).collect::<Vec<_>>());
+    let mut held = image(&models.iter().map(Row::of).collect::<Vec<_>>());
+    let mut other = held.clone();
     let resource = format!("{TERMINAL}/{levels}");
     let asked = Request {
         id: &models[models.len() - 1].id,
@@ -156,7 +177,7 @@ fn race_requests(case: &str, models: &[Model], levels: &str, revoked: &[u8], lea
     race_and_print(
         case,
         || {
-            let (a, image) = (black_box(&asked), black_box(&held));
+            let (a, image) = (black_box(&asked), black_box(&mut held));
             cap::numbers::request(
                 image,
                 a.id,
@@ -175,7 +196,7 @@ fn race_requests(case: &str, models: &[Model], levels: &str, revoked: &[u8], lea
             )
             .answer
         },
-        || reference::request(black_box(&held), black_box(&asked)).answer,
+        || reference::request(black_box(&mut other), black_box(&asked)).answer,
     );
 }
 
@@ -237,31 +258,76 @@ fn submission(rows: u64) {
         .map(|number| Row::of(&rooms(1).numbered(number)))
         .collect();
     let body = rooms(1).numbered(rows).bytes();
-    let before = [image(&held), vec![0; 32 + body.len()]].concat();
-    let mut copy = before.clone();
-    let mut other = before.clone();
+    let before = [image(&held), vec![0; NEW_ROW + body.len()]].concat();
+    race_submissions(&format!("submission, rows {rows}"), &before, &body, 2000);
+}
+
+/// Submissions to 1,024 rows that are expired and were last used in a random order: a body for which one row has to go, and one for
+/// which many have to.
+fn submissions_that_remove() {
+    let mut random = Random::new(1);
+    let mut held: Vec<Row> = (0..1024)
+        .map(|number| Row::used(&rooms(1).numbered(number), number))
+        .collect();
+    (1..held.len()).for_each(|at| held.swap(at, random.below(at + 1)));
+    let before = image(&held);
+    for grants in [1, 256] {
+        let mut model = rooms(grants).numbered(1024);
+        (model.not_before, model.not_after) = (3000, 4000);
+        let body = model.bytes();
+        let mut after = before.clone();
+        let with = Submission {
+            now: 3000,
+            ..Submission::default()
+        };
+        reference::submit(&mut after, &body, &with);
+        let removed = 1025 - u16::from_be_bytes([after[4], after[5]]);
+        let case = format!("submission, rows 1024, removed {removed}");
+        race_submissions(&case, &before, &body, 3000);
+    }
+}
+
+/// A submission of a body to a buffer.
+fn race_submissions(case: &str, before: &[u8], body: &[u8], now: u64) {
+    let mut copy = before.to_vec();
+    let mut other = before.to_vec();
     let with = Submission {
-        now: 2000,
+        now,
         ..Submission::default()
     };
     race_and_print(
-        &format!("submission, rows {rows}"),
+        case,
+        || {
+            copy.copy_from_slice(before);
+            let (now, from, until) = (Seconds(now), Seconds(0), Seconds(0));
+            let image = black_box(&mut copy);
+            cap::numbers::submit(image, black_box(body), now, 0, from, 0, until)
+        },
+        || {
+            other.copy_from_slice(before);
+            reference::submit(black_box(&mut other), black_box(body), black_box(&with))
+        },
+    );
+}
+
+/// Upgrade of an image of so many rows.
+fn upgrade(rows: u64) {
+    let held: Vec<Row> = (0..rows)
+        .map(|number| Row::of(&rooms(1).numbered(number)))
+        .collect();
+    let old = image_of(1, &held);
+    let before = vec![0; image(&held).len()];
+    let mut copy = before.clone();
+    let mut other = before.clone();
+    race_and_print(
+        &format!("upgrade, rows {rows}"),
         || {
             copy.copy_from_slice(&before);
-            let (now, from, until) = (Seconds(with.now), Seconds(0), Seconds(0));
-            cap::numbers::submit(
-                black_box(&mut copy),
-                black_box(&body),
-                now,
-                0,
-                from,
-                0,
-                until,
-            )
+            cap::numbers::image_upgrade(black_box(&old), black_box(&mut copy)).answer
         },
         || {
             other.copy_from_slice(&before);
-            reference::submit(black_box(&mut other), black_box(&body), black_box(&with))
+            reference::image_upgrade(black_box(&old), black_box(&mut other)).answer
         },
     );
 }
@@ -364,67 +430,4 @@ fn mode_each(patterns: impl Iterator<Item = String>) -> (Model, Model) {
         Model::with(reading.chain([writing]).collect()),
         Model::with(vec![both; 240]),
     )
-}
-
-/// Times the two, prints the time of a call, and answers both times.
-fn race_and_print(
-    case: &str,
-    library: impl FnMut() -> u64,
-    ordinary: impl FnMut() -> u64,
-) -> (f64, f64) {
-    let (library, ordinary) = race(library, ordinary);
-    line(
-        case,
-        &shown(library),
-        &shown(ordinary),
-        &ratio(library, ordinary),
-    );
-    (library, ordinary)
-}
-
-/// The seconds that a call of each takes in its best round; each call must answer 0.
-fn race(mut library: impl FnMut() -> u64, mut ordinary: impl FnMut() -> u64) -> (f64, f64) {
-    assert_eq!((library(), ordinary()), (0, 0));
-    let calls = (
-        calls_of_a_round(&mut library),
-        calls_of_a_round(&mut ordinary),
-    );
-    let mut best = (f64::INFINITY, f64::INFINITY);
-    for _ in 0..ROUNDS {
-        best.0 = best.0.min(time(&mut library, calls.0));
-        best.1 = best.1.min(time(&mut ordinary, calls.1));
-    }
-    best
-}
-
-/// How many calls fill a round.
-fn calls_of_a_round(call: &mut impl FnMut() -> u64) -> u32 {
-    let mut calls = 1;
-    while time(call, calls) * f64::from(calls) < ROUND.as_secs_f64() {
-        calls *= 2;
-    }
-    calls
-}
-
-/// The seconds of a call, measured over so many.
-fn time(call: &mut impl FnMut() -> u64, calls: u32) -> f64 {
-    let start = Instant::now();
-    for _ in 0..calls {
-        black_box(call());
-    }
-    start.elapsed().as_secs_f64() / f64::from(calls)
-}
-
-/// A time with its unit.
-fn shown(seconds: f64) -> String {
-    match seconds {
-        s if s < 1e-6 => format!("{:.0} ns", s * 1e9),
-        s if s < 1e-3 => format!("{:.2} µs", s * 1e6),
-        s => format!("{:.2} ms", s * 1e3),
-    }
-}
-
-/// The ratio of two times.
-fn ratio(library: f64, ordinary: f64) -> String {
-    format!("{:.2}", library / ordinary)
 }

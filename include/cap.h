@@ -3,7 +3,7 @@
  * Link libcap.a. Every function takes any bytes and any numbers, ends, and answers; none allocates, keeps a pointer or uses a global.
  * A slice is a pointer and a length. An empty slice is passed with any pointer that is not null, as CAP_EMPTY: a slice of the library is a reference, which the
  * compiler may take to be no null pointer, whatever its length. Where one slice of a call is mutable, no other slice of that call overlaps it: copy a body out of
- * an image before submitting it again.
+ * an image before submitting it again, and an id before asking for it.
  * A refusal changes no byte, and its other numbers are 0, except narrowing's for CAP_GRANT_NOT_COVERED and a request's margin for CAP_LEASE_STALE.
  * Times are seconds since 1970, and lengths of time seconds. A parameter whose name ends in _ms has milliseconds; so have the margin of a decision, and
  * those numbers of a lease of which it is said.
@@ -31,7 +31,7 @@ enum cap_answer {
     CAP_UNKNOWN_ISSUER = 3,              /* E_UNKNOWN_ISSUER: the host has no such key */
     CAP_INVALID_SIGNATURE = 4,           /* E_INVALID_SIGNATURE: the host found the signature bad */
     CAP_DUPLICATE_DESCRIPTOR_ID = 5,     /* E_DUPLICATE_DESCRIPTOR_ID: other bytes are held under the id */
-    CAP_STORAGE_FULL = 6,                /* E_STORAGE_FULL: 64 rows are held, or the larger image exceeds the buffer */
+    CAP_STORAGE_FULL = 6,                /* E_STORAGE_FULL: 1,024 rows are held, or the larger image exceeds the buffer, also without the expired ones */
     CAP_DESCRIPTOR_NOT_FOUND = 7,        /* E_DESCRIPTOR_NOT_FOUND: the id is not held */
     CAP_DESCRIPTOR_REVOKED = 8,          /* E_DESCRIPTOR_REVOKED: a row of the revocation list has the id, and its moment is not after now */
     CAP_DESCRIPTOR_NOT_YET_VALID = 9,    /* E_DESCRIPTOR_NOT_YET_VALID: now < not_before */
@@ -41,8 +41,8 @@ enum cap_answer {
     CAP_AUTHORIZATION_INSUFFICIENT = 13, /* E_AUTHORIZATION_INSUFFICIENT: no grant has the mode, a matching pattern and no constraint */
     CAP_VERIFICATION_KEY_INVALID = 14,   /* E_VERIFICATION_KEY_INVALID: the clock is outside the key's window; in a request also that the host has no such key (verdict 2) */
     CAP_MALFORMED_ARGUMENTS = 15,        /* malformed arguments */
-    CAP_BAD_IMAGE = 16,                  /* bad image, also one of an unknown edition */
-    CAP_OUTPUT_TOO_SHORT = 17,           /* output too short */
+    CAP_BAD_IMAGE = 16,                  /* bad image, also one of an unknown edition; in a submission also one of edition 1, in an upgrade any other */
+    CAP_OUTPUT_TOO_SHORT = 17,           /* output too short: the buffer has no room for the image that is to be written */
     CAP_PERIOD_NOT_INSIDE = 18,          /* period not inside the parent's */
     CAP_CONSTRAINT_PRESENT = 19,         /* constraint present in parent or child */
     CAP_GRANT_NOT_COVERED = 20,          /* grant not covered by the parent */
@@ -130,6 +130,12 @@ typedef struct cap_stored {
     uint64_t body_len; /* its length */
 } cap_stored;
 
+/* What a call answers that writes to a lent buffer. */
+typedef struct cap_written {
+    uint64_t answer; /* 0, or the first number that applies */
+    uint64_t len;    /* with 0: how many bytes were written at the start of the buffer; those after them stay. Else 0 */
+} cap_written;
+
 /* What a request answers. */
 typedef struct cap_decision {
     uint64_t answer;      /* 0, or the number of the first step that fails */
@@ -160,18 +166,29 @@ cap_grant cap_grant_at(const uint8_t *bytes, size_t bytes_len, uint64_t index);
 /* Matches a pattern and a resource id, and counts the levels that were matched by equal names. */
 cap_matching cap_match(const uint8_t *pattern, size_t pattern_len, const uint8_t *resource, size_t resource_len);
 
-/* Makes a new image of no bodies: 0 or 17. */
+/* Makes a new image of no bodies, of edition 2: 0 or 17. It has 8 bytes; those after them stay. */
 uint64_t cap_image_new(uint8_t *image, size_t image_len);
 
-/* Looks for the body with the id in the image. */
+/* Looks for the body with the id in the image, which is of edition 1 or 2. */
 cap_stored cap_image_find(const uint8_t *image, size_t image_len, const uint8_t *id, size_t id_len);
 
-/* Submits a descriptor to the image: 0, or the number of the first step that fails. On 0 the image holds it. */
+/* Makes an image of edition 2 of one of edition 1, in a second buffer: the same bodies in the same order, each last used at the moment 0. It has 8 bytes more for
+ * each body. 16 where `old` is anything but a sound image of edition 1, then 17 where `image` is too short. */
+cap_written cap_image_upgrade(const uint8_t *old, size_t old_len, uint8_t *image, size_t image_len);
+
+/* Submits a descriptor to the image, which is of edition 2; one of edition 1 is answered 16. 0, or the number of the first step that fails. On 0 the image holds the
+ * descriptor, and where it did not hold it before, it was last used at the moment `now`.
+ * Where it does not fit (1,024 rows are held, or the larger image exceeds the buffer) the submission removes expired descriptors (now >= not_after) from the image:
+ * the least recently used first, the earlier row on a tie, one after the other and only until it fits. One that is not expired is never removed. Where it would not
+ * fit without all expired ones either, the answer is 6 and nothing changes. After a removal bodies lie at other places than before. */
 uint64_t cap_submit(uint8_t *image, size_t image_len, const uint8_t *descriptor, size_t descriptor_len, uint64_t now, uint64_t verdict,
                     uint64_t valid_from, uint64_t has_valid_until, uint64_t valid_until);
 
-/* Decides a request for the stored descriptor with the id. A grant serves where it has the mode, a pattern that matches the resource id and no constraint pair;
- * of those that serve the decision has the one with most `names` (cap_matching), the first of them on a tie.
+/* Decides a request for the stored descriptor with the id. The image is of edition 1 or 2. Where the request is granted (0) and the image is of edition 2,
+ * the moment at which the descriptor was last used is raised to now, if now is larger: those 8 bytes of the image change, and no other. Every other answer,
+ * and any on an image of edition 1, changes nothing.
+ * A grant serves where it has the mode, a pattern that matches the resource id and no constraint pair; of those that serve the decision has the one with
+ * most `names` (cap_matching), the first of them on a tie.
  * `now_ms` is the clock in milliseconds, at most 2^53. All steps but those of the lease go by the clock in seconds, now = now_ms / 1000, rounded down.
  * `revoked` is the revocation list: rows of 24 bytes in any order, each a descriptor id (16), then the moment from which on it is revoked, in seconds,
  * big-endian (8). An id may recur. A length that is no multiple of 24 is answered 15.
@@ -189,7 +206,7 @@ uint64_t cap_submit(uint8_t *image, size_t image_len, const uint8_t *descriptor,
  * The steps of the lease come last, for the row with the id that is asked for. With N = now_ms: 26 where it is revoked; 23 where N < L - D; granted where
  * N <= L + 1000 T + E; 24 where N <= L + 1000 T + 1000 G + E; else 25. The margin is L + 1000 T + E - N. An id without a row is decided without these steps.
  * A list or a table without rows is passed as any empty slice, as CAP_EMPTY. */
-cap_decision cap_request(const uint8_t *image, size_t image_len, const uint8_t *id, size_t id_len, const uint8_t *fay, size_t fay_len,
+cap_decision cap_request(uint8_t *image, size_t image_len, const uint8_t *id, size_t id_len, const uint8_t *fay, size_t fay_len,
                          const uint8_t *terminal, size_t terminal_len, const uint8_t *resource, size_t resource_len, uint64_t mode, uint64_t now_ms,
                          uint64_t session_length, const uint8_t *revoked, size_t revoked_len, const uint8_t *leases, size_t leases_len, uint64_t verdict,
                          uint64_t valid_from, uint64_t has_valid_until, uint64_t valid_until);

@@ -1,75 +1,16 @@
-"""The gate among the stored vectors: calls on one image that stays from call to call.
+"""The gate among the stored vectors: calls on one image that stays from call to call. make_store.py has those of a full store.
 
 The descriptors are made by the same independent encoder as those of make_descriptors.py. The expected output is from the ordinary image,
 submission and request of ordinary_gate.py.
 """
 from make_descriptors import FAY, MODES, encode, grant, payload
 from make_matching import T, U
-from ordinary_gate import DAY, LAST_MOMENT, find, image_of, number, request, submit
-from records import FIND, LEND, NEW, REQUEST, SUBMIT, summed
+from ordinary_gate import DAY, FIRST, HEADER, LAST_MOMENT, SECOND, image_of, number
+from runs import Run, ident, made, revocation
 
 LAST = 2**64 - 1
 # the second of the last millisecond that a request's clock may have
 LAST_SECOND = LAST_MOMENT // 1000
-
-
-# ---- records
-
-
-class Run:
-    """Calls, with the image that they leave."""
-
-    def __init__(self, v):
-        self.v, self.image, self.store = v, b"", bytes(65536)
-
-    def shown(self):
-        rows = number(self.image, 4, 2) if len(self.image) >= 6 else 0
-        return f"; {len(self.image)} bytes, rows {rows}, sum {summed(self.image)}"
-
-    def load(self, name, s):
-        self.store = self.image + self.store[len(self.image) :]
-        self.image = s
-        self.v.add(LEND, name, self.shown(), [len(s)], [s])
-
-    def lend(self, name, n):
-        self.store = self.image + self.store[len(self.image) :]
-        self.image = self.store[:n]
-        self.v.add(LEND, name, self.shown(), [n])
-
-    def new(self, name):
-        answer = 17 if len(self.image) < 8 else 0
-        if answer == 0:
-            self.image = bytes.fromhex("0001000100000000") + self.image[8:]
-        self.v.add(NEW, name, f": {answer}{self.shown()}")
-
-    def submit(self, name, body, now=2000, verdict=0, valid=(0, 0, 0)):
-        answer, self.image = submit(self.image, body, now, verdict, valid)
-        self.v.add(SUBMIT, name, f": {answer}{self.shown()}", [now, verdict, *valid], [body])
-
-    def find(self, name, ident):
-        self.v.add(FIND, name, find(self.image, ident), [], [ident])
-
-    def request(self, name, now=2000, ms=0, **more):
-        """A request so many milliseconds after a second, or at now_ms."""
-        q = dict(id=bytes(range(16)), fay=FAY, terminal=T, resource=T + "/a/b", mode=0, now_ms=1000 * now + ms, session=100)
-        q.update(revoked=b"", leases=b"", verdict=0, valid=(0, 0, 0))
-        q.update(more)
-        numbers = [q["mode"], q["now_ms"], q["session"], q["verdict"], *q["valid"]]
-        strings = [q["id"], q["fay"].encode(), q["terminal"].encode(), q["resource"].encode(), q["revoked"], q["leases"]]
-        self.v.add(REQUEST, name, request(self.image, q), numbers, strings)
-
-
-def ident(i):
-    return i.to_bytes(2, "big") + bytes(13) + bytes([i % 251])
-
-
-def revocation(moment, i=bytes(range(16))):
-    """A row of the revocation list, of the id that most requests have."""
-    return i + moment.to_bytes(8, "big")
-
-
-def made(i, **more):
-    return encode(payload(descriptor_id=ident(i), **more))
 
 
 def images(r):
@@ -87,60 +28,73 @@ def images(r):
     r.new("new image in 8 bytes")
     r.find("lookup in an empty image", ident(1))
     r.submit("submission to an image of 8 bytes", base)
-    two = [base, other]
-    good = image_of(two, 40)
-    r.load("image of two bodies, and 40 bytes after", good)
+    for edition in (SECOND, FIRST):
+        lookups(r, edition, [base, other])
+        broken_images(r, edition, [base, other])
+
+
+def lookups(r, edition, two):
+    r.load(f"image of edition {edition.number} of two bodies, and 40 bytes after", image_of(two, 40, edition))
     r.find("lookup of the first", bytes(range(16)))
     r.find("lookup of the second", bytes(16))
     r.find("lookup of another", ident(9))
     r.find("lookup of 15 bytes", bytes(15))
     r.find("lookup of 17 bytes", bytes(17))
-    r.load("the image alone", image_of(two))
+    r.load("the image alone", image_of(two, edition=edition))
     r.find("lookup in it", bytes(16))
-    end = len(image_of(two))
-    broken = [
-        ("image edition 0", [(1, 0)]),
-        ("image edition 2", [(1, 2)]),
-        ("image edition 257", [(0, 1)]),
-        ("mode edition 0", [(3, 0)]),
-        ("mode edition 2", [(3, 2)]),
-        ("a row less in the count", [(5, 1)]),
-        ("a row more in the count", [(5, 3)]),
-        ("65 rows in the count", [(5, 65)]),
-        ("256 rows more in the count", [(4, 1)]),
-        ("header not zero, first", [(6, 1)]),
-        ("header not zero, last", [(7, 1)]),
-        ("id of the first row", [(8, 1)]),
-        ("id of the second row, last byte", [(40 + 15, 1)]),
-        ("offset off by one", [(8 + 19, (8 + 64 + 1))]),
-        ("offset of the second off by a row", [(40 + 19, (number(good, 40 + 16, 4) + 32) % 256)]),
-        ("offset's highest byte", [(8 + 16, 1)]),
-        ("length one less", [(8 + 23, number(good, 8 + 20, 4) % 256 - 1)]),
-        ("length one more", [(40 + 23, number(good, 40 + 20, 4) % 256 + 1)]),
-        ("length's highest byte", [(8 + 20, 255)]),
-        ("mask without a mode", [(40 + 24, 1)]),
-        ("mask with a mode more", [(8 + 24, 3)]),
-        ("mask 0", [(8 + 24, 0)]),
-    ]
-    broken += [(f"row not zero, byte {i}", [(8 + i, 1)]) for i in range(25, 32)]
-    broken += [
-        ("first byte of a body", [(72, 0xA2)]),
-        ("last byte of a body's key", [(72 + 8, 0)]),
-        ("a byte after the image", [(end, 1)]),
-    ]
-    for name, change in broken:
-        r.load(name, image_of(two, 40, change=change))
+
+
+def changed_bytes(edition, good):
+    """A name and changes of the bytes of an image of two bodies, each of which breaks it but for the last."""
+    n, first = edition.number, HEADER
+    second, bodies = first + edition.row, first + 2 * edition.row
+    yield "image edition 0", [(1, 0)]
+    yield "image edition 3", [(1, 3)]
+    yield f"image edition {3 - n}, and rows of edition {n}", [(1, 3 - n)]
+    yield f"image edition {256 + n}", [(0, 1)]
+    yield "mode edition 0", [(3, 0)]
+    yield "mode edition 2", [(3, 2)]
+    yield "a row less in the count", [(5, 1)]
+    yield "a row more in the count", [(5, 3)]
+    yield f"{edition.most + 1} rows in the count", [(4, (edition.most + 1) // 256), (5, (edition.most + 1) % 256)]
+    yield "256 rows more in the count", [(4, 1)]
+    yield "header not zero, first", [(6, 1)]
+    yield "header not zero, last", [(7, 1)]
+    yield "id of the first row", [(first, 1)]
+    yield "id of the second row, last byte", [(second + 15, 1)]
+    yield "offset off by one", [(first + 19, bodies + 1)]
+    yield "offset of the second off by a row", [(second + 19, (number(good, second + 16, 4) + edition.row) % 256)]
+    yield "offset's highest byte", [(first + 16, 1)]
+    yield "length one less", [(first + 23, number(good, first + 20, 4) % 256 - 1)]
+    yield "length one more", [(second + 23, number(good, second + 20, 4) % 256 + 1)]
+    yield "length's highest byte", [(first + 20, 255)]
+    yield "mask without a mode", [(second + 24, 1)]
+    yield "mask with a mode more", [(first + 24, 3)]
+    yield "mask 0", [(first + 24, 0)]
+    for i in range(25, 32):
+        yield f"row not zero, byte {i}", [(first + i, 1)]
+    yield "first byte of a body", [(bodies, 0xA2)]
+    yield "last byte of a body's key", [(bodies + 8, 0)]
+    yield "a byte after the image", [(len(good), 1)]
+
+
+def broken_images(r, edition, two):
+    good = image_of(two, edition=edition)
+    end, bodies = len(good), HEADER + 2 * edition.row
+    for name, change in changed_bytes(edition, good):
+        r.load(name, image_of(two, 40, edition, change=change))
         r.find("lookup in it", bytes(range(16)))
         r.submit("submission to it", made(5))
         r.request("request to it")
-    r.load("the same body twice", image_of([base, base], 40))
+    base = two[0]
+    r.load("the same body twice", image_of([base, base], 40, edition))
     r.find("lookup in it", bytes(range(16)))
-    r.load("two bodies with one id", image_of([base, encode(payload(not_after=2999))], 40))
+    r.load("two bodies with one id", image_of([base, encode(payload(not_after=2999))], 40, edition))
     r.find("lookup in it", bytes(range(16)))
-    r.load("a body with too long a period", image_of([encode(payload(not_after=2000 + 7776001))], 40))
+    r.load("a body with too long a period", image_of([encode(payload(not_after=2000 + 7776001))], 40, edition))
     r.find("lookup in it", bytes(range(16)))
-    for cut in (1, len(other), len(other) + 1, end - 8 - 64, end - 8 - 63, end - 7):
-        r.load(f"cut by {cut} bytes", image_of(two)[: end - cut])
+    for cut in (1, len(two[1]), len(two[1]) + 1, end - bodies, end - bodies + 1, end - HEADER + 1):
+        r.load(f"cut by {cut} bytes", good[: end - cut])
         r.find("lookup in it", bytes(range(16)))
 
 
@@ -183,7 +137,7 @@ def submissions(r):
     r.submit("no image, no descriptor", b"")
     r.submit("no image, no such key", fine, verdict=2)
     # both sides of each line
-    r.load("3,000 bytes", b"\xdd" * 3000)
+    r.load("4,000 bytes", b"\xdd" * 4000)
     r.new("new image")
     r.submit("not_before = now + 86,400", far, now=4 * DAY)
     r.submit("key valid from now on", made(6), valid=(2000, 0, 0))
@@ -202,19 +156,20 @@ def submissions(r):
     r.lend("one byte more", size)
     r.submit("room", base)
     r.find("lookup of it", bytes(range(16)))
-    # every row
+    # more rows than an image of edition 1 may have
     bodies = [made(100 + i, grants=[grant(["read", "write", "execute", "configure"][i % 4 : i % 4 + 1], T + f"/r/{i}")]) for i in range(65)]
-    r.load("30,000 bytes", b"\x55" * 30000)
+    r.lend("32,000 bytes", 32000)
     r.new("new image")
-    for i in range(64):
-        r.submit(f"row {i + 1}", bodies[i])
-    r.submit("row 65", bodies[64])
+    for i in range(65):
+        r.submit(f"row {i + 1}", bodies[i], must=0)
     r.submit("row 1 again", bodies[0])
-    r.submit("row 64 again", bodies[63])
+    r.submit("row 65 again", bodies[64])
     r.submit("row 1 with other bytes", made(100))
     for i in (0, 1, 31, 62, 63, 64):
         r.find(f"lookup of row {i + 1}", ident(100 + i))
+    r.find("lookup of another", ident(165))
     r.request("request to row 64", id=ident(163), resource=T + "/r/63", mode=3)
+    r.request("request to row 65", id=ident(164), resource=T + "/r/64")
     r.request("request to row 1", id=ident(100), resource=T + "/r/0")
 
 

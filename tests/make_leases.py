@@ -6,9 +6,10 @@ The descriptors and the expected output are made as those of make_gate.py, by th
 from datetime import datetime
 
 from make_descriptors import FAY, encode
-from make_gate import LAST, LAST_SECOND, Run, ident, made, revocation
+from make_gate import LAST, LAST_SECOND
 from make_matching import T, U
 from ordinary_gate import DAY, LAST_MOMENT, LENGTHS_END, MOST_ALLOWED, lease, number
+from runs import Run, ident, made, revocation
 
 # the id that a request has where it names none
 ID = bytes(range(16))

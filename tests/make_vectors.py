@@ -12,6 +12,7 @@ from make_items import items
 from make_leases import leases
 from make_matching import matching
 from make_narrowing import narrowing
+from make_store import store
 from records import Vectors
 
 v = Vectors()
@@ -22,6 +23,7 @@ GROUPS = (
     ("Narrowing", narrowing),
     ("The gate", gate),
     ("Leases", leases),
+    ("The store of a thousand", store),
 )
 for name, group in GROUPS:
     v.heading("# " + name)

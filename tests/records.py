@@ -15,10 +15,14 @@ with their arguments in its order:
   8 cap_image_find
   9 cap_submit
   10 cap_request
+  11 cap_image_upgrade: the string is the old image, the lent image the second buffer
+  12 cap_submit for so many descriptors as the first number says: the string, with 1, 2, 3 and so on in the last four bytes of its id, which is at the
+     second number. The clock is the third number, and the fourth more at each; the verdict is 0, and the key is always valid. The answer is the last one's
+Calls 6, 7 and 9 to 12 also write the lent image after them: its length, the rows that its header names, and a sum over its bytes.
 The image stays from record to record. An answer is written behind the name, with every number by its name in include/cap.h, a part as its
 length (a map's as its pairs) and its place, and a margin with its sign; where all numbers but the first are 0 it says so.
 """
-HEADING, ITEM, DESCRIPTOR, GRANT, MATCH, NARROW, LEND, NEW, FIND, SUBMIT, REQUEST = range(11)
+HEADING, ITEM, DESCRIPTOR, GRANT, MATCH, NARROW, LEND, NEW, FIND, SUBMIT, REQUEST, UPGRADE, FILL = range(13)
 
 
 class Vectors:

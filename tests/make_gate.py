@@ -6,7 +6,7 @@ submission and request of ordinary_gate.py.
 from make_descriptors import FAY, MODES, encode, grant, payload
 from make_matching import T, U
 from ordinary_gate import DAY, FIRST, HEADER, LAST_MOMENT, SECOND, image_of, number
-from runs import Run, ident, made, revocation
+from runs import ident, made, revocation
 
 LAST = 2**64 - 1
 # the second of the last millisecond that a request's clock may have
@@ -405,8 +405,7 @@ def most_exact_grants(r):
         r.request(f"256 grants {order}, tie of 7 names", id=ident(i), resource=T + "/n" * 8, mode=1)
 
 
-def gate(v):
-    r = Run(v)
+def gate(r):
     groups = (
         ("Images", images),
         ("Submissions", submissions),
@@ -415,5 +414,5 @@ def gate(v):
         ("Most exact grants", most_exact_grants),
     )
     for heading, calls in groups:
-        v.heading("## " + heading)
+        r.v.heading("## " + heading)
         calls(r)

@@ -9,7 +9,7 @@ from make_descriptors import FAY, encode
 from make_gate import LAST, LAST_SECOND
 from make_matching import T, U
 from ordinary_gate import DAY, LAST_MOMENT, LENGTHS_END, MOST_ALLOWED, lease, number
-from runs import Run, ident, made, revocation
+from runs import ident, made, revocation
 
 # the id that a request has where it names none
 ID = bytes(range(16))
@@ -261,8 +261,7 @@ def order(r):
     r.request("no image, and lease revoked", leases=row(flag=1))
 
 
-def leases(v):
-    r = Run(v)
+def leases(r):
     groups = (
         ("Source 001's test vectors", published),
         ("Boundaries of a lease", boundaries),
@@ -272,5 +271,5 @@ def leases(v):
         ("Lease steps in order", order),
     )
     for heading, calls in groups:
-        v.heading("## " + heading)
+        r.v.heading("## " + heading)
         calls(r)

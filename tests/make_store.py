@@ -8,7 +8,7 @@ from make_gate import LAST, LAST_SECOND
 from make_leases import states
 from make_matching import T, U
 from ordinary_gate import FIRST, HEADER, LAST_MOMENT, SECOND, image_of, number, read_once, sound
-from runs import Run, ident, made, numbered, revocation
+from runs import ident, made, numbered, revocation
 
 # the clock of most submissions, and the ends of validity of rows that are expired and not expired then
 NOW, OVER, VALID = 2500, 2400, 3000
@@ -406,8 +406,7 @@ def refused_upgrades(r):
     r.upgrade("upgrade of no body, 7 bytes as buffer", image_of([], 0, FIRST), must=17)
 
 
-def store(v):
-    r = Run(v)
+def store(r):
     groups = (
         ("Room for a submission", room),
         ("Least recently used first", order),
@@ -423,5 +422,5 @@ def store(v):
         ("Upgrades that are refused", refused_upgrades),
     )
     for heading, calls in groups:
-        v.heading("## " + heading)
+        r.v.heading("## " + heading)
         calls(r)

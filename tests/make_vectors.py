@@ -14,20 +14,23 @@ from make_matching import matching
 from make_narrowing import narrowing
 from make_store import store
 from records import Vectors
+from runs import Run
 
 v = Vectors()
+# one image for all calls on one, as the program has it
+r = Run(v)
 GROUPS = (
-    ("Items", items),
-    ("Matching", matching),
-    ("Descriptors", descriptors),
-    ("Narrowing", narrowing),
-    ("The gate", gate),
-    ("Leases", leases),
-    ("The store of a thousand", store),
+    ("Items", items, v),
+    ("Matching", matching, v),
+    ("Descriptors", descriptors, v),
+    ("Narrowing", narrowing, v),
+    ("The gate", gate, r),
+    ("Leases", leases, r),
+    ("The store of a thousand", store, r),
 )
-for name, group in GROUPS:
+for name, group, to in GROUPS:
     v.heading("# " + name)
     before = v.cases
-    group(v)
+    group(to)
     print(f"{name}: {v.cases - before} cases")
 v.save(sys.argv[1])

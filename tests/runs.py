@@ -7,7 +7,7 @@ from ordinary_gate import SECOND, find, image_of, number, over, read_once, reque
 from records import FILL, FIND, LEND, NEW, REQUEST, SUBMIT, UPGRADE, summed
 
 # how many bytes the program has for the image, and for the template of a fill
-STORE, TEMPLATE = 1 << 20, 1024
+STORE, TEMPLATE = 1 << 19, 1024
 # fills of at most so many descriptors are also made by that many submissions
 CHECKED = 8
 NEW_IMAGE = bytes.fromhex("0002000100000000")
@@ -41,6 +41,7 @@ class Run:
         self.v.add(LEND, name, self.shown(), [len(self.image)], [s])
 
     def lend(self, name, n):
+        assert n <= STORE, name
         self.store = over(self.store, self.image)
         self.image = self.store[:n]
         self.v.add(LEND, name, self.shown(), [n])

@@ -23,7 +23,7 @@ fn submit(s: &[u8], at: usize, image: &mut [u8]) -> u64 {
     )
 }
 
-fn request(s: &[u8], at: usize, image: &[u8]) {
+fn request(s: &[u8], at: usize, image: &mut [u8]) {
     show::decision(cap::cap_request(
         image,
         part(s, at, 2),
@@ -40,6 +40,48 @@ fn request(s: &[u8], at: usize, image: &[u8]) {
         number(s, at, 6),
         number(s, at, 7),
     ));
+    show::image(image);
+}
+
+// Submits the descriptor so many times, with 1, 2, 3 and so on in the four bytes at the place, each time a step later; the answer is
+// the last one's.
+fn fill(body: &mut [u8], place: usize, count: u64, start: u64, step: u64, image: &mut [u8]) -> u64 {
+    let mut answer: u64 = 0;
+    let mut clock = start;
+    let mut k: u64 = 0;
+    while k < count {
+        k += 1;
+        octets::put_number(body, place, 4, k);
+        answer = cap::cap_submit(image, body, clock, 0, 0, 0, 0);
+        if 18446744073709551615 - step < clock {
+            return answer;
+        }
+        clock += step;
+    }
+    answer
+}
+
+// Fills the image with a descriptor of at most 1,024 bytes; the four bytes are the last of its id.
+fn filled(s: &[u8], at: usize, image: &mut [u8]) -> u64 {
+    let bytes = part(s, at, 2);
+    let len = bytes.len();
+    let id_at = number(s, at, 2);
+    let mut body = [0u8; 1024];
+    if 1024 < len {
+        return 1;
+    }
+    if 1024 < id_at {
+        return 1;
+    }
+    octets::put(&mut body, 0, bytes);
+    fill(
+        &mut body[..len],
+        id_at as usize + 12,
+        number(s, at, 1),
+        number(s, at, 3),
+        number(s, at, 4),
+        image,
+    )
 }
 
 // Makes the call with the number, of the record at the place, on the image, where it takes one.
@@ -49,6 +91,8 @@ fn on_image(call: u64, s: &[u8], at: usize, image: &mut [u8]) {
         8 => show::stored(cap::cap_image_find(image, part(s, at, 2))),
         9 => show::written(submit(s, at, image), image),
         10 => request(s, at, image),
+        11 => show::upgraded(cap::cap_image_upgrade(part(s, at, 2), image), image),
+        12 => show::written(filled(s, at, image), image),
         _ => return,
     }
 }

@@ -9,8 +9,9 @@ fn room() -> [u8; 2097152] {
     [0; 2097152]
 }
 
-fn store() -> [u8; 65536] {
-    [0; 65536]
+// Room for 1,024 rows with the shortest bodies, and more.
+fn store() -> [u8; 524288] {
+    [0; 524288]
 }
 
 // Makes the call of the record at the place, on the first `len` bytes of the image; the answer is how many are lent from then on.

@@ -4,6 +4,7 @@ use cbor_item::ItemNumbers;
 use descriptor::DescriptorNumbers;
 use descriptor::GrantNumbers;
 use image::StoredNumbers;
+use image::Written;
 use narrowing::NarrowingNumbers;
 use request::DecisionNumbers;
 use resource::MatchingNumbers;
@@ -188,5 +189,11 @@ pub(crate) fn image(s: &[u8]) {
 // The answer of a call that may write, and the image after it.
 pub(crate) fn written(n: u64, s: &[u8]) {
     number(b": ", n);
+    image(s);
+}
+
+// The answer of an upgrade, how many bytes it wrote, and the image after it.
+pub(crate) fn upgraded(w: Written, s: &[u8]) {
+    line(b": #, len #", &[w.answer, w.len]);
     image(s);
 }

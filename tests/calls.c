@@ -1,33 +1,13 @@
 /* Each call of include/cap.h with known input: every field of every answer is compared, by its name in the header. The descriptors are made by
- * made.h, a small writer that notes where it puts what; the values are all different, so that two fields of the header cannot be exchanged unnoticed. */
+ * made.h, a small writer that notes where it puts what; the values are all different, so that two fields of the header cannot be exchanged unnoticed.
+ * The calls on images other than requests are in stores.h. */
 #include "cap.h"
 #include "made.h"
+#include "same.h"
+#include "stores.h"
 
 #include <stdio.h>
 #include <string.h>
-
-/* ---- comparing */
-
-static const char *what = "";
-static unsigned compared, different;
-
-static void same(const char *field, uint64_t found, uint64_t expected) {
-    compared++;
-    if (found != expected) {
-        different++;
-        printf("%s: %s is %llu, expected %llu\n", what, field, (unsigned long long)found, (unsigned long long)expected);
-    }
-}
-
-#define SAME(answer, field, expected) same(#field, (answer).field, expected)
-
-static void same_margin(int64_t found, int64_t expected) {
-    compared++;
-    if (found != expected) {
-        different++;
-        printf("%s: margin is %lld, expected %lld\n", what, (long long)found, (long long)expected);
-    }
-}
 
 /* ---- the calls */
 
@@ -186,67 +166,6 @@ static void matchings(void) {
     matched(T "/d", "", (cap_matching){.answer = 15});
 }
 
-/* The descriptor that is stored: read on the door, write and execute on what is below a. */
-static const fields stored = {
-    .grants = {{"0", T "/door", 0}, {"12", T "/a/**", 0}},
-    .issued_at = 1000,
-    .not_before = 2000,
-    .not_after = 3000,
-    .id = 7,
-    .signature_len = 64,
-};
-
-static void found(const char *name, const uint8_t *image, size_t n, size_t id_len, uint8_t id, cap_stored expected) {
-    uint8_t key[17];
-    memset(key, id, 17);
-    what = name;
-    cap_stored s = cap_image_find(image, n, key, id_len);
-    SAME(s, answer, expected.answer);
-    SAME(s, body_at, expected.body_at);
-    SAME(s, body_len, expected.body_len);
-}
-
-static void submitted(const char *name, uint8_t *image, size_t n, const bytes *b, uint64_t now, uint64_t verdict, uint64_t from, uint64_t has, uint64_t until,
-                      uint64_t expected) {
-    what = name;
-    same("answer", cap_submit(image, n, b->at, b->len, now, verdict, from, has, until), expected);
-}
-
-static void images(void) {
-    static uint8_t image[4096];
-    static bytes b, c;
-    fields f = stored;
-    what = "a new image";
-    same("answer of 7 bytes", cap_image_new(image, 7), 17);
-    same("answer of 8 bytes", cap_image_new(image, 8), 0);
-    same("its bytes", memcmp(image, "\0\1\0\1\0\0\0\0", 8) == 0, 1);
-    make(&b, &f);
-    found("an id of 17 bytes", image, sizeof image, 17, 7, (cap_stored){.answer = 15});
-    found("bytes that are no image", b.at, b.len, 16, 7, (cap_stored){.answer = 16});
-    found("an id that is not held", image, sizeof image, 16, 7, (cap_stored){.answer = 7});
-    submitted("a verdict of 3", image, sizeof image, &b, 2500, 3, 0, 0, 0, 15);
-    submitted("no image", b.at, b.len, &c, 2500, 0, 0, 0, 0, 16);
-    submitted("no bytes", image, sizeof image, &c, 2500, 0, 0, 0, 0, 1);
-    submitted("a descriptor", image, sizeof image, &b, 2500, 0, 0, 0, 0, 0);
-    found("the body that was stored", image, sizeof image, 16, 7, (cap_stored){.answer = 0, .body_at = 40, .body_len = b.len});
-    submitted("the same bytes", image, sizeof image, &b, 2500, 0, 0, 0, 0, 0);
-    f.not_after = 3001;
-    make(&b, &f);
-    submitted("other bytes under the id", image, sizeof image, &b, 2500, 0, 0, 0, 0, 5);
-    f.id = 8;
-    make(&b, &f);
-    submitted("no such key", image, sizeof image, &b, 2500, 2, 0, 0, 0, 3);
-    submitted("before the key's window", image, sizeof image, &b, 2500, 0, 2501, 0, 0, 14);
-    submitted("after the key's window", image, sizeof image, &b, 2500, 0, 0, 9, 2499, 14);
-    submitted("at the end of the key's window, bad signature", image, sizeof image, &b, 2500, 1, 0, 9, 2500, 4);
-    submitted("no room", image, 40 + b.len + 31 + b.len, &b, 2500, 0, 0, 0, 0, 6);
-    f.not_before = 90000;
-    f.not_after = 90001;
-    make(&b, &f);
-    submitted("a day and a second ahead", image, sizeof image, &b, 3599, 0, 0, 0, 0, 2);
-    submitted("a day ahead", image, sizeof image, &b, 3600, 0, 0, 0, 0, 0);
-}
-
 /* A request: what differs from one that is granted. */
 typedef struct asked {
     const char *name;
@@ -265,7 +184,7 @@ static const uint8_t revoked[] = {
     7, 7, 7, 7, 7, 7, 7, 7, 7, 7, 7, 7, 7, 7, 7, 7, 0, 0, 0, 0, 0, 0, 2500 / 256, 2500 % 256,
 };
 
-static void decided(const uint8_t *image, size_t n, const asked *q, const uint8_t *leases, size_t leases_len) {
+static void decided(uint8_t *image, size_t n, const asked *q, const uint8_t *leases, size_t leases_len) {
     uint8_t id[16];
     memset(id, q->id, 16);
     what = q->name;
@@ -310,7 +229,42 @@ static void requests(void) {
     asked q = all[0];
     q.name = "bad image";
     q.expected = (cap_decision){.answer = 16};
-    decided(image, 8 + 31, &q, CAP_EMPTY, 0);
+    decided(image, 8 + 39, &q, CAP_EMPTY, 0);
+}
+
+/* The stored descriptor is asked for at a clock, and the answer is compared; so is the moment at which it was last used after it, and that no other byte of the
+ * image changes. */
+static void used(const char *name, uint8_t *image, size_t n, uint64_t mode, uint64_t now_ms, uint64_t answer, uint64_t moment) {
+    static uint8_t expected[4096];
+    asked q = {name, 7, FAY, T, T "/a/b", mode, now_ms, 0, 0, 0, 0, 0, {.answer = answer}};
+    if (answer == CAP_DONE) {
+        q.expected = (cap_decision){.answer = 0, .grant = 1, .mask = 6, .session_end = now_ms / 1000 + 77};
+    }
+    memcpy(expected, image, n);
+    for (int place = 0; place < 8; place++) {
+        expected[MOMENT_AT + place] = (uint8_t)(moment >> (56 - 8 * place));
+    }
+    decided(image, n, &q, CAP_EMPTY, 0);
+    same("the image after it", memcmp(image, expected, n) == 0, 1);
+}
+
+/* A request that is granted raises the last-used moment of the row, in an image of edition 2; no other request changes a byte. */
+static void uses(void) {
+    static uint8_t image[4096], before[4096];
+    static bytes b, old;
+    make(&b, &stored);
+    put_first_edition(&old, &b, stored.id, 7);
+    cap_image_new(image, sizeof image);
+    submitted("stored to be used", image, sizeof image, &b, 2300, 0, 0, 0, 0, 0);
+    used("granted in the second in which it was stored", image, sizeof image, 2, 2300999, 0, 2300);
+    used("granted later", image, sizeof image, 2, 2557123, 0, 2557);
+    used("granted by an earlier clock", image, sizeof image, 2, 2400000, 0, 2557);
+    used("refused later", image, sizeof image, 3, 2600000, 13, 2557);
+    used("malformed", image, sizeof image, 4, 2600000, 15, 2557);
+    memcpy(before, old.at, old.len);
+    asked q = {"granted on an image of edition 1", 7, FAY, T, T "/a/b", 2, 2500000, 0, 0, 0, 0, 0, {.answer = 0, .grant = 1, .mask = 6, .session_end = 2577}};
+    decided(old.at, old.len, &q, CAP_EMPTY, 0);
+    same("the image is unchanged", memcmp(old.at, before, old.len) == 0, 1);
 }
 
 /* A request at a clock with a table of two rows: another id, then this lease. */
@@ -321,7 +275,7 @@ typedef struct leased {
     cap_decision expected;
 } leased;
 
-static void check_leased(const uint8_t *image, size_t n, const leased *q) {
+static void check_leased(uint8_t *image, size_t n, const leased *q) {
     static bytes table;
     const lease other = {9, 1, 1, 2, 3, 4, 5};
     asked a = {q->name, 7, FAY, T, T "/a/b", 2, q->now_ms, 0, q->verdict, 0, 0, 0, q->expected};
@@ -377,7 +331,7 @@ typedef struct named {
     uint64_t mode, grant, mask;
 } named;
 
-static void check_named(const uint8_t *image, size_t n, const named *q) {
+static void check_named(uint8_t *image, size_t n, const named *q) {
     asked a = {q->name, q->id, FAY, T, q->resource, q->mode, 2500000, 0, 0, 0, 0, 0, {.answer = 0, .grant = q->grant, .mask = q->mask, .session_end = 2577}};
     decided(image, n, &a, CAP_EMPTY, 0);
 }
@@ -452,7 +406,10 @@ int main(void) {
     descriptors();
     matchings();
     images();
+    removals();
+    upgrades();
     requests();
+    uses();
     leases();
     named_grants();
     narrowings();

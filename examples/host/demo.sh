@@ -61,10 +61,17 @@ must() {
     checked=$((checked + 1))
 }
 
-# unchanged FILE COPY: a refusal has left the file as it was.
+# unchanged FILE COPY: the file is as it was.
 unchanged() {
     cmp -s "$1" "$2" || mismatch "$1 must be unchanged"
     printf '  [%s is unchanged]\n' "$1"
+}
+
+# one_moment FILE COPY: of the file only the last-used moment of its first descriptor has changed, 8 bytes from 40 on.
+one_moment() {
+    cmp -s "$1" "$2" && mismatch "$1 must have changed"
+    cmp -s <(head -c 40 "$1") <(head -c 40 "$2") && cmp -s <(tail -c +49 "$1") <(tail -c +49 "$2") || mismatch "only 8 bytes of $1 may have changed"
+    printf '  [of %s 8 bytes have changed]\n' "$1"
 }
 
 heading 'A new image'
@@ -125,6 +132,17 @@ ask() {
     shift 6
     must "${expected[@]}" -- request image keys.txt "$id$id_end" "$fay" "$at" "$resource" "$mode" "$now" $hour "$@"
 }
+
+heading 'A request that is granted writes the moment of the last use to the image; no other request does'
+cp image image.before
+ask 0 "  last used, written: $((start + 2 * hour)) (2026-01-01 02:00:00 UTC)" \
+    -- 01 "$student" "$terminal" "$device/camera/front" read $((start + 2 * hour))
+one_moment image image.before
+cp image image.before
+ask 0 "granted: read of \"$device/camera/front\"" -- 01 "$student" "$terminal" "$device/camera/front" read $((start + hour))
+unchanged image image.before
+ask 1 'refused: E_AUTHORIZATION_INSUFFICIENT (13)' -- 02 "$staff" "$terminal" "$device/door/main" execute $((start + day))
+unchanged image image.before
 
 heading 'Requests that are granted'
 ask 0 "granted: read of \"$device/furnace/temperature\"" '  grant 1' "    pattern: \"$device/furnace/temperature\"" '    modes: read' \
@@ -226,10 +244,62 @@ ask_leased 1 'refused: malformed arguments (15)' -- 01 $((start + hour)) twice-l
 ask 1 'refused: E_DESCRIPTOR_REVOKED (8)' \
     -- 01 "$student" "$terminal" "$device/camera/front" read $((start + hour)) revoked.txt revoked-lease.txt
 
+# ask_camera STATUS LINE... -- IMAGE ID-END NOW: a request to read the front camera, to another image.
+ask_camera() {
+    local lines=()
+    while [ "$1" != -- ]; do
+        lines+=("$1")
+        shift
+    done
+    must "${lines[@]}" -- request "$2" keys.txt "$id$3" "$student" "$terminal" "$device/camera/front" read "$4" $hour
+}
+
+heading 'An image of edition 1 is for requests only, until it is upgraded'
+# first_edition FILE DESCRIPTOR ID-END MASK SIZE: an image file of edition 1 of one descriptor, as the versions before 0.5.0 made it.
+first_edition() {
+    local row
+    row=$(printf '%s%08x%08x%02x%014x' "${id//-/}$3" 40 "$(wc -c <"$2")" "$4" 0)
+    { printf '\0\1\0\1\0\1\0\0' && printf "$(sed 's/../\\x&/g' <<<"$row")" && cat "$2"; } >"$1"
+    truncate -s "$5" "$1"
+}
+first_edition old student.cbor 01 5 1024
+cp old old.before
+ask_camera 0 "granted: read of \"$device/camera/front\"" -- old 01 $((start + hour))
+unchanged old old.before
+must 1 'refused: bad image (16)' \
+    '  hint: the image is of edition 1, which is for requests only; `host upgrade IMAGE SIZE` turns it into one of edition 2' \
+    -- submit old keys.txt guest.cbor $start
+must 1 'refused: output too short (17)' '  step: upgrade' -- upgrade old $((8 + 40 + $(wc -c <student.cbor) - 1))
+must 1 'refused: bad image (16)' '  step: upgrade' -- upgrade image 8192
+unchanged old old.before
+must 0 "upgraded: image of edition 2, 2048 bytes, of which $((8 + 40 + $(wc -c <student.cbor))) are in use" -- upgrade old 2048
+must 1 'refused: bad image (16)' -- upgrade old 2048
+must 0 "stored: descriptor ${id}09" -- submit old keys.txt guest.cbor $start
+ask_camera 0 "  last used, written: $((start + hour)) (2026-01-01 01:00:00 UTC)" -- old 01 $((start + hour))
+ask_camera 0 "granted: read of \"$device/camera/front\"" -- old 09 $((start + hour))
+
+heading 'A full image: expired descriptors make room, the least recently used first; no other does'
+must 0 "new image: $((8 + 2 * 40 + $(cat student.cbor expired.cbor | wc -c))) bytes, no descriptor" \
+    -- new full $((8 + 2 * 40 + $(cat student.cbor expired.cbor | wc -c)))
+must 0 "stored: descriptor ${id}01" -- submit full keys.txt student.cbor $start
+must 0 "stored: descriptor ${id}03" -- submit full keys.txt expired.cbor $start
+ask_camera 1 'refused: E_DESCRIPTOR_EXPIRED (10)' -- full 03 $start
+must 0 "stored: descriptor ${id}0b" "  removed, since it was expired and room was needed: descriptor ${id}03" -- submit full keys.txt child-inside.cbor $start
+ask_camera 1 'refused: E_DESCRIPTOR_NOT_FOUND (7)' -- full 03 $start
+ask_camera 0 "granted: read of \"$device/camera/front\"" "  last used, written: $((start + hour)) (2026-01-01 01:00:00 UTC)" -- full 01 $((start + hour))
+cp full full.before
+must 1 'refused: E_STORAGE_FULL (6)' \
+    "  why: 1,024 descriptors are held, or this one doesn't fit into the image, also without the expired ones" \
+    -- submit full keys.txt child-later.cbor $((start + 30 * day - 1))
+unchanged full full.before
+must 0 "stored: descriptor ${id}0d" "  removed, since it was expired and room was needed: descriptor ${id}0b" \
+    -- submit full keys.txt child-later.cbor $((start + 30 * day))
+ask_camera 1 'refused: E_DESCRIPTOR_EXPIRED (10)' -- full 01 $((start + 30 * day))
+
 heading 'A stored descriptor that someone has changed on the disk'
 must 0 'new image: 2048 bytes, no descriptor' -- new changed 2048
 must 0 "stored: descriptor ${id}01" -- submit changed keys.txt student.cbor $start
-printf '\377' | dd of=changed bs=1 seek=$((8 + 32 + $(wc -c <student.cbor) - 1)) conv=notrunc status=none
+printf '\377' | dd of=changed bs=1 seek=$((8 + 40 + $(wc -c <student.cbor) - 1)) conv=notrunc status=none
 must 1 'refused: E_INVALID_SIGNATURE (4)' '  step: 7, signature validation' \
     -- request changed keys.txt "${id}01" "$student" "$terminal" "$device/furnace/temperature" read $start $hour
 

@@ -10,6 +10,9 @@ enum { ENDED_WELL = 0, ENDED_REFUSED = 1, ENDED_WITH_ERROR = 2 };
 /* IMAGE SIZE: makes a new image file. */
 int command_new(char **arguments, int count);
 
+/* IMAGE SIZE: turns an image file of edition 1 into one of edition 2 that has so many bytes. */
+int command_upgrade(char **arguments, int count);
+
 /* IMAGE KEYS DESCRIPTOR [NOW]: submits a descriptor file to the image file. */
 int command_submit(char **arguments, int count);
 

@@ -17,6 +17,7 @@ typedef struct command {
 /* The commands. */
 static const command commands[] = {
     {"new", 2, 2, command_new, "IMAGE SIZE"},
+    {"upgrade", 2, 2, command_upgrade, "IMAGE SIZE"},
     {"submit", 3, 4, command_submit, "IMAGE KEYS DESCRIPTOR [NOW]"},
     {"request", 9, 11, command_request, "IMAGE KEYS ID FAY TERMINAL RESOURCE MODE NOW SESSION [REVOKED-FILE [LEASE-FILE]]"},
     {"narrow", 2, 2, command_narrow, "PARENT CHILD"},

@@ -3,10 +3,10 @@
 #include <stdio.h>
 #include <stdlib.h>
 
-#include "arguments.h"
 #include "cap.h"
 #include "commands.h"
 #include "files.h"
+#include "image_file.h"
 #include "words.h"
 
 /* Says whether nothing is at the path yet, so that no image is lost; tells it otherwise. */
@@ -45,18 +45,13 @@ static int make_image(const char *path, uint8_t *image, size_t size) {
 
 /* Makes a new image file. */
 int command_new(char **arguments, int count) {
-    uint64_t size = 0;
+    size_t size = 0;
     (void)count;
-    if (!parse_number(arguments[1], &size) || size > FILE_MAX_LEN) {
-        tell_bad_argument("SIZE", arguments[1]);
-        return ENDED_WITH_ERROR;
-    }
-    uint8_t *image = calloc((size_t)size + 1, 1);
+    uint8_t *image = image_buffer(arguments[0], arguments[1], &size);
     if (image == NULL) {
-        tell_error("cannot make a new image", arguments[0], "no memory");
         return ENDED_WITH_ERROR;
     }
-    int ended = make_image(arguments[0], image, (size_t)size);
+    int ended = make_image(arguments[0], image, size);
     free(image);
     return ended;
 }

@@ -6,7 +6,7 @@
 #include "arguments.h"
 #include "cap.h"
 #include "commands.h"
-#include "files.h"
+#include "image_file.h"
 #include "judgement.h"
 #include "keys.h"
 #include "leases.h"
@@ -19,7 +19,7 @@
 
 /* What a request is about. */
 typedef struct request {
-    file_bytes image;
+    image_file stored;
     key_list keys;
     revocation_list revoked;
     lease_table leases;
@@ -36,14 +36,15 @@ typedef struct request {
 
 /* Finds the stored descriptor under the request's id; without one the body stays empty, and the gate says why. */
 static void find_body(request *r) {
-    cap_stored stored = cap_image_find(r->image.bytes, r->image.len, r->id, ID_LEN);
-    r->body = r->image.bytes + stored.body_at;
-    r->body_len = (size_t)stored.body_len;
+    const file_bytes *image = &r->stored.image;
+    cap_stored found = cap_image_find(image->bytes, image->len, r->id, ID_LEN);
+    r->body = image->bytes + found.body_at;
+    r->body_len = (size_t)found.body_len;
 }
 
-/* Asks the gate to decide the request with the host's judgement of the signature. */
-static cap_decision ask_gate(const request *r, const judgement *judged) {
-    return cap_request(r->image.bytes, r->image.len, r->id, ID_LEN, (const uint8_t *)r->fay, strlen(r->fay), (const uint8_t *)r->terminal,
+/* Asks the gate to decide the request with the host's judgement of the signature. The body stays where it is: a grant changes a moment of the image alone. */
+static cap_decision ask_gate(request *r, const judgement *judged) {
+    return cap_request(r->stored.image.bytes, r->stored.image.len, r->id, ID_LEN, (const uint8_t *)r->fay, strlen(r->fay), (const uint8_t *)r->terminal,
                        strlen(r->terminal), (const uint8_t *)r->resource, strlen(r->resource), r->mode, r->now_ms, r->session_length,
                        r->revoked.bytes, r->revoked.len, r->leases.rows.bytes, r->leases.rows.len, judged->verdict, judged->valid_from, judged->has_valid_until,
                        judged->valid_until);
@@ -98,6 +99,14 @@ static void print_request_refusal(const request *r, cap_decision decision, const
     }
 }
 
+/* Replaces the image file where the gate has raised the moment at which the descriptor was last used. Where that fails the error is told, and the request is
+ * granted all the same: what is lost is only in which order expired descriptors are removed. */
+static void save_use(const request *r) {
+    if (image_changed(&r->stored) && image_save(&r->stored)) {
+        print_labelled_moment("last used, written", r->now_ms / SECOND_MS);
+    }
+}
+
 /* Judges the stored descriptor's signature, has the gate decide, and prints the decision. */
 static int decide_request(request *r) {
     find_body(r);
@@ -109,6 +118,7 @@ static int decide_request(request *r) {
     }
     print_granted(r, decision);
     print_judgement(&judged, r->body, r->body_len);
+    save_use(r);
     return ENDED_WELL;
 }
 
@@ -134,17 +144,19 @@ static const char *optional_path(char **arguments, int count, int place) {
     return count > place && strcmp(arguments[place], "-") != 0 ? arguments[place] : NULL;
 }
 
-/* Decides a request for a stored descriptor; the image is read once, so that all steps see the same bytes. */
+/* Decides a request for a stored descriptor; the image is read once, so that all steps see the same bytes, and its lock is held, so that no submission gets
+ * lost when a moment is written. */
 int command_request(char **arguments, int count) {
     request r = {0};
     int ended = ENDED_WITH_ERROR;
-    if (read_request_arguments(arguments, &r) && file_read(arguments[0], &r.image) && keys_read(arguments[1], &r.keys) &&
-        revocations_read(optional_path(arguments, count, 9), &r.revoked) && leases_read(optional_path(arguments, count, 10), &r.leases)) {
+    if (read_request_arguments(arguments, &r) && keys_read(arguments[1], &r.keys) &&
+        revocations_read(optional_path(arguments, count, 9), &r.revoked) && leases_read(optional_path(arguments, count, 10), &r.leases) &&
+        image_open(arguments[0], &r.stored)) {
         ended = decide_request(&r);
     }
     leases_free(&r.leases);
     revocations_free(&r.revoked);
     keys_free(&r.keys);
-    file_free(&r.image);
+    image_close(&r.stored);
     return ended;
 }

@@ -6,14 +6,14 @@
 #include "cap.h"
 #include "commands.h"
 #include "files.h"
+#include "image_file.h"
 #include "judgement.h"
 #include "keys.h"
 #include "words.h"
 
 /* What a submission is about. */
 typedef struct submission {
-    const char *image_path;
-    file_bytes image;
+    image_file stored;
     key_list keys;
     file_bytes descriptor;
     uint64_t now;
@@ -23,7 +23,15 @@ typedef struct submission {
 static bool id_is_held(const submission *s) {
     cap_descriptor read = cap_descriptor_read(s->descriptor.bytes, s->descriptor.len);
     return read.answer == CAP_DONE &&
-           cap_image_find(s->image.bytes, s->image.len, s->descriptor.bytes + read.id_at, ID_LEN).answer == CAP_DONE;
+           cap_image_find(s->stored.image.bytes, s->stored.image.len, s->descriptor.bytes + read.id_at, ID_LEN).answer == CAP_DONE;
+}
+
+/* Prints how to go on with an image that takes no submission: where a lookup finds it sound it is of edition 1. */
+static void print_upgrade_hint(const submission *s) {
+    static const uint8_t any_id[ID_LEN] = {0};
+    if (cap_image_find(s->stored.image.bytes, s->stored.image.len, any_id, ID_LEN).answer != CAP_BAD_IMAGE) {
+        puts("  hint: the image is of edition 1, which is for requests only; `host upgrade IMAGE SIZE` turns it into one of edition 2");
+    }
 }
 
 /* Prints the first line of a submission that the gate took. */
@@ -43,55 +51,43 @@ static void print_submission_refusal(const submission *s, uint64_t answer, const
     if (answer == CAP_VERIFICATION_KEY_INVALID || answer == CAP_VALIDITY_OUT_OF_RANGE) {
         print_labelled_moment("now", s->now);
     }
+    if (answer == CAP_BAD_IMAGE) {
+        print_upgrade_hint(s);
+    }
 }
 
 /* Submits the descriptor to the image in memory, and replaces the image file where the image has changed. */
 static int decide_submission(submission *s) {
     bool held = id_is_held(s);
     judgement judged = judge_signature(&s->keys, s->descriptor.bytes, s->descriptor.len);
-    uint64_t answer = cap_submit(s->image.bytes, s->image.len, s->descriptor.bytes, s->descriptor.len, s->now, judged.verdict,
+    uint64_t answer = cap_submit(s->stored.image.bytes, s->stored.image.len, s->descriptor.bytes, s->descriptor.len, s->now, judged.verdict,
                                  judged.valid_from, judged.has_valid_until, judged.valid_until);
     if (answer != CAP_DONE) {
         print_submission_refusal(s, answer, &judged);
         return ENDED_REFUSED;
     }
-    if (!held && !file_replace(s->image_path, s->image.bytes, s->image.len)) {
+    if (!image_save(&s->stored)) {
         return ENDED_WITH_ERROR;
     }
     print_taken(s, held ? "held already" : "stored");
     print_judgement(&judged, s->descriptor.bytes, s->descriptor.len);
+    print_removed(&s->stored);
     return ENDED_WELL;
 }
 
-/* Reads the image file and decides the submission, with the image's lock held, so that no other submission gets lost. */
-static int submit_under_lock(submission *s) {
-    if (!file_exists(s->image_path)) {
-        tell_error("cannot open", s->image_path, "no such file");
-        return ENDED_WITH_ERROR;
-    }
-    int lock = file_lock(s->image_path);
-    if (lock < 0) {
-        return ENDED_WITH_ERROR;
-    }
-    int ended = file_read(s->image_path, &s->image) ? decide_submission(s) : ENDED_WITH_ERROR;
-    file_unlock(lock);
-    return ended;
-}
-
-/* Submits a descriptor file to the image file. */
+/* Submits a descriptor file to the image file; the image's lock is held, so that no other change of the image gets lost. */
 int command_submit(char **arguments, int count) {
     submission s = {0};
     const char *clock_text = count > 3 ? arguments[3] : "now";
     int ended = ENDED_WITH_ERROR;
-    s.image_path = arguments[0];
     if (!parse_clock(clock_text, &s.now)) {
         tell_bad_argument("NOW", clock_text);
         return ENDED_WITH_ERROR;
     }
-    if (keys_read(arguments[1], &s.keys) && file_read(arguments[2], &s.descriptor)) {
-        ended = submit_under_lock(&s);
+    if (keys_read(arguments[1], &s.keys) && file_read(arguments[2], &s.descriptor) && image_open(arguments[0], &s.stored)) {
+        ended = decide_submission(&s);
     }
-    file_free(&s.image);
+    image_close(&s.stored);
     file_free(&s.descriptor);
     keys_free(&s.keys);
     return ended;

@@ -9,8 +9,8 @@
 #include <stddef.h>
 #include <stdint.h>
 
-/* The most bytes that the host reads from a file or gives an image; an image with 64 bodies of the greatest length has about 2 MiB. */
-#define FILE_MAX_LEN ((size_t)16 * 1024 * 1024)
+/* The most bytes that the host reads from a file or gives an image; one with 1,024 bodies of the greatest length has 33,595,400. */
+#define FILE_MAX_LEN ((size_t)40 * 1024 * 1024)
 
 /* The bytes of a file. After a successful read `bytes` is never null and has room for one byte more than `len`; free it with file_free. */
 typedef struct file_bytes {

@@ -32,7 +32,7 @@ static const answer_words answers[] = {
     [CAP_UNKNOWN_ISSUER] = {"E_UNKNOWN_ISSUER", "no key is known under this id for this issuer and algorithm"},
     [CAP_INVALID_SIGNATURE] = {"E_INVALID_SIGNATURE", "the signature isn't the key's signature of the payload"},
     [CAP_DUPLICATE_DESCRIPTOR_ID] = {"E_DUPLICATE_DESCRIPTOR_ID", "other bytes are held under this id"},
-    [CAP_STORAGE_FULL] = {"E_STORAGE_FULL", "64 descriptors are held, or this one doesn't fit into the image"},
+    [CAP_STORAGE_FULL] = {"E_STORAGE_FULL", "1,024 descriptors are held, or this one doesn't fit into the image, also without the expired ones"},
     [CAP_DESCRIPTOR_NOT_FOUND] = {"E_DESCRIPTOR_NOT_FOUND", "no descriptor is held under this id"},
     [CAP_DESCRIPTOR_REVOKED] = {"E_DESCRIPTOR_REVOKED", "a row of the revocation list has the id, and its moment is not after now"},
     [CAP_DESCRIPTOR_NOT_YET_VALID] = {"E_DESCRIPTOR_NOT_YET_VALID", "the descriptor isn't valid yet"},
@@ -42,8 +42,8 @@ static const answer_words answers[] = {
     [CAP_AUTHORIZATION_INSUFFICIENT] = {"E_AUTHORIZATION_INSUFFICIENT", "no grant has the mode, a matching pattern and no constraint"},
     [CAP_VERIFICATION_KEY_INVALID] = {"E_VERIFICATION_KEY_INVALID", "no key is known, or the clock is outside the key's window"},
     [CAP_MALFORMED_ARGUMENTS] = {"malformed arguments", "an id, the resource, a number or the lease table isn't of the form that the gate asks for"},
-    [CAP_BAD_IMAGE] = {"bad image", "the file isn't a sound image"},
-    [CAP_OUTPUT_TOO_SHORT] = {"output too short", "the image has no room for its header of 8 bytes"},
+    [CAP_BAD_IMAGE] = {"bad image", "the file isn't a sound image of an edition that this command takes"},
+    [CAP_OUTPUT_TOO_SHORT] = {"output too short", "the image needs more bytes"},
     [CAP_PERIOD_NOT_INSIDE] = {"period not inside", "the child is valid at a moment at which the parent isn't"},
     [CAP_CONSTRAINT_PRESENT] = {"constraint present", "a grant of the parent or of the child has a constraint"},
     [CAP_GRANT_NOT_COVERED] = {"grant not covered", "a grant of the child admits a path that the parent doesn't admit"},
@@ -146,6 +146,7 @@ static const char *step_of(enum asked_call call, uint64_t answer) {
     case ASKED_REQUEST: return request_step(answer);
     case ASKED_NARROWING: return narrowing_step(answer);
     case ASKED_READING: return "reading";
+    case ASKED_UPGRADE: return "upgrade";
     default: return "new image";
     }
 }

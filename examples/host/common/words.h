@@ -9,7 +9,7 @@
 enum { MODE_COUNT = 4 };
 
 /* The call that an answer came from; the same answer stands for other steps in other calls. */
-enum asked_call { ASKED_NEW_IMAGE, ASKED_READING, ASKED_SUBMISSION, ASKED_REQUEST, ASKED_NARROWING };
+enum asked_call { ASKED_NEW_IMAGE, ASKED_UPGRADE, ASKED_READING, ASKED_SUBMISSION, ASKED_REQUEST, ASKED_NARROWING };
 
 /* The name of a mode, or "unknown mode". */
 const char *mode_name(uint64_t mode);

@@ -45,7 +45,17 @@ pub fn request(
         (requestOf (now (id .entry)) (now (fay .entry)) (now (terminal .entry)) (now (resource .entry)) mode (host .clock)
         (host .session) (now (revoked .entry)) (now (leases .entry)) (host .verdict) (host .window))) ⌝ }
 {
-    match examine::examine(image, id, fay, terminal, resource, mode, revoked, leases, host) {
+    match examine::examine(
+        image,
+        id,
+        fay,
+        terminal,
+        resource,
+        mode,
+        revoked,
+        leases,
+        host,
+    ) {
         Examined::On { row, decision } => {
             if !examine::is_granted(decision) {
                 return decision;

@@ -238,9 +238,13 @@ grant-changes8 s q rs h z =
     let u : Used s q rs = granted-row s q rs (readable s rs h) z in
     let i : ℕ = u .row in
     let e : afterRequest s q ≡ touchedAt edition2 s i (secondsOf q)
-    = after-granted s q z ∙ u .after ∙ ap (λ (l : Layout). touchedAt l s i (secondsOf q)) (header-names .1 s rs h) in
-    (i, u .below, u .named, subst (Frame s (8 + 40 * i + 32) 8) (sym e)
-    (raised-frame s i (secondsOf q) (omega (arith, u .below, h .rows .few))))
+    = after-granted s q z ∙ u .after ∙ ap (λ (l : Layout). touchedAt l s i (secondsOf q)) (header-names .1 s rs h) in (
+      i,
+      u .below,
+      u .named,
+      subst (Frame s (8 + 40 * i + 32) 8) (sym e)
+          (raised-frame s i (secondsOf q) (omega (arith, u .below, h .rows .few))),
+    )
 
 -- ---- the moments decide nothing
 

@@ -23,7 +23,7 @@ use Rattle.image_spec.specs.Removal.{left, Removal}
 use Rattle.image_spec.specs.Readable.{findOf}
 use Rattle.image_spec.specs.Edition2.{imageOf, Holds}
 use Rattle.image_spec.specs.Promises.{answerOf, refusal, FoundAt}
-use Rattle.submission_spec.specs.Submission.{rowNow, submitted, afterOf, numberOf}
+use Rattle.submission_spec.specs.Submission.{submitted, afterOf, numberOf}
 
 -- ---- what is submitted to what
 
@@ -61,6 +61,10 @@ abbrev pub AlwaysMeets : Type 0
 AlwaysMeets = (d b : List ℕ) → AreBytes d → AreBytes b → (s : Stored) × (x : Body) × Meets d b s x
 
 -- ---- room, and the rows that may go for it
+
+-- the row of bytes that are stored now: these bytes, last used now
+abbrev pub newRow : List ℕ → ℕ → Row
+newRow b clock = record { body = b; used = clock }
 
 -- beside the rows there is room for the new one in a buffer of so many bytes: fewer than 1,024 rows are held, and the larger image does not
 -- exceed the buffer
@@ -129,7 +133,7 @@ stepsFor (rows rs) (descriptor c) room clock verdict window =
     ∷ step (leb (window .from .0) clock && (not (window .bounded) || leb clock (window .until .0))) 14
     ∷ step (not (eqb verdict 1)) 4
     ∷ step (isSame (bodyWith (c .payload .id) rs) (encode c)) 5
-    ∷ step (isHeld (bodyWith (c .payload .id) rs) || roomFor room (unexpired clock rs) (rowNow (encode c) clock)) 6
+    ∷ step (isHeld (bodyWith (c .payload .id) rs) || roomFor room (unexpired clock rs) (newRow (encode c) clock)) 6
     ∷ []
 
 -- the number that is answered is that of the first step that fails, or 0
@@ -172,7 +176,7 @@ Gives d b clock verdict window n after = (numberOf (submitted d b clock verdict 
 
 -- the rows with that of the descriptor c, last used now, added last
 abbrev pub larger : List Row → Descriptor → ℕ → List Row
-larger rs c clock = rs ++ (rowNow (encode c) clock ∷ [])
+larger rs c clock = rs ++ (newRow (encode c) clock ∷ [])
 
 -- the image of rows, and beyond it the old bytes of the buffer d
 abbrev pub written : List ℕ → List Row → List ℕ
@@ -201,12 +205,12 @@ pub record LastSteps : Type 0 where
       → Gives d (encode c) clock 0 window 5 d
   pub no-room : (d : List ℕ) (rs : List Row) (c : Descriptor) (clock : ℕ) (window : Window)
       → Ready d rs c clock window → c .payload .notBefore ≤ clock + 86400
-      → bodyWith (c .payload .id) rs ≡ none → roomFor (length d) (unexpired clock rs) (rowNow (encode c) clock) ≡ false
+      → bodyWith (c .payload .id) rs ≡ none → roomFor (length d) (unexpired clock rs) (newRow (encode c) clock) ≡ false
       → Gives d (encode c) clock 0 window 6 d
   pub stores : (d : List ℕ) (rs : List Row) (c : Descriptor) (clock : ℕ) (window : Window)
       → Ready d rs c clock window → c .payload .notBefore ≤ clock + 86400
-      → bodyWith (c .payload .id) rs ≡ none → roomFor (length d) (unexpired clock rs) (rowNow (encode c) clock) ≡ true
-      → (goes : List Bool) × Removal edition2 d clock rs (rowNow (encode c) clock) goes
+      → bodyWith (c .payload .id) rs ≡ none → roomFor (length d) (unexpired clock rs) (newRow (encode c) clock) ≡ true
+      → (goes : List Bool) × Removal edition2 d clock rs (newRow (encode c) clock) goes
       × Gives d (encode c) clock 0 window 0 (written d (larger (left goes rs) c clock))
       × Holds (afterOf d (encode c) clock 0 window) (larger (left goes rs) c clock)
 
@@ -214,7 +218,7 @@ pub record LastSteps : Type 0 where
 abbrev pub RoomKeepsAll : Type 0
 RoomKeepsAll = (d : List ℕ) (rs : List Row) (c : Descriptor) (clock : ℕ) (window : Window) → Ready d rs c clock window
     → c .payload .notBefore ≤ clock + 86400 → bodyWith (c .payload .id) rs ≡ none
-    → roomFor (length d) rs (rowNow (encode c) clock) ≡ true
+    → roomFor (length d) rs (newRow (encode c) clock) ≡ true
     → Gives d (encode c) clock 0 window 0 (written d (larger rs c clock)) × Holds (afterOf d (encode c) clock 0 window) (larger rs c clock)
 
 -- Nothing that is not expired is ever lost: after a submission, whatever it answered, the rows that are not expired are those from before,
@@ -222,7 +226,7 @@ RoomKeepsAll = (d : List ℕ) (rs : List Row) (c : Descriptor) (clock : ℕ) (wi
 abbrev pub UnexpiredKept : Type 0
 UnexpiredKept = (d b : List ℕ) (clock verdict : ℕ) (window : Window) (rs : List Row) → clock < 2 ^ 64 → Holds d rs
     → (qs : List Row) × Holds (afterOf d b clock verdict window) qs
-    × ((unexpired clock qs ≡ unexpired clock rs) ⊎ (unexpired clock qs ≡ unexpired clock rs ++ unexpired clock (rowNow b clock ∷ [])))
+    × ((unexpired clock qs ≡ unexpired clock rs) ⊎ (unexpired clock qs ≡ unexpired clock rs ++ unexpired clock (newRow b clock ∷ [])))
 
 -- what was stored is what a lookup then finds
 abbrev pub StoredFound : Type 0
@@ -256,7 +260,7 @@ OthersFound = (d b : List ℕ) (clock verdict : ℕ) (window : Window) (rs : Lis
 -- not_before = now + 86,400 is stored; one more gives 2
 abbrev pub LeadBoundary : Type 0
 LeadBoundary = (d : List ℕ) (rs : List Row) (c : Descriptor) (clock : ℕ) (window : Window) → Ready d rs c clock window
-    → bodyWith (c .payload .id) rs ≡ none → roomFor (length d) rs (rowNow (encode c) clock) ≡ true
+    → bodyWith (c .payload .id) rs ≡ none → roomFor (length d) rs (newRow (encode c) clock) ≡ true
     → (c .payload .notBefore ≡ clock + 86400
     → (numberOf (submitted d (encode c) clock 0 window) ≡ 0) × Holds (afterOf d (encode c) clock 0 window) (larger rs c clock))
     × (c .payload .notBefore ≡ clock + 86401 → Gives d (encode c) clock 0 window 2 d)

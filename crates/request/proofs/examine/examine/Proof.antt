@@ -98,8 +98,7 @@ on-body-requires c κs =
 returns-2 : tie.Need-returns-2
 returns-2 c =
     let h = c .before .before .before in
-    let e = before-match h .before .before .before in
-    (
+    let e = before-match h .before .before .before in (
       decide-body (at1 e .args .image .now) (asked (at1 e)) (formed e) (checkAnswer h)
           (lease-found (asked (at1 e)) (e .before .before .check .ensures) (unspoilt e)) (c .on-body .ensures),
       λ t. ap (usedBy (at1 e .args .image .now) t) (checkAnswer h),
@@ -108,8 +107,7 @@ returns-2 c =
 returns-3 : tie.Need-returns-3
 returns-3 c =
     let h = c .before .before .before in
-    let k = h .before .before in
-    (
+    let k = h .before .before in (
       decide-missing _ _ (formed (k .before))
           (sym (h .held .given .1 ∙ ap (Sound (h .held .given .0 .0) (h .held .given .0 .1 .0)) (c .enum-told .given .1)) ∙ k .check2 .ensures),
       refl,

@@ -3,3 +3,4 @@ pub mod SlotCode
 pub mod GrowCode
 pub mod CheckCode
 pub mod TouchCode
+pub mod CopyCode

@@ -1,4 +1,5 @@
 // The functions over the stored image. What an image is and what is promised of it is in `image_spec`.
+mod copy;
 mod grow;
 mod moments;
 mod places;
@@ -10,6 +11,7 @@ pub use image_spec::Finding;
 pub use image_spec::Held;
 pub use image_spec::ImageCheck;
 pub use image_spec::StoredNumbers;
+pub use image_spec::Upgrade;
 use image_spec::layout::EDITION_PLACE;
 use image_spec::layout::EDITION1;
 use image_spec::layout::EDITION2;
@@ -21,6 +23,7 @@ ghost use Rattle.octets.specs.Bytes.{PartOf};
 ghost use Rattle.image_spec.specs.Check.{bodySpan, layoutOf};
 ghost use Rattle.image_spec.specs.NewImage.{creationOf};
 ghost use Rattle.image_spec.specs.Touch.{afterTouch};
+ghost use Rattle.image_spec.specs.Upgrade.{upgradeOf, afterUpgrade};
 ghost use Rattle.image_spec.specs.Readable.{checkOf, findOf};
 ghost use Rattle.image_spec.specs.Edition2.{checkOf as checkLatest, afterNew, addedOf, afterAdd};
 
@@ -99,4 +102,13 @@ pub fn touch(image: &mut [u8], row: usize, moment: Seconds)
 {
     let layout = layout_of(image);
     moments::touch(layout, image, row, moment);
+}
+
+// Turns the old image, of edition 1, into one of edition 2 in the buffer. Where the old one is not sound, or the buffer is too short, nothing
+// is written.
+pub fn upgrade(old: &[u8], image: &mut [u8]) -> Upgrade
+    ensures { λ r. ⌜ (r ≡ upgradeOf (now (old .entry)) (now (image .entry)))
+        × (now (image .exit) ≡ afterUpgrade (now (old .entry)) (now (image .entry))) ⌝ }
+{
+    copy::upgrade(EDITION1, EDITION2, old, image)
 }

@@ -55,10 +55,15 @@ places-wider from to w n = omega (arith, mul-le-mul-right n w)
 pub sound-bounds : SoundBounds
 sound-bounds l ok s id bytes n end h e =
     let w : SoundCheck l s id n end h = check-says l ok s id bytes n end h e in
-    let place : rowPlace l n ≡ rowPlace l (length (rowsHeld l s)) = ap (rowPlace l) (w .rows) in (
-      omega (arith, w .rows, w .holds .rows .few),
-      omega (arith, w .ends, image-length l ok (rowsHeld l s)),
-      omega (arith, w .ends, holds-room l ok s (rowsHeld l s) (w .holds)),
+    let rs : List Row = rowsHeld l s in
+    let count : n ≡ length rs = w .rows in
+    let place : rowPlace l n ≡ rowPlace l (length rs) = ap (rowPlace l) count in
+    let few : length rs ≤ mostRows l = w .holds .rows .few in
+    let last : end ≡ rowPlace l (length rs) + length (joined rs) = w .ends ∙ image-length l ok rs in (
+      omega arith,
+      omega arith,
+      omega (arith, w .ends, holds-room l ok s rs (w .holds)),
+      omega (arith, joined-short [] rs (w .holds .rows .each), place-small l ok (length rs) few),
     )
 
 -- ---- the rows

@@ -346,7 +346,7 @@ AfterTouch1 = (s : List ℕ) (rs : List Row) (i t : ℕ) → Holds edition1 s rs
 abbrev pub PlacesWider : Type 0
 PlacesWider = (from to : Layout) → rowSize from ≤ rowSize to → (n : ℕ) → rowPlace from n ≤ rowPlace to n
 
--- an image that a check calls sound has no more rows than there may be, and its bodies begin after them and end in the bytes
+-- an image that a check calls sound has no more rows than there may be, and its bodies begin after them and end in the bytes, below 2 ^ 32
 abbrev pub SoundBounds : Type 0
 SoundBounds = (l : Layout) → LayoutOk l → (s id : List ℕ) → AreBytes s → (n end : ℕ) (h : Held) → checkOf l s id ≡ Sound n end h
-    → (n ≤ mostRows l) × (rowPlace l n ≤ end) × (end ≤ length s)
+    → (n ≤ mostRows l) × (rowPlace l n ≤ end) × (end ≤ length s) × (end < 4294967296)

@@ -1,5 +1,5 @@
 -- `touch` meets its contract. Assumes nothing.
-use mathlib.Core.Path.{_≡_, sym, ap, _∙_, subst}
+use mathlib.Core.Path.{sym, ap, _∙_, subst}
 use Rattle.image_spec.specs.declared.layout.Layout.{Layout}
 use Rattle.image_spec.specs.Layout.{LayoutOk}
 use Rattle.image_spec.specs.Touch.{touchedAt, afterTouch}

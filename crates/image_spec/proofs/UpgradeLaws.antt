@@ -10,7 +10,7 @@ use native.Mathlib.Nat.{zero-add, mul-le-mul-right}
 use lib.ListN.{length, drop, length-append}
 use lib.Dec.{leb, eqb}
 use borrow.Author.Tests.{le-leb, lt-leb, leb-true, leb-false, eqb-true, eqb-false}
-use Rattle.octets.specs.Bytes.{part, Has}
+use Rattle.octets.specs.Bytes.{AreBytes, part, Has}
 use Rattle.octets.specs.Number.{bigEndian, numberIn}
 use Rattle.octets.specs.Write.{over, putAt}
 use Rattle.octets.proofs.BytesLaws.{has-nil, has-left, has-part, has-after, has-both}
@@ -277,36 +277,56 @@ opened : (d : List ℕ) (rs : List Row) → withRows edition2 d rs ≡ imageOf e
 unfolding withRows
 opened d rs = refl
 
+-- an old image that is not a sound one of edition 1
+bad-image : (old d : List ℕ) → AreBytes old → ((rs : List Row) → Holds edition1 old rs → ⊥)
+    → (writtenOf (upgradeOf old d) ≡ record { answer = 16; len = 0 }) × (afterUpgrade old d ≡ d)
+unfolding upgradeOf afterUpgrade
+bad-image old d bytes no-rows =
+    let e : checkOf edition1 old [] ≡ Unsound = check-unsound edition1 edition1-ok old [] bytes .1 no-rows in
+    (ap (λ (v : ImageCheck). writtenOf (upgradeBy edition1 edition2 d v)) e, ap (afterBy edition1 edition2 old d) e)
+
+-- a buffer that is shorter than the new image
+too-short : (old d : List ℕ) (rs : List Row) → Holds edition1 old rs → length d < length (imageOf edition2 rs)
+    → (writtenOf (upgradeOf old d) ≡ record { answer = 17; len = 0 }) × (afterUpgrade old d ≡ d)
+unfolding upgradeOf afterUpgrade
+too-short old d rs h short =
+    let e = told old rs h .1 in
+    let no-room = lt-leb (newLength edition1 edition2 (length rs) (length (imageOf edition1 rs))) (length d) (omega (arith, longer rs)) in (
+      ap (λ (v : ImageCheck). writtenOf (upgradeBy edition1 edition2 d v)) e ∙ rw no-room,
+      ap (afterBy edition1 edition2 old d) e ∙ rw no-room,
+    )
+
+-- what is answered with 0
+abbrev written : ℕ → Written
+written n = record { answer = 0; len = n }
+
+-- a buffer with room for it
+upgraded : (old d : List ℕ) (rs : List Row) → Holds edition1 old rs → length (imageOf edition2 rs) ≤ length d
+    → (writtenOf (upgradeOf old d) ≡ written (length (imageOf edition2 rs))) × (afterUpgrade old d ≡ withRows edition2 d rs)
+unfolding upgradeOf afterUpgrade
+upgraded old d rs h room =
+    let e = told old rs h .1 in
+    let fits = le-leb (newLength edition1 edition2 (length rs) (length (imageOf edition1 rs))) (length d) (omega (arith, longer rs)) in (
+      ap (λ (v : ImageCheck). writtenOf (upgradeBy edition1 edition2 d v)) e
+          ∙ rw fits (ap written (longer rs)),
+      ap (afterBy edition1 edition2 old d) e
+          ∙ rw fits (copied-image edition1 edition2 edition1-ok edition2-ok refl refl old d rs h (unused old rs h) room),
+    )
+
 -- `UpgradeExactly`
 pub upgrade-exactly : UpgradeExactly
-unfolding upgradeOf afterUpgrade
 upgrade-exactly = record {
-  bad-image = λ old d bytes no-rows.
-      let e : checkOf edition1 old [] ≡ Unsound
-      = check-unsound edition1 edition1-ok old [] bytes .1 no-rows in
-      (ap (λ (v : ImageCheck). writtenOf (upgradeBy edition1 edition2 d v)) e, ap (afterBy edition1 edition2 old d) e);
-  too-short = λ old d rs h short.
-      let e = told old rs h .1 in
-      let no-room = lt-leb (newLength edition1 edition2 (length rs) (length (imageOf edition1 rs))) (length d) (omega (arith, longer rs)) in (
-        ap (λ (v : ImageCheck). writtenOf (upgradeBy edition1 edition2 d v)) e ∙ rw no-room,
-        ap (afterBy edition1 edition2 old d) e ∙ rw no-room,
-      );
+  bad-image = bad-image;
+  too-short = too-short;
   upgraded = λ old d rs h room.
-      let e = told old rs h .1 in
-      let fits = le-leb (newLength edition1 edition2 (length rs) (length (imageOf edition1 rs))) (length d) (omega (arith, longer rs)) in
-      let after : afterUpgrade old d ≡ withRows edition2 d rs
-      = ap (afterBy edition1 edition2 old d) e
-      ∙ rw fits (copied-image edition1 edition2 edition1-ok edition2-ok refl refl old d rs h (unused old rs h) room) in (
-        ap (λ (v : ImageCheck). writtenOf (upgradeBy edition1 edition2 d v)) e ∙ rw fits (ap written (longer rs)),
-        after ∙ opened d rs,
-        subst (λ (x : List ℕ). Holds edition2 x rs) (sym after)
+      let w = upgraded old d rs h room in (
+        w .0,
+        w .1 ∙ opened d rs,
+        subst (λ (x : List ℕ). Holds edition2 x rs) (sym (w .1))
             (copied-holds edition1 edition2 edition1-ok edition2-ok refl refl old d rs (omega arith) h (unused old rs h)),
         unused old rs h,
       );
 }
-  where
-    written : ℕ → Written
-    written n = record { answer = 0; len = n }
 
 -- ---- what a lookup then finds
 

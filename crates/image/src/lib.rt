@@ -12,6 +12,7 @@ pub use image_spec::Held;
 pub use image_spec::ImageCheck;
 pub use image_spec::StoredNumbers;
 pub use image_spec::Upgrade;
+pub use image_spec::Written;
 use image_spec::layout::EDITION_PLACE;
 use image_spec::layout::EDITION1;
 use image_spec::layout::EDITION2;

@@ -61,19 +61,18 @@ fn fill(body: &mut [u8], place: usize, count: u64, start: u64, step: u64, image:
     answer
 }
 
-// Fills the image with a descriptor of at most 1,024 bytes; the four bytes are the last of its id.
-fn filled(s: &[u8], at: usize, image: &mut [u8]) -> u64 {
+// Fills the image with the descriptor of the record at the place, which is copied to `body`; the four bytes are the last of its id.
+fn fill_with(s: &[u8], at: usize, body: &mut [u8], image: &mut [u8]) -> u64 {
     let bytes = part(s, at, 2);
     let len = bytes.len();
     let id_at = number(s, at, 2);
-    let mut body = [0u8; 1024];
-    if 1024 < len {
+    if body.len() < len {
         return 1;
     }
     if 1024 < id_at {
         return 1;
     }
-    octets::put(&mut body, 0, bytes);
+    octets::put(body, 0, bytes);
     fill(
         &mut body[..len],
         id_at as usize + 12,
@@ -82,6 +81,12 @@ fn filled(s: &[u8], at: usize, image: &mut [u8]) -> u64 {
         number(s, at, 4),
         image,
     )
+}
+
+// The same, of a descriptor of at most 1,024 bytes.
+fn filled(s: &[u8], at: usize, image: &mut [u8]) -> u64 {
+    let mut body = [0u8; 1024];
+    fill_with(s, at, &mut body, image)
 }
 
 // Makes the call with the number, of the record at the place, on the image, where it takes one.

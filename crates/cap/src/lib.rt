@@ -6,7 +6,7 @@ use cbor_item::ItemNumbers;
 use descriptor::DescriptorNumbers;
 use descriptor::GrantNumbers;
 use image::StoredNumbers;
-use image::Written;
+use image_write::Written;
 use narrowing::NarrowingNumbers;
 use request::DecisionNumbers;
 use request::Environment;
@@ -77,7 +77,7 @@ pub extern "C" fn cap_image_new(image: &mut [u8]) -> u64
         × (now (image .exit) ≡ edition2.afterNew (now (image .entry))) ⌝ }
     ensures lent { λ _. ⌜ AreBytes (now (image .entry)) ⌝ }
 {
-    numbers::of_creation(image::new_image(image))
+    numbers::of_creation(image_write::new_image(image))
 }
 
 // Looks for the body with the id.
@@ -96,7 +96,7 @@ pub extern "C" fn cap_image_upgrade(old: &[u8], image: &mut [u8]) -> Written
         × (now (image .exit) ≡ upgrades.afterUpgrade (now (old .entry)) (now (image .entry))) ⌝ }
     ensures lent { λ _. ⌜ AreBytes (now (old .entry)) × AreBytes (now (image .entry)) ⌝ }
 {
-    numbers::of_upgrade(image::upgrade(old, image))
+    numbers::of_upgrade(image_write::upgrade(old, image))
 }
 
 // Submits a descriptor to the image.

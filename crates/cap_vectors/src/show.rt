@@ -4,7 +4,7 @@ use cbor_item::ItemNumbers;
 use descriptor::DescriptorNumbers;
 use descriptor::GrantNumbers;
 use image::StoredNumbers;
-use image::Written;
+use image_write::Written;
 use narrowing::NarrowingNumbers;
 use request::DecisionNumbers;
 use resource::MatchingNumbers;

@@ -1,5 +1,5 @@
 -- Laws that the proofs of the code apply: what the numbers and parts that the code reads say of the definitions of specs/Check.antt of
--- `image_spec` and specs/NewImage.antt of `image_spec`. Assumes nothing.
+-- `image_spec`. Assumes nothing.
 use mathlib.Core.Path.{_≡_, refl, sym, ap, ap₂, _∙_}
 use mathlib.Core.Logic.{_⊎_, inl, inr}
 use mathlib.Core.Bool.{Bool, true, false, not, _&&_, and-assoc}
@@ -10,14 +10,13 @@ use native.Mathlib.Nat.{add-zero, add-suc}
 use native.Mathlib.Numerals.{add-one}
 use lib.ListN.{length, take, drop, getD}
 use lib.Dec.{leb, eqb}
-use borrow.Author.Tests.{lt-ltb, le-ltb, not-true, not-false, leb-true, eq-eqb, ne-eqb}
+use borrow.Author.Tests.{not-true, not-false, leb-true, eq-eqb, ne-eqb}
 use Rattle.octets.specs.Bytes.{part, same}
-use Rattle.octets.specs.Number.{bigEndian, numberAt, numberIn}
+use Rattle.octets.specs.Number.{numberAt, numberIn}
 use Rattle.exact.specs.Reads.{Got, got, refused, guard}
 use Rattle.octets.proofs.Tests.{and-left, and-right}
 use Rattle.octets.proofs.BytesLaws.{T-of-not, not-T-of, part-has}
 use Rattle.exact.proofs.ReadsLaws.{guard-yes, guard-no, guard-leb, passed, failed, passed-leb, failed-leb}
-use Rattle.octets.specs.Write.{putAt}
 use Rattle.octets.proofs.NumberLaws.{number-in}
 use Rattle.octets.proofs.PartLaws.{lent-part}
 use Rattle.descriptor_spec.specs.declared.Fields.{Fields}
@@ -30,7 +29,6 @@ use Rattle.image_spec.specs.declared.Held.the-variants.{Missing}
 use Rattle.image_spec.specs.declared.ImageCheck.{ImageCheck}
 use Rattle.image_spec.specs.declared.ImageCheck.the-variants.{Unsound}
 use Rattle.image_spec.specs.declared.Finding.the-variants.{Malformed}
-use Rattle.image_spec.specs.declared.Creation.the-variants.{Done, TooShort}
 use Rattle.image_spec.specs.declared.layout.Layout.{Layout}
 use Rattle.descriptor_spec.specs.Allowed.{idSize}
 use Rattle.image_spec.specs.Layout.{modeEdition, headerSize, headerWidth, editionPlace, modesPlace, countPlace, headerZero}
@@ -39,7 +37,6 @@ use Rattle.image_spec.specs.Layout.{rowPlace, LayoutOk}
 use Rattle.image_spec.specs.Image.{reading}
 use Rattle.image_spec.specs.Check.{rowCount, rowId, rowLength, headerFits, idAmong, rowFits, onRead, rowAt, heldWith, rowsFrom, checked}
 use Rattle.image_spec.specs.Check.{checkAnswer, checkOf, foundIn, findOf}
-use Rattle.image_spec.specs.NewImage.{newBytes, creationOf, afterNew}
 use Rattle.image_spec.proofs.Laws.{row-next, read-in}
 use Rattle.image.proofs.RowsCode.{rows-next}
 
@@ -102,20 +99,6 @@ unfolding rowCount
 count-is s n h e = e ∙ number-in s countPlace headerWidth (omega arith) (omega arith)
 
 module _ (l : Layout) where
-  -- ---- a new image
-
-  -- a buffer that is shorter than a header is too short, and stays
-  pub new-short : (d : List ℕ) → length d < headerSize → (TooShort ≡ creationOf d) × (d ≡ afterNew l d)
-  unfolding creationOf afterNew
-  new-short d h = let e = lt-ltb (length d) headerSize h in (rw e, rw e)
-
-  -- another one has the header's four numbers first
-  pub new-done : (d d₁ d₂ d₃ d₄ : List ℕ) → headerSize ≤ length d → d₁ ≡ putAt d editionPlace (bigEndian headerWidth (l .edition))
-      → d₂ ≡ putAt d₁ modesPlace (bigEndian headerWidth modeEdition) → d₃ ≡ putAt d₂ countPlace (bigEndian headerWidth 0)
-      → d₄ ≡ putAt d₃ headerZero (bigEndian headerWidth 0) → (Done ≡ creationOf d) × (d₄ ≡ afterNew l d)
-  unfolding creationOf afterNew newBytes
-  new-done d d₁ d₂ d₃ d₄ h e₁ e₂ e₃ e₄ = let t = le-ltb (length d) headerSize h in (rw t, rw (e₄, e₃, e₂, e₁, t))
-
   -- ---- the header
 
   -- the four tests of the code are those of the header

@@ -61,7 +61,7 @@ pub fn request(
                 return decision;
             }
             let now = host.clock;
-            image::touch(image, row, now.to_seconds());
+            image_write::touch(image, row, now.to_seconds());
             decision
         }
         Examined::Apart(decision) => decision,

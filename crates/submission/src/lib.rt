@@ -2,7 +2,7 @@
 mod choose;
 
 use choose::Choice;
-use image::Added;
+use image_write::Added;
 use removal::Room;
 use steps::Window;
 pub use submission_spec::Submission;
@@ -46,7 +46,7 @@ fn store(
     ensures { λ r. ⌜ (r ≡ storedOf (now (image .entry)) rows end (now (body .entry)) id (clock .0))
         × (now (image .exit) ≡ afterStore (now (image .entry)) rows end (now (body .entry)) id mask (clock .0)) ⌝ }
 {
-    match image::add_body(image, rows, end, body, id, mask, clock) {
+    match image_write::add_body(image, rows, end, body, id, mask, clock) {
         Added::Done => Submission::Done,
         Added::Full => store_after_removal(image, rows, end, body, id, mask, clock),
     }
@@ -67,7 +67,7 @@ fn store_after_removal(
 {
     match removal::make_room(image, rows, end, clock, body.len()) {
         Room::Made { rows, end } => {
-            stored(image::add_body(image, rows, end, body, id, mask, clock))
+            stored(image_write::add_body(image, rows, end, body, id, mask, clock))
         }
         Room::NoRoom => Submission::Full,
     }

@@ -1,0 +1,4 @@
+pub mod NewCode
+pub mod GrowCode
+pub mod TouchCode
+pub mod CopyCode

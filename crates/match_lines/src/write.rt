@@ -89,18 +89,6 @@ fn answers(s: &[u8], long: bool, out: &mut [u8]) -> Progress
     }
 }
 
-// Moves the k bytes from `from` on to the start of d.
-fn move_down(d: &mut [u8], from: usize, k: usize)
-    requires { ⌜ from + k ≤ length (now d) ⌝ }
-    ensures { λ r. ⌜ now (d .exit) ≡ over (now (d .entry)) 0 (take k (drop from (now (d .entry)))) ⌝ }
-{
-    let mut i = 0;
-    while i < k {
-        d[i] = d[from + i];
-        i += 1;
-    }
-}
-
 // n, or the length of d where n is more.
 fn least(n: usize, d: &[u8]) -> usize
     ensures { λ r. ⌜ (r ≤ length (now (d .entry))) × (take r (now (d .entry)) ≡ take n (now (d .entry))) ⌝ }
@@ -122,7 +110,7 @@ pub(crate) fn step(buffer: &mut [u8], n: usize, long: bool, out: &mut [u8]) -> P
             kept,
             long: too_long,
         } => {
-            move_down(buffer, size - kept, kept);
+            octets::move_down(buffer, size - kept, 0, kept);
             Progress::Done {
                 written,
                 kept,

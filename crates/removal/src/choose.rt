@@ -1,4 +1,5 @@
 // Choosing the rows that go: the expired ones, least recently used first, the earlier row on a tie, only until there is room.
+use crate::close::GONE;
 use descriptor::Reading;
 use descriptor::read_descriptor;
 use image_rows::place;
@@ -19,12 +20,10 @@ ghost use Rattle.image_spec.specs.Close.{expired};
 ghost use Rattle.image_spec.specs.Choose.{endIn, endOf, usedAt, sizeAt, bodyAt, markAt, marksFrom, lesser as lesserOf, leastFrom};
 ghost use Rattle.image_spec.specs.Choose.{fitsAfter, chosenOf, chosen, askAt};
 
-// What is marked of a row: its body is not expired, its body is, or the row goes.
+// What is marked of a row: its body is not expired, or its body is; or the row goes (`GONE`).
 const CURRENT: u8 = 0;
 
 const EXPIRED: u8 = 1;
-
-const GONE: u8 = 2;
 
 // What was chosen: whether there is room then, and how many rows and bytes go.
 pub(crate) struct Choice {

@@ -1,8 +1,10 @@
 -- `step` meets its contract. Assumes nothing.
-use Prim.Native.Nat.{_≤_}
+use Prim.Native.Nat.{_+_, _-_, _≤_}
 use mathlib.Core.Path.{sym}
 use native.Mathlib.Omega.{arith}
+use lib.ListN.{length}
 use lib.Seq.{length-take-le}
+use Rattle.match_lines.proofs.OverCode.{moved-down}
 use Rattle.match_lines.proofs.LineCode.{step-fits, step-done, step-refused}
 use borrow.Author.Needs.{needs}
 use Rattle.match_lines.proofs.write.step.Statement.{statement}
@@ -23,9 +25,11 @@ slice-aggregate-answers c = sym (length-take-le _ _ (c .before .least .ensures .
 sub-move-down : tie.Need-sub-move-down
 sub-move-down c = fits (c .before .before)
 
-move-down-requires : tie.Need-move-down-requires
-move-down-requires c κs =
-    let p = c .before .before in
+-- the bytes that are kept lie in the buffer
+inside : (p : tie.After-progress)
+    → let l = p .before .before .before .before .before .before .before in
+    l .least .result - p .progress .given .0 .1 .0 + p .progress .given .0 .1 .0 ≤ length (l .before .before .before .before .args .buffer .now)
+inside p =
     let s = p .before .before .before .before .before .before .before .least .ensures .0 in
     omega (arith, fits p)
 
@@ -37,7 +41,8 @@ returns c =
     let l = w .before .before .before in
     let a = l .before .before .before .before .args in
     step-done (a .long) (a .buffer .now) (a .n) (l .least .result) (a .out .now) (l .least .ensures .0) (l .least .ensures .1) _ _
-    (w .answers .ensures .0) (w .answers .ensures .1) _ _ _ _ (p .progress .given .1) (m .move-down .ensures)
+    (w .answers .ensures .0) (w .answers .ensures .1) _ _ _ _ (p .progress .given .1)
+    (moved-down _ _ _ _ (inside p) (m .move-down .ensures))
 
 returns-2 : tie.Need-returns-2
 returns-2 c =
@@ -51,5 +56,5 @@ pub step-spec : {M : Type 1} → statement M
 step-spec =
     tie.close
     (tie.spec (λ c κs. search needs) (λ c. search needs) slice-aggregate-answers (λ c κs. search needs)
-    (λ c. search needs) sub-move-down move-down-requires (λ c. search needs) (λ c. search needs) (λ c. search needs)
+    (λ c. search needs) sub-move-down (λ c κs. search needs) (λ c. search needs) (λ c. search needs) (λ c. search needs)
     returns (λ c. search needs) (λ c. search needs) returns-2)

@@ -15,6 +15,10 @@ use Rattle.image_spec.proofs.PlaceLaws as place
 use Rattle.image_spec.proofs.FindLaws as found
 use Rattle.image_spec.proofs.GrowLaws as grow
 use Rattle.image_spec.proofs.CloseLaws as close
+use Rattle.image_spec.proofs.StoreLaws as store
+use Rattle.image_spec.proofs.RemovalLaws as removal
+use Rattle.image_spec.proofs.OnceLaws as once
+use Rattle.image_spec.proofs.BufferChoice as buffer
 use Rattle.image_spec.specs.Laws.{TouchedBodies, TouchedImage, TouchedNone, AfterTouch2, AfterTouch1}
 use Rattle.image_spec.proofs.TouchLaws as touch
 use Rattle.image_spec.specs.Laws.{PlacesWider, SoundBounds}
@@ -130,6 +134,12 @@ edition2-ok = place1.edition2-ok
 
 pub named-ok : NamedOk
 named-ok = named.named-ok
+
+pub editions-named : EditionsNamed
+editions-named = named.editions-named
+
+pub header-names : HeaderNames
+header-names = (named.names-1, named.names-2)
 
 -- ---- a row that was used
 

@@ -22,6 +22,13 @@ pub mod PlacedLaws
 pub mod RowsClosed
 pub mod BodiesClosed
 pub mod CloseLaws
+pub mod LeastLaws
+pub mod MarkLaws
+pub mod ChoiceLaws
+pub mod RemovalLaws
+pub mod BufferChoice
+pub mod OnceLaws
+pub mod StoreLaws
 pub mod TouchLaws
 pub mod UpgradeLaws
 pub mod Laws

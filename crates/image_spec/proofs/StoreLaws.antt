@@ -23,8 +23,8 @@ use Rattle.image_spec.specs.Image.{Row, rowOf, reading, isRead, idOf, jo
 use Rattle.image_spec.specs.Image.{bodyWith}
 use Rattle.image_spec.specs.Grow.{addedOf, afterAdd, hasRoom, withBody}
 use Rattle.image_spec.specs.Close.{keep, stays, kept, closedUp, withRows}
-use Rattle.image_spec.specs.Choose.{endOf, isExpired, choiceOf, stayingOf, afterRoom}
-use Rattle.image_spec.specs.Removal.{rowIn, left, goesOf, Goes}
+use Rattle.image_spec.specs.Choose.{endOf, isExpired, choiceOf, stayingOf, goesOf, afterRoom}
+use Rattle.image_spec.specs.Removal.{rowIn, left, Goes}
 use Rattle.image_spec.specs.Laws.{StoredAfterFor, StoredHoldsFor, LeftFinds}
 use Rattle.image_spec.proofs.BodyLaws.{read-in}
 use Rattle.image_spec.proofs.RowPlaceLaws.{place-up}

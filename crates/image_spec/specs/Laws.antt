@@ -30,6 +30,8 @@ use Rattle.image_spec.specs.Image.{Row, rowOf, reading, isRead, idOf, mo
 use Rattle.image_spec.specs.Check.{rowLength, rowAt, layoutOf, checkOf, rowsHeld}
 use Rattle.image_spec.specs.Close.{kept, withRows, closedUp}
 use Rattle.image_spec.specs.Grow.{addedOf, afterAdd, hasRoom, withBody}
+use Rattle.image_spec.specs.Choose.{endOf, isExpired, unexpired, choiceOf, stayingOf, goesOf, roomOf, afterRoom}
+use Rattle.image_spec.specs.Removal.{rowIn, left, Goes, Removal}
 use Prim.Native.Nat.{_^_}
 use Rattle.octets.specs.Bytes.{same}
 use Rattle.image_spec.specs.Layout.{momentSize}
@@ -176,6 +178,19 @@ pub record OneMoreFor (l : Layout) : Type 0 where
       → Holds l (withBody l d rs r) (rs ++ (r ∷ []))
   pub mine : (rs : List Row) (r : Row) → bodyWith (idOf (r .body)) rs ≡ none → bodyWith (idOf (r .body)) (rs ++ (r ∷ [])) ≡ some (r .body)
   pub others : (id : List ℕ) (rs : List Row) (r : Row) → (idOf (r .body) ≡ id → ⊥) → bodyWith id (rs ++ (r ∷ [])) ≡ bodyWith id rs
+
+-- ---- rows that go
+
+-- in a buffer that holds rows, of which each has a mark, the writes of a removal leave the image of the rows that stay, and beyond it what
+-- stood there
+abbrev pub ClosedUp : Type 0
+ClosedUp = (l : Layout) → LayoutOk l → (d : List ℕ) (rs : List Row) (gs : List ℕ) → Holds l d rs → length gs ≡ length rs
+    → closedUp l d gs ≡ withRows l d (kept gs rs)
+
+-- the buffer then holds the rows that stay
+abbrev pub KeptHolds : Type 0
+KeptHolds = (l : Layout) → LayoutOk l → (d : List ℕ) (rs : List Row) (gs : List ℕ) → Holds l d rs → length gs ≡ length rs
+    → Holds l (withRows l d (kept gs rs)) (kept gs rs)
 
 -- ---- which rows go for a new one
 

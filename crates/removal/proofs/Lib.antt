@@ -1,2 +1,3 @@
+pub mod CloseCode
 pub mod ChooseCode
 pub mod RoomCode

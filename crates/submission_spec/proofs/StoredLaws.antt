@@ -20,8 +20,8 @@ use Rattle.image_spec.specs.Layout.{edition2}
 use Rattle.image_spec.specs.Image.{Row, idOf, MomentOk, bodyWith}
 use Rattle.image_spec.specs.Check.{isSound, isHeld}
 use Rattle.image_spec.specs.Close.{keep}
-use Rattle.image_spec.specs.Choose.{isExpired, unexpired, choiceOf, stayingOf}
-use Rattle.image_spec.specs.Removal.{left, goesOf, Removal}
+use Rattle.image_spec.specs.Choose.{isExpired, unexpired, choiceOf, stayingOf, goesOf}
+use Rattle.image_spec.specs.Removal.{left, Removal}
 use Rattle.image_spec.specs.Edition2.{imageOf, Holds, checkOf, rowsHeld, hasRoom, withBody}
 use Rattle.octets.proofs.OptionLaws.{some-same, none-some}
 use Rattle.octets.proofs.SameLaws.{same-equal}

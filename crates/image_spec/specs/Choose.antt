@@ -174,7 +174,8 @@ choiceAt l d rows end clock more =
 abbrev pub roomBy : ℕ → ℕ → Chosen → Room
 roomBy rows end c = cond (c .ok && leb (c .freed) end) (Made (rows - c .removed) (end - c .freed)) NoRoom
 
--- the answer: there are not more rows than there may be, they end in the buffer, the body is not longer than it may be, and so on
+-- the answer: by the choice, where there are not more rows than there may be, they end in the buffer, and the body is not longer than it may
+-- be; else there is no room
 unfoldable pub roomOf : Layout → List ℕ → ℕ → ℕ → ℕ → ℕ → Room
 roomOf l d rows end clock more =
     cond (leb rows (mostRows l) && (leb end (length d) && leb more longest)) (roomBy rows end (choiceAt l d rows end clock more)) NoRoom

@@ -26,6 +26,6 @@ movedUp d from to by = cond (leb from to && leb (to + by) (length d)) (moved d f
 unfoldable pub lowered : List ℕ → ℕ → ℕ → ℕ → List ℕ
 lowered d from to n = over d to (part d from n)
 
--- the same, where the bytes are there and `to` is not after them; else d
+-- the same, where the bytes are there and `to` is not after `from`; else d
 unfoldable pub movedDown : List ℕ → ℕ → ℕ → ℕ → List ℕ
 movedDown d from to n = cond (leb to from && leb (from + n) (length d)) (lowered d from to n) d

@@ -1,4 +1,5 @@
 pub mod Tests
+pub mod BelowLaws
 pub mod OptionLaws
 pub mod TruthLaws
 pub mod BytesLaws

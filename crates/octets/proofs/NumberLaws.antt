@@ -3,7 +3,7 @@ use mathlib.Core.Path.{_≡_, refl, sym, ap, ap₂, _∙_}
 use mathlib.Core.Bool.{Bool, true, false, cond, _&&_}
 use mathlib.Core.List.{List, [], _∷_, _++_, append-assoc, append-nil}
 use Prim.Native.Nat.{ℕ, zero, suc, _+_, _-_, _*_, _/_, _%_, _^_, _≤_, _<_}
-use native.Mathlib.Nat.{add-zero, pow-suc}
+use native.Mathlib.Nat.{add-zero, pow-suc, pow-succ', div-one, div-div-eq-div-mul}
 use native.Mathlib.Omega.{arith}
 use native.Mathlib.Numerals.{sub-one}
 use lib.ListN.{length, getD, take, drop, set, drop-of-length-le, length-append, length-drop}
@@ -55,6 +55,21 @@ bytes-number s from (suc w) n h l e =
     ∙ getD-at (bigEndian w (n / 256)) (n % 256) [] 0 w len in
     let above : n < 256 ^ w * 256 = rw pow-suc at h in
     omega (arith, bytes-number s from w (n / 256) (omega arith) (omega arith) heads, last)
+
+-- without its last k bytes a number of w + k bytes is the number in the first w
+pub number-high : (s : List ℕ) (from w k : ℕ) → AreBytes s → numberAt s from (w + k) / 256 ^ k ≡ numberAt s from w
+unfolding numberAt
+number-high s from w zero bs = let all : w + 0 ≡ w = omega arith in ap (λ (m : ℕ). numberAt s from m / 1) all ∙ div-one (numberAt s from w)
+number-high s from w (suc k) bs =
+    let last : w + suc k ≡ suc (w + k) = omega arith in
+    let n = numberAt s from (w + k) in
+    let b = getD s (from + (w + k)) 0 in
+    let quot : (n * 256 + b) / 256 ≡ n = omega (arith, bs (from + (w + k))) in
+    ap (λ (m : ℕ). numberAt s from m / 256 ^ suc k) last
+    ∙ ap (λ (x : ℕ). (n * 256 + b) / x) (pow-succ' 256 k)
+    ∙ sym (div-div-eq-div-mul (n * 256 + b) 256 (256 ^ k))
+    ∙ ap (λ (x : ℕ). x / 256 ^ k) quot
+    ∙ number-high s from w k bs
 
 -- ---- the number in the bytes at a place
 

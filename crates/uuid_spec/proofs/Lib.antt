@@ -1,0 +1,5 @@
+pub mod OctetLaws
+pub mod DigitLaws
+pub mod SpellLaws
+pub mod TextLaws
+pub mod Promises

@@ -1,0 +1,3 @@
+pub mod Uuid
+pub mod Version7
+pub mod Promises

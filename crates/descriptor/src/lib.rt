@@ -7,13 +7,14 @@ mod whole;
 
 pub use descriptor_spec::DescriptorNumbers;
 pub use descriptor_spec::Fields;
+pub use descriptor_spec::Form;
 pub use descriptor_spec::GrantNumbers;
 pub use descriptor_spec::Part;
 pub use descriptor_spec::Reading;
 ghost use mathlib.Core.Path.{_≡_};
 ghost use Rattle.octets.specs.Bytes.{PartOf};
-ghost use Rattle.descriptor_spec.specs.Reader.{readOf, grantAt};
-ghost use Rattle.descriptor_spec.specs.Code.{readingOf};
+ghost use Rattle.descriptor_spec.specs.Reader.{formedIn, readOf, grantAt};
+ghost use Rattle.descriptor_spec.specs.Code.{readingOf, formOf, withinPeriod};
 ghost use Rattle.descriptor.specs.Code.{grantRead};
 ghost use Rattle.descriptor_spec.specs.Numbers.{payloadSpan};
 
@@ -39,6 +40,20 @@ pub fn read_descriptor(s: &[u8]) -> Reading
     ensures { λ r. ⌜ r ≡ readingOf (readOf (now (s .entry))) ⌝ }
 {
     whole::descriptor(s)
+}
+
+// Reads s as a descriptor before its period is looked at: the fields of one that is allowed but for its period.
+pub fn read_form(s: &[u8]) -> Form
+    ensures { λ r. ⌜ r ≡ formOf (formedIn (now (s .entry))) ⌝ }
+{
+    whole::form(s)
+}
+
+// What reading answers of a descriptor with these fields: 2 where its period is too long.
+pub fn by_period(fields: Fields) -> Reading
+    ensures { λ r. ⌜ r ≡ withinPeriod fields ⌝ }
+{
+    whole::in_period(fields)
 }
 
 // The payload of what was read from s, which the signature covers, as the part of s itself; the empty part at the start on a refusal.

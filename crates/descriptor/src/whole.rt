@@ -1,5 +1,6 @@
 // The whole descriptor.
 use crate::Fields;
+use crate::Form;
 use crate::Part;
 use crate::Reading;
 use crate::payload::PayloadFields;
@@ -14,8 +15,8 @@ use entries::signature::signature_at;
 use octets::has_at;
 use time::Seconds;
 ghost use mathlib.Core.Path.{_≡_};
-ghost use Rattle.descriptor_spec.specs.Reader.{readOf};
-ghost use Rattle.descriptor_spec.specs.Code.{fieldsOf, readingOf};
+ghost use Rattle.descriptor_spec.specs.Reader.{formedIn, readOf};
+ghost use Rattle.descriptor_spec.specs.Code.{fieldsOf, readingOf, formOf, withinPeriod};
 ghost use Rattle.descriptor.specs.Code.{seenOf};
 
 // The fields of a payload of n bytes at 9 and a signature.
@@ -61,36 +62,57 @@ fn fields_of(p: PayloadFields, n: usize, g: SignatureFields) -> Fields
     }
 }
 
-// What reading the whole of s answers.
-pub(crate) fn descriptor(s: &[u8]) -> Reading
-    ensures { λ r. ⌜ r ≡ readingOf (readOf (now (s .entry))) ⌝ }
+// What the whole of s is before its period is looked at.
+pub(crate) fn form(s: &[u8]) -> Form
+    ensures { λ r. ⌜ r ≡ formOf (formedIn (now (s .entry))) ⌝ }
 {
     if LONGEST < s.len() {
-        return Reading::Structure;
+        return Form::Unformed;
     }
     if !has_at(s, 0, &keys::BEFORE_PAYLOAD) {
-        return Reading::Structure;
+        return Form::Unformed;
     }
     let PayloadRead::IsPayload { payload, next } = payload_at(s, 9) else {
-        return Reading::Structure;
+        return Form::Unformed;
     };
     if !has_at(s, next, &keys::BEFORE_KEY_ID) {
-        return Reading::Structure;
+        return Form::Unformed;
     }
     let SignatureRead::IsSignature {
         signature,
         next: end,
     } = signature_at(s, next + 27)
     else {
-        return Reading::Structure;
+        return Form::Unformed;
     };
     if end != s.len() {
-        return Reading::Structure;
+        return Form::Unformed;
     }
-    let issue = payload.issue;
-    let grantor = payload.grantor;
-    if LONGEST_PERIOD < issue.not_after - grantor.not_before {
+    Form::Formed(fields_of(payload, next - 9, signature))
+}
+
+// The latest end of a period is so long after its beginning: 90 days.
+const PERIOD: Seconds = Seconds(LONGEST_PERIOD);
+
+// What reading answers by the period of the fields.
+pub(crate) fn in_period(fields: Fields) -> Reading
+    ensures { λ r. ⌜ r ≡ withinPeriod fields ⌝ }
+{
+    let begins = fields.not_before;
+    let ends = fields.not_after;
+    let latest = begins.plus_at_most(PERIOD, ends);
+    if latest.is_before(ends) {
         return Reading::Validity;
     }
-    Reading::Read(fields_of(payload, next - 9, signature))
+    Reading::Read(fields)
+}
+
+// What reading the whole of s answers.
+pub(crate) fn descriptor(s: &[u8]) -> Reading
+    ensures { λ r. ⌜ r ≡ readingOf (readOf (now (s .entry))) ⌝ }
+{
+    match form(s) {
+        Form::Formed(fields) => in_period(fields),
+        Form::Unformed => Reading::Structure,
+    }
 }

@@ -1,5 +1,6 @@
 -- The statements of specs/Laws.antt, each from its law. Assumes nothing.
 use Rattle.descriptor_spec.specs.Laws.{ReadsExactly, ValidityExactly, StructureExactly, NumberTells, SeenHanded, GrantsAllowed}
+use Rattle.descriptor_spec.specs.Laws.{FormedExactly, UnformedExactly, ReadByPeriod, FormedBounds}
 use Rattle.descriptor_spec.specs.Laws.{MaskExactly, GrantsWalk, GrantsEnd, GrantsInTurn}
 use Rattle.descriptor_spec.specs.Laws.{ModeBounds, ModesBounds, GrantBounds, MoreBounds, GrantsBounds, IdsBounds}
 use Rattle.descriptor_spec.specs.Laws.{PatternRoom, PayloadBounds, DescriptorBounds}
@@ -23,6 +24,15 @@ validity-exactly = answer.validity-exactly
 
 pub structure-exactly : StructureExactly
 structure-exactly = answer.structure-exactly
+
+pub formed-exactly : FormedExactly
+formed-exactly = answer.formed-exactly
+
+pub unformed-exactly : UnformedExactly
+unformed-exactly = answer.unformed-exactly
+
+pub read-by-period : ReadByPeriod
+read-by-period = answer.read-by-period
 
 pub number-tells : NumberTells
 number-tells = number.number-tells
@@ -72,6 +82,9 @@ ids-bounds = payload.ids-bounds
 
 pub payload-bounds : PayloadBounds
 payload-bounds = payload.payload-bounds
+
+pub formed-bounds : FormedBounds
+formed-bounds = payload.formed-bounds
 
 pub descriptor-bounds : DescriptorBounds
 descriptor-bounds = payload.descriptor-bounds

@@ -3,6 +3,7 @@
 use mathlib.Core.Path.{_≡_}
 use mathlib.Core.Logic.{_↔_}
 use mathlib.Core.List.{List, [], _∷_}
+use mathlib.Core.Option.{none, some}
 use Prim.Native.Nat.{ℕ, suc, _+_, _-_, _≤_, _<_}
 use lib.ListN.{length, take, drop, getD}
 use Rattle.resource_spec.specs.Identifier.{faySize, levelsPlace, terminalSize}
@@ -12,12 +13,12 @@ use Rattle.exact.specs.Holds.{Holds}
 use Rattle.entries_spec.specs.Keys.{kModes}
 use Rattle.entries_spec.specs.Model.{pairCount}
 use Rattle.descriptor_spec.specs.Model.{Grant, Descriptor, encode}
-use Rattle.descriptor_spec.specs.Allowed.{isIn, idSize, GrantOk, longestPeriod, period, Formed, Allowed}
+use Rattle.descriptor_spec.specs.Allowed.{isIn, idSize, GrantOk, longest, longestPeriod, period, Formed, Allowed}
 use Rattle.descriptor_spec.specs.Modes.{unionOf}
 use Rattle.descriptor_spec.specs.Reader.{hasMode, modeAt, modesAt, GrantSeen, grantAt, Sum, moreAt, GrantsSeen, grantsAt, Ids, idsAt}
-use Rattle.descriptor_spec.specs.Reader.{PayloadSeen, payloadAt, Seen, descriptorAt, read, structure, validity, readOf}
+use Rattle.descriptor_spec.specs.Reader.{PayloadSeen, payloadAt, Seen, descriptorAt, read, structure, validity, formedIn, readOf}
 use Rattle.descriptor_spec.specs.View.{maskOf, grantView, descriptorView, grantPlace}
-use Rattle.descriptor_spec.specs.Code.{readingOf}
+use Rattle.descriptor_spec.specs.Code.{readingOf, formOf, readingIn}
 use Rattle.descriptor_spec.specs.Numbers.{numbersOf, grantNumbers}
 use Rattle.descriptor_spec.specs.Promises.{handed, DescriptorHanded, noGrant}
 
@@ -36,6 +37,20 @@ ValidityExactly = (s : List ℕ) → AreBytes s
 -- and 1 exactly when the bytes are the encoding of no descriptor, allowed or too long valid
 abbrev pub StructureExactly : Type 0
 StructureExactly = (s : List ℕ) → AreBytes s → (readOf s ≡ structure) ↔ ((d : Descriptor) → Formed d → s ≡ encode d → ⊥)
+
+-- before the period is looked at a descriptor is seen exactly where the bytes are the encoding of one that is allowed but for its period, and
+-- what is seen is that descriptor's
+abbrev pub FormedExactly : Type 0
+FormedExactly = (s : List ℕ) → AreBytes s → (v : Seen)
+    → (formedIn s ≡ some v) ↔ ((d : Descriptor) × Formed d × (s ≡ encode d) × (v ≡ descriptorView 0 d))
+
+-- and nothing exactly where they are the encoding of no such descriptor
+abbrev pub UnformedExactly : Type 0
+UnformedExactly = (s : List ℕ) → AreBytes s → (formedIn s ≡ none) ↔ ((d : Descriptor) → Formed d → s ≡ encode d → ⊥)
+
+-- the period then decides what reading answers
+abbrev pub ReadByPeriod : Type 0
+ReadByPeriod = (s : List ℕ) → readingOf (readOf s) ≡ readingIn (formOf (formedIn s))
 
 -- the number of an answer tells the answer
 pub record ByNumber (s : List ℕ) : Type 0 where
@@ -170,6 +185,10 @@ pub record PayloadIn (s : List ℕ) (p : PayloadSeen) : Type 0 where
 -- so is each payload that is answered, and it ends not before its place
 abbrev pub PayloadBounds : Type 0
 PayloadBounds = (s : List ℕ) (at : ℕ) → Holds (λ p n. (at ≤ n) × PayloadIn s p) (payloadAt s at)
+
+-- so is the payload of each descriptor that is seen before the period is looked at; the bytes are at most as many as a descriptor may have
+abbrev pub FormedBounds : Type 0
+FormedBounds = (s : List ℕ) (v : Seen) → formedIn s ≡ some v → (length s ≤ longest) × PayloadIn s (v .payload)
 
 -- so is the payload of each descriptor that is answered
 abbrev pub DescriptorBounds : Type 0

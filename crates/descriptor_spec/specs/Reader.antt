@@ -2,6 +2,7 @@
 -- The reader of descriptors as a function of bytes and a place, in one pass. These definitions compute: the code answers what they say.
 use mathlib.Core.Bool.{Bool, not, _&&_, cond}
 use mathlib.Core.List.{List, [], _∷_, _++_}
+use mathlib.Core.Option.{Option, none, some}
 use Prim.Native.Nat.{ℕ, _+_, _-_, _^_, _/_, _%_}
 use lib.ListN.{length}
 use lib.Dec.{leb, ltb, eqb}
@@ -210,12 +211,20 @@ pub data Answer : Type 0 where
   structure : Answer
   validity : Answer
 
--- nothing stands after the item; then the period decides
-abbrev pub whole : ℕ → Got Seen → Answer
-whole len (got v n) =
-    cond (eqb n len) (cond (leb (v .payload .notAfter - v .payload .notBefore) longestPeriod) (read v) validity) structure
-whole len refused = structure
+-- what is seen of a descriptor that ends where the bytes do
+abbrev pub whole : ℕ → Got Seen → Option Seen
+whole len (got v n) = cond (eqb n len) (some v) none
+whole len refused = none
 
--- reading the whole of s, which has no more bytes than the most
+-- what is seen of the descriptor that the whole of s is, but for its period; s has no more bytes than the most
+unfoldable pub formedIn : List ℕ → Option Seen
+formedIn s = cond (leb (length s) longest) (whole (length s) (descriptorAt s 0)) none
+
+-- the period decides what is answered of it
+abbrev pub byPeriod : Option Seen → Answer
+byPeriod (some v) = cond (leb (v .payload .notAfter - v .payload .notBefore) longestPeriod) (read v) validity
+byPeriod none = structure
+
+-- reading the whole of s
 unfoldable pub readOf : List ℕ → Answer
-readOf s = cond (leb (length s) longest) (whole (length s) (descriptorAt s 0)) structure
+readOf s = byPeriod (formedIn s)

@@ -34,6 +34,13 @@ pub struct Fields {
     pub signature: Part,
 }
 
+// What reading answers before it looks at the period: the fields of a descriptor that is allowed but for its period, or that there is
+// none.
+pub enum Form {
+    Formed(Fields),
+    Unformed,
+}
+
 // What reading answers: the fields, document 01's 1 or its 2.
 pub enum Reading {
     Read(Fields),

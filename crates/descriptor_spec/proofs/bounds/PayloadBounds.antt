@@ -1,7 +1,8 @@
 -- Where the pieces of a payload that is read lie (specs/Laws.antt). Assumes nothing.
-use mathlib.Core.Path.{_≡_}
+use mathlib.Core.Path.{_≡_, subst}
 use mathlib.Core.Bool.{true, _&&_}
 use mathlib.Core.List.{List}
+use mathlib.Core.Option.{Option, none, some}
 use Prim.Native.Nat.{ℕ, _+_, _≤_, _<_}
 use native.Mathlib.Omega.{arith}
 use lib.ListN.{length}
@@ -9,7 +10,8 @@ use lib.Dec.{T, ltb, leb, eqb, ltb→lt}
 use mir.Facts.{and-yes}
 use borrow.Author.Tests.{leb-true}
 use Rattle.octets.specs.Bytes.{part, same}
-use Rattle.octets.proofs.Tests.{and-left}
+use Rattle.octets.proofs.Tests.{by-cond, and-left}
+use Rattle.exact.specs.Reads.{Got, got, refused}
 use Rattle.exact.specs.Holds.{Holds}
 use Rattle.exact.proofs.HoldsLaws.{holds-map, holds-bind, holds-then, holds-guard}
 use Rattle.resource_spec.specs.Identifier.{faySize, terminalSize}
@@ -21,9 +23,9 @@ use Rattle.entries_spec.specs.Kinds.{isKind}
 use Rattle.entries_spec.specs.Value.{timeAt, keyedAt, flag}
 use Rattle.entries_spec.proofs.ValueBounds.{CountTo, count-bounds, keyed-count-bounds, StringTo, keyed-kind-bounds, opt-kind-on}
 use Rattle.entries_spec.proofs.ValueBounds.{opt-pairs-on}
-use Rattle.descriptor_spec.specs.Allowed.{idSize}
+use Rattle.descriptor_spec.specs.Allowed.{idSize, longest}
 use Rattle.descriptor_spec.specs.Reader.{issueAt, grantorAt, idsAt, PayloadSeen, payloadFits, payloadAt, Seen, beforePayload}
-use Rattle.descriptor_spec.specs.Reader.{descriptorAt}
+use Rattle.descriptor_spec.specs.Reader.{descriptorAt, whole, formedIn}
 use Rattle.descriptor_spec.specs.Laws as laws
 use Rattle.descriptor_spec.specs.Laws.{GrantsIn, IdsIn, PayloadIn}
 use Rattle.descriptor_spec.proofs.bounds.GrantBounds.{grants-bounds}
@@ -129,3 +131,21 @@ descriptor-bounds s at =
     let b = at + length beforePayload in
     holds-bind (λ p n. (b ≤ n) × PayloadIn s p) P _ _ (holds-guard (λ p n. (b ≤ n) × PayloadIn s p) _ _ (λ t. payload-bounds s b))
     (λ p n i. holds-then P _ _ (λ g m. i .1))
+
+-- what is known of a descriptor that is seen
+abbrev FormIn : List ℕ → Option Seen → Type 0
+FormIn s (some v) = (length s ≤ longest) × PayloadIn s (v .payload)
+FormIn s none = Unit {0}
+
+whole-in : (s : List ℕ) (o : Got Seen) → length s ≤ longest → Holds (λ v n. PayloadIn s (v .payload)) o → FormIn s (whole (length s) o)
+whole-in s refused l h = tt
+whole-in s (got v n) l h = by-cond (FormIn s) (eqb n (length s)) (λ e. (l, h)) (λ e. tt)
+
+form-in : (s : List ℕ) → FormIn s (formedIn s)
+unfolding formedIn
+form-in s = by-cond (FormIn s) (leb (length s) longest)
+    (λ e. whole-in s (descriptorAt s 0) (leb-true (length s) longest e) (descriptor-bounds s 0)) (λ e. tt)
+
+-- and for that of each descriptor that is seen before the period is looked at
+pub formed-bounds : laws.FormedBounds
+formed-bounds s v e = subst (FormIn s) e (form-in s)

@@ -3,7 +3,8 @@ use mathlib.Core.Path.{_≡_, refl, sym, ap, _∙_, subst}
 use mathlib.Core.Logic.{_⊎_, inl, inr, ⊎-elim}
 use mathlib.Core.Bool.{cond}
 use mathlib.Core.List.{List}
-use Prim.Native.Nat.{ℕ, _+_, _≤_, _<_}
+use mathlib.Core.Option.{Option, none, some}
+use Prim.Native.Nat.{ℕ, _+_, _-_, _≤_, _<_}
 use native.Mathlib.Omega.{arith}
 use lib.ListN.{length}
 use lib.Dec.{leb, eqb}
@@ -11,13 +12,15 @@ use borrow.Author.Tests.{leb-true, leb-false, eqb-true, le-leb, lt-leb, eq-eqb}
 use Rattle.octets.specs.Bytes.{AreBytes, Has}
 use Rattle.exact.specs.Reads.{Got, got, refused, Reads, found}
 use Rattle.octets.proofs.Tests.{by-cond}
+use Rattle.octets.proofs.OptionLaws.{none-some, some-same}
 use Rattle.octets.proofs.BytesLaws.{has-all, all-has}
 use Rattle.exact.proofs.ReadsLaws.{complete, unique}
 use Rattle.descriptor_spec.specs.Model.{Descriptor, encode}
 use Rattle.descriptor_spec.specs.Allowed.{longest, Formed, longestPeriod, period}
-use Rattle.descriptor_spec.specs.Reader.{Seen, Answer, read, structure, validity, whole, readOf, descriptorAt}
+use Rattle.descriptor_spec.specs.Reader.{Seen, Answer, read, structure, validity, whole, formedIn, byPeriod, readOf, descriptorAt}
 use Rattle.descriptor_spec.specs.View.{descriptorView}
-use Rattle.descriptor_spec.specs.Laws.{ReadsExactly, ValidityExactly, StructureExactly}
+use Rattle.descriptor_spec.specs.Code.{readingOf, formOf, withinPeriod, readingIn}
+use Rattle.descriptor_spec.specs.Laws.{ReadsExactly, ValidityExactly, StructureExactly, FormedExactly, UnformedExactly, ReadByPeriod}
 use Rattle.descriptor_spec.specs.Promises.{OneReading}
 use Rattle.descriptor_spec.proofs.whole.DescriptorLaws.{Both, descriptor-exact}
 
@@ -39,9 +42,9 @@ whole-has s d e = subst (Has s 0) e (all-has s)
 
 -- where the descriptor at the start ends with the bytes, they are its encoding
 whole-encoded : (s : List ℕ) (o : Got Seen) → length s ≤ longest → Reads s 0 Both encode (descriptorView 0) o
-    → (whole (length s) o ≡ structure) ⊎ Encoded s
+    → (whole (length s) o ≡ none) ⊎ Encoded s
 whole-encoded s (got v n) short (found a) =
-    by-cond (λ b. (b ≡ structure) ⊎ Encoded s) (eqb n (length s))
+    by-cond (λ b. (b ≡ none) ⊎ Encoded s) (eqb n (length s))
     (λ e.
     let l : length (encode (a .val)) ≡ length s = omega (arith, eqb-true, a .next) in
     inr (
@@ -53,23 +56,60 @@ whole-encoded s (got v n) short (found a) =
     (λ e. inl refl)
 whole-encoded s refused short r = inl refl
 
--- the answer is 1, or the bytes are an encoding
-answered : (s : List ℕ) → AreBytes s → (readOf s ≡ structure) ⊎ Encoded s
-unfolding readOf
-answered s bs =
-    by-cond (λ b. (b ≡ structure) ⊎ Encoded s) (leb (length s) longest)
+-- nothing is seen, or the bytes are an encoding
+formed-or-none : (s : List ℕ) → AreBytes s → (formedIn s ≡ none) ⊎ Encoded s
+unfolding formedIn
+formed-or-none s bs =
+    by-cond (λ b. (b ≡ none) ⊎ Encoded s) (leb (length s) longest)
     (λ e. whole-encoded s (descriptorAt s 0) (leb-true (length s) longest e) (descriptor-exact s bs 0))
     (λ e. inl refl)
 
--- the encoding of a descriptor is answered for it
-answers : (s : List ℕ) → AreBytes s → (d : Descriptor) → Formed d → s ≡ encode d → readOf s ≡ answerOf d
-unfolding readOf
-answers s bs d q e =
+-- of the encoding of a descriptor that descriptor is seen
+formed-seen : (s : List ℕ) → AreBytes s → (d : Descriptor) → Formed d → s ≡ encode d → formedIn s ≡ some (descriptorView 0 d)
+unfolding formedIn
+formed-seen s bs d q e =
     let o = complete (descriptor-exact s bs 0) d (both-of d q) (whole-has s d e) in
     let l : length (encode d) ≡ length s = ap length (sym e) in
     let short = le-leb (length s) longest (omega (arith, q .short)) in
     let end = eq-eqb (0 + length (encode d)) (length s) (omega arith) in
     rw (short, o, end)
+
+-- `FormedExactly`
+pub formed-exactly : FormedExactly
+formed-exactly s bs v = (
+  λ e. ⊎-elim (λ n. absurd (none-some v (sym n ∙ e)))
+      (λ x. (x .0, x .1, x .2, some-same v (descriptorView 0 (x .0)) (sym e ∙ formed-seen s bs (x .0) (x .1) (x .2))))
+      (formed-or-none s bs),
+  λ x. formed-seen s bs (x .0) (x .1) (x .2) ∙ ap some (sym (x .3)),
+)
+
+-- `UnformedExactly`
+pub unformed-exactly : UnformedExactly
+unformed-exactly s bs = (
+  λ n d q e. none-some (descriptorView 0 d) (sym n ∙ formed-seen s bs d q e),
+  λ no-one. ⊎-elim (λ n. n) (λ x. absurd (no-one (x .0) (x .1) (x .2))) (formed-or-none s bs),
+)
+
+-- `ReadByPeriod`
+pub read-by-period : ReadByPeriod
+unfolding readOf withinPeriod
+read-by-period s = go (formedIn s)
+  where
+    go : (o : Option Seen) → readingOf (byPeriod o) ≡ readingIn (formOf o)
+    go (some v) = by-cond (λ a. readingOf (cond (leb (v .payload .notAfter - v .payload .notBefore) longestPeriod) (read v) validity) ≡ a)
+        (leb (v .payload .notAfter - v .payload .notBefore) longestPeriod)
+        (λ e. rw e) (λ e. rw e)
+    go none = refl
+
+-- the answer is 1, or the bytes are an encoding
+answered : (s : List ℕ) → AreBytes s → (readOf s ≡ structure) ⊎ Encoded s
+unfolding readOf
+answered s bs = ⊎-elim (λ n. inl (ap byPeriod n)) inr (formed-or-none s bs)
+
+-- the encoding of a descriptor is answered for it
+answers : (s : List ℕ) → AreBytes s → (d : Descriptor) → Formed d → s ≡ encode d → readOf s ≡ answerOf d
+unfolding readOf
+answers s bs d q e = ap byPeriod (formed-seen s bs d q e)
 
 -- ---- the answers are different
 

@@ -2,7 +2,7 @@
 use mathlib.Core.Path.{refl}
 use Rattle.request_spec.specs.Promises.{ArgumentsInOrder, AllStored, DecidedExactly, GrantedExactly, RefusedExactly}
 use Rattle.request_spec.specs.Promises.{RefusalsZero, EditionsRefused, GrantedGives, BeginBoundary, EndBoundary, StoredDecided}
-use Rattle.request_spec.specs.Promises.{OthersDecided, RevokedRefused, RowMoreRefuses, EarlyRowWaits, StaysRevoked, PickedOnce}
+use Rattle.request_spec.specs.Promises.{OthersDecided, HeldDecided, RevokedRefused, RowMoreRefuses, EarlyRowWaits, StaysRevoked, PickedOnce}
 use Rattle.request_spec.specs.Promises.{AnsweredAsBefore, WithoutLease, GrantMargin, StaleMargin, OtherLeases, OlderSyncRefused}
 use Rattle.request_spec.specs.Promises.{TouchedExactly, RefusalKeeps, Grant1Keeps, Grant2Touches, GrantChanges8}
 use Rattle.request_spec.specs.Promises.{MomentsDecideNothing, UpgradeDecides}
@@ -129,3 +129,6 @@ stored-decided = stored.stored-decided
 
 pub others-decided : OthersDecided
 others-decided = stored.others-decided
+
+pub held-decided : HeldDecided
+held-decided = stored.held-decided

@@ -1,35 +1,38 @@
 -- A request after a submission (specs/Promises.antt). Assumes nothing.
 use mathlib.Core.Path.{_≡_, refl, sym, ap, _∙_, subst}
 use mathlib.Core.Logic.{_⊎_, inl, inr, ⊎-elim}
-use mathlib.Core.Bool.{Bool, true, false}
+use mathlib.Core.Bool.{Bool, true, false, false≢true}
 use mathlib.Core.List.{List}
 use mathlib.Core.Option.{none, some}
-use Prim.Native.Nat.{ℕ, _≤_}
+use Prim.Native.Nat.{ℕ, _^_, _≤_, _<_}
 use native.Mathlib.Omega.{arith}
 use lib.Dec.{eqb}
 use borrow.Author.Tests.{eqb-true, eqb-false}
-use Rattle.octets.specs.Bytes.{AreBytes, part}
+use Rattle.octets.specs.Bytes.{AreBytes, part, same}
 use Rattle.octets.proofs.OptionLaws.{some-same, none-some}
 use Rattle.octets.proofs.PartLaws.{part-bytes}
+use Rattle.octets.proofs.SameLaws.{same-equal, equal-same}
 use Rattle.descriptor_spec.specs.Model.{Descriptor, encode}
+use Rattle.descriptor_spec.specs.Allowed.{Allowed}
+use Rattle.steps.specs.declared.Window.{Window}
 use Rattle.image_spec.specs.declared.Held.{Held}
 use Rattle.image_spec.specs.declared.Held.the-variants.{Missing, Body}
-use Rattle.image_spec.specs.Image.{Row, reading, isRead, bodyWith}
+use Rattle.image_spec.specs.Image.{Row, reading, isRead, idOf, bodyWith}
 use Rattle.image_spec.specs.Check.{layoutOf}
 use Rattle.image_spec.specs.Choose.{endIn, endOf}
 use Rattle.image_spec.specs.Readable.{Holds}
 use Rattle.image_spec.specs.Edition2 as edition2
 use Rattle.image_spec.specs.Laws.{HeldBody, HeldIs}
 use Rattle.image_spec.proofs.Laws.{named-ok, check-tells, body-read, encoding-read}
-use Rattle.image_spec.proofs.Promises.{readable-exactly}
+use Rattle.image_spec.proofs.Promises.{rows-once, not-in-both, readable-exactly}
 use Rattle.submission_spec.specs.Submission.{submitted, afterOf, numberOf}
 use Rattle.submission_spec.proofs.Laws.{done-means, after-holds}
-use Rattle.submission_spec.proofs.Promises.{refusal-keeps}
+use Rattle.submission_spec.proofs.Promises.{refusal-keeps, repeat-keeps}
 use Rattle.request_spec.specs.Request.{Request}
 use Rattle.request_spec.specs.Decision.{decisionOf, numbersOf}
-use Rattle.request_spec.specs.Promises.{notHeld, held, Under, answerFor, StoredDecided, OthersDecided}
+use Rattle.request_spec.specs.Promises.{notHeld, held, Under, answerFor, StoredDecided, OthersDecided, HeldDecided}
 use Rattle.request_spec.proofs.HeldLaws.{decided-on-body, decided-on-none}
-use Rattle.request_spec.proofs.UnderLaws.{found-among}
+use Rattle.request_spec.proofs.UnderLaws.{held-found, found-among}
 use Rattle.request_spec.proofs.NumberLaws.{decided-exactly, missing-numbers}
 
 -- a buffer that holds rows in edition 2 may be read
@@ -46,6 +49,7 @@ stored-decided d b clock verdict window fits bytes a z =
     let k : Holds after (w .0) = readable after (w .0) (w .1) in (
       c,
       m .1 .1,
+      m .1 .4,
       m .1 .2,
       λ q i.
           let found : bodyWith (q .id) (w .0) ≡ some (encode c)
@@ -108,3 +112,60 @@ others-decided d b clock verdict window q fits bytes a other = go (eqb (numberOf
     go false e =
         inl (ap (λ (x : List ℕ). numbersOf (decisionOf x q))
         (refusal-keeps d b clock verdict window (eqb-false (numberOf (submitted d b clock verdict window)) 0 e)))
+
+-- ---- what is held from before
+
+-- the rows that a buffer holds in edition 2 are those that may be read in it
+rows-same : (d : List ℕ) (bs cs : List Row) → edition2.Holds d bs → Holds d cs → cs ≡ bs
+rows-same d bs cs h k = ⊎-elim (λ one. absurd (not-in-both d cs bs one h)) (λ two. rows-once .1 d cs bs two h) (readable-exactly d cs .0 k)
+
+-- the encoding of an allowed descriptor ends when it does
+encoding-ends : (c : Descriptor) → AreBytes (encode c) → Allowed c → endOf (encode c) ≡ c .payload .notAfter
+unfolding endOf
+encoding-ends c bytes a = let n = encoding-read c bytes a in ap endIn (n .1) ∙ n .4
+
+module _ (d b : List ℕ) (clock verdict : ℕ) (window : Window) (q : Request) (c : Descriptor) (u : Under d (q .id) (held c)) where
+  -- the image after
+  abbrev after : List ℕ
+  after = afterOf d b clock verdict window
+
+  -- the request is decided on the descriptor, or on none, which has expired
+  abbrev Decided : Type 0
+  Decided = (numbersOf (decisionOf after q) ≡ answerFor q (held c))
+      ⊎ ((c .payload .notAfter ≤ clock) × (numbersOf (decisionOf after q) ≡ answerFor q notHeld))
+
+  -- an image that is as it was decides as it did
+  kept-decided : after ≡ d → Decided
+  kept-decided e = inl (ap (λ (x : List ℕ). numbersOf (decisionOf x q)) e ∙ decided-exactly d q (held c) u)
+
+  -- an image that holds rows in edition 2 after a submission of bytes with the id, or with another
+  rows-decided : (bs : List Row) → clock < 2 ^ 64 → edition2.Holds d bs → Decided
+  rows-decided bs fits h = go (same (idOf b) (q .id)) refl
+    where
+      mine : bodyWith (q .id) bs ≡ some (encode c)
+      mine = ap (bodyWith (q .id)) (sym (rows-same d bs (u .0) h (u .1))) ∙ held-found d (q .id) c u
+
+      go : (t : Bool) → same (idOf b) (q .id) ≡ t → Decided
+      go true e = kept-decided (repeat-keeps d b clock verdict window bs (encode c) h
+          (ap (λ (x : List ℕ). bodyWith x bs) (same-equal (idOf b) (q .id) e) ∙ mine))
+      go false e =
+          let w = after-holds d b clock verdict window bs fits h in
+          let k : Holds after (w .0) = readable after (w .0) (w .1) in
+          ⊎-elim {C = Decided}
+          (λ f. inl (ap numbersOf (found-alike d after q bs (w .0) (readable d bs h) k f) ∙ decided-exactly d q (held c) u))
+          (λ f.
+          let own : f .1 .0 ≡ encode c = some-same (f .1 .0) (encode c) (sym (f .1 .1) ∙ mine) in
+          let end : endOf (f .1 .0) ≡ c .payload .notAfter = ap endOf own ∙ encoding-ends c (u .2 .bytes) (u .2 .allowed) in
+          inr (omega (arith, end, f .1 .2), ap numbersOf (decided-on-none after q (w .0) k (f .0)) ∙ missing-numbers q))
+          (w .3 (q .id) (λ i. false≢true (sym e ∙ equal-same (idOf b) (q .id) i)))
+
+-- `HeldDecided`
+pub held-decided : HeldDecided
+held-decided d b clock verdict window q c fits bytes a u = go (eqb (numberOf (submitted d b clock verdict window)) 0) refl
+  where
+    go : (t : Bool) → eqb (numberOf (submitted d b clock verdict window)) 0 ≡ t → Decided d b clock verdict window q c u
+    go true e =
+        let m = done-means d b clock verdict window bytes a (eqb-true (numberOf (submitted d b clock verdict window)) 0 e) in
+        rows-decided d b clock verdict window q c u (m .0 .0) fits (m .0 .1)
+    go false e = kept-decided d b clock verdict window q c u
+        (refusal-keeps d b clock verdict window (eqb-false (numberOf (submitted d b clock verdict window)) 0 e))

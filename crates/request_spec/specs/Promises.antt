@@ -35,6 +35,7 @@ use Rattle.image_spec.specs.Touch.{touched}
 use Rattle.image_spec.specs.Upgrade.{afterUpgrade}
 use Rattle.image_spec.specs.Readable.{Holds}
 use Rattle.submission_spec.specs.Submission.{submitted, afterOf, numberOf}
+use Rattle.submission_spec.specs.Promises.{AreVersion7}
 use Rattle.request_spec.specs.declared.DecisionNumbers.{DecisionNumbers}
 use Rattle.request_spec.specs.Request.{Request, requestOf}
 use Rattle.request_spec.specs.Decision.{decisionOf, numbersOf}
@@ -458,12 +459,12 @@ EndBoundary = (s : List ℕ) (q : Request) (d : Descriptor) → Under s (q .id) 
 
 -- ---- with submission
 
--- what was submitted with the answer 0 is an allowed descriptor's encoding, and after it a request for its id is decided on that very
--- descriptor
+-- what was submitted with the answer 0 is the encoding of an allowed descriptor with ids of version 7, and after it a request for its id is
+-- decided on that very descriptor
 abbrev pub StoredDecided : Type 0
 StoredDecided = (d b : List ℕ) (clock verdict : ℕ) (window : Window) → clock < 2 ^ 64 → AreBytes d → AreBytes b
     → numberOf (submitted d b clock verdict window) ≡ 0
-    → (c : Descriptor) × Allowed c × (b ≡ encode c)
+    → (c : Descriptor) × Allowed c × AreVersion7 c × (b ≡ encode c)
     × ((q : Request) → q .id ≡ c .payload .id
     → Under (afterOf d b clock verdict window) (q .id) (held c)
     × (numbersOf (decisionOf (afterOf d b clock verdict window) q) ≡ answerFor q (held c)))
@@ -476,3 +477,12 @@ OthersDecided = (d b : List ℕ) (clock verdict : ℕ) (window : Window) (q : Re
     → let after = afterOf d b clock verdict window in
     (numbersOf (decisionOf after q) ≡ numbersOf (decisionOf d q))
     ⊎ ((c : Descriptor) × Under d (q .id) (held c) × (c .payload .notAfter ≤ clock) × (numbersOf (decisionOf after q) ≡ answerFor q notHeld))
+
+-- Whatever ids a descriptor has that is held from before: after every submission, whatever it answered, a request for it is decided on it as it
+-- was; or it was expired at the submission, and was removed: then as one that is not held.
+abbrev pub HeldDecided : Type 0
+HeldDecided = (d b : List ℕ) (clock verdict : ℕ) (window : Window) (q : Request) (c : Descriptor) → clock < 2 ^ 64 → AreBytes d → AreBytes b
+    → Under d (q .id) (held c)
+    → let after = afterOf d b clock verdict window in
+    (numbersOf (decisionOf after q) ≡ answerFor q (held c))
+    ⊎ ((c .payload .notAfter ≤ clock) × (numbersOf (decisionOf after q) ≡ answerFor q notHeld))

@@ -2,15 +2,15 @@
 -- Assumes nothing.
 use mathlib.Core.Path.{_≡_, refl, sym, ap, _∙_, subst}
 use mathlib.Core.Logic.{_⊎_, inl, inr, ⊎-elim}
-use mathlib.Core.Bool.{Bool, true, false, not, _&&_, _||_}
+use mathlib.Core.Bool.{Bool, true, false, not, _&&_, _||_, false≢true}
 use mathlib.Core.List.{List, [], _∷_, _++_}
 use mathlib.Core.Option.{Option, none, some}
-use Prim.Native.Nat.{ℕ, _+_, _≤_, _<_}
+use Prim.Native.Nat.{ℕ, _+_, _-_, _≤_, _<_}
 use native.Mathlib.Omega.{arith}
 use lib.ListN.{length, drop, length-append}
 use lib.Dec.{leb, ltb}
 use borrow.Author.Tests.{lt-ltb, le-ltb, le-leb, lt-leb}
-use Rattle.octets.specs.Bytes.{part}
+use Rattle.octets.specs.Bytes.{part, same}
 use Rattle.descriptor_spec.specs.Model.{Descriptor, encode}
 use Rattle.descriptor_spec.specs.declared.Reading.{Reading}
 use Rattle.steps.specs.declared.Window.{Window}
@@ -28,15 +28,16 @@ use Rattle.image_spec.specs.Check.{numbersOf}
 use Rattle.image_spec.specs.Grow as grow
 use Rattle.image_spec.specs.Readable.{Holds as Readable, findOf}
 use Rattle.image_spec.specs.Edition2.{imageOf, Holds, hasRoom}
-use Rattle.image_spec.specs.Promises.{refusal}
-use Rattle.octets.proofs.SameLaws.{equal-same, not-same}
+use Rattle.image_spec.specs.Promises.{refusal, FoundAt}
+use Rattle.octets.proofs.SameLaws.{same-equal, equal-same, not-same}
 use Rattle.image_spec.proofs.Promises.{rows-in-turn, lookup-exactly, readable-exactly}
 use Rattle.image_spec.proofs.Laws.{edition2-ok, encoding-read, choice-exactly, fits-none-goes}
 use Rattle.image_spec.proofs.Laws as laws
 use Rattle.submission_spec.specs.Submission.{rowNow, submitted, afterOf, numberOf}
-use Rattle.submission_spec.specs.Promises.{rows, descriptor, stepsFor, Gives, larger, written, roomFor, Ready, LastSteps, RoomKeepsAll}
-use Rattle.submission_spec.specs.Promises.{RoomExactly, ExpiredExactly, UnexpiredExactly, RemovalOnce}
-use Rattle.submission_spec.specs.Promises.{StoredFound, FoundAlike, RemovedFrom, OthersFound, LeadBoundary, RowBoundary}
+use Rattle.submission_spec.specs.Promises.{rows, descriptor, version7Ids, stepsFor, Gives, larger, written, roomFor, Ready, LastSteps}
+use Rattle.submission_spec.specs.Promises.{RoomKeepsAll, RoomExactly, ExpiredExactly, UnexpiredExactly, RemovalOnce}
+use Rattle.submission_spec.specs.Promises.{StoredFound, FoundAlike, RemovedFrom, OthersFound, HeldFound, LeadBoundary, RowBoundary}
+use Rattle.submission_spec.proofs.IdLaws.{ids-exactly}
 use Rattle.submission_spec.proofs.NumberLaws.{itself, number-descriptor}
 use Rattle.submission_spec.proofs.StoredLaws.{refusal-keeps, repeat-keeps, stored-last, stored-removal, after-holds}
 
@@ -58,11 +59,19 @@ module _ (d : List ℕ) (bs : List Row) (c : Descriptor) (clock : ℕ) (window :
 
   -- the number is that of a step that fails, where those before it pass
   fails-with : (n : ℕ) → failsBy itself n all ≡ true → numberOf (submitted d (encode c) clock 0 window) ≡ n
-  fails-with n e = number-descriptor d clock 0 window bs c (r .holds) (r .bytes) (r .allowed) ∙ failed-by itself n all 0 e
+  fails-with n e = number-descriptor d clock 0 window bs c (r .holds) (r .bytes) (r .allowed .formed) ∙ failed-by itself n all 0 e
 
   -- it is 0 where every step passes
   all-passed : allPass all ≡ true → numberOf (submitted d (encode c) clock 0 window) ≡ 0
-  all-passed e = number-descriptor d clock 0 window bs c (r .holds) (r .bytes) (r .allowed) ∙ passed-end all 0 (all-pass all e)
+  all-passed e = number-descriptor d clock 0 window bs c (r .holds) (r .bytes) (r .allowed .formed) ∙ passed-end all 0 (all-pass all e)
+
+  -- the step of the ids passes
+  real : version7Ids c ≡ true
+  real = ids-exactly c (r .bytes) (r .allowed .formed) .1 (r .ids)
+
+  -- so does that of the period
+  short : leb (c .payload .notAfter - c .payload .notBefore) 7776000 ≡ true
+  short = le-leb (c .payload .notAfter - c .payload .notBefore) 7776000 (r .allowed .period)
 
   -- the id of the descriptor's encoding
   id-of : idOf (encode c) ≡ c .payload .id
@@ -71,7 +80,7 @@ module _ (d : List ℕ) (bs : List Row) (c : Descriptor) (clock : ℕ) (window :
   -- a descriptor that begins too late gives 2
   late : clock + 86400 < c .payload .notBefore → Gives d (encode c) clock 0 window 2 d
   late l =
-      let e : numberOf (submitted d (encode c) clock 0 window) ≡ 2 = fails-with 2 (rw (lt-leb (c .payload .notBefore) (clock + 86400) l)) in
+      let e : numberOf (submitted d (encode c) clock 0 window) ≡ 2 = fails-with 2 (rw (real, short, lt-leb (c .payload .notBefore) (clock + 86400) l)) in
       (e, refusal-keeps d (encode c) clock 0 window (λ z. omega arith))
 
   module _ (l : c .payload .notBefore ≤ clock + 86400) where
@@ -86,7 +95,7 @@ module _ (d : List ℕ) (bs : List Row) (c : Descriptor) (clock : ℕ) (window :
     -- the same bytes are held
     same-held : bodyWith (c .payload .id) bs ≡ some (encode c) → Gives d (encode c) clock 0 window 0 d
     same-held e = (
-      all-passed (rw (early, open-key, e, equal-same (encode c) (encode c) refl)),
+      all-passed (rw (real, short, early, open-key, e, equal-same (encode c) (encode c) refl)),
       repeat-keeps d (encode c) clock 0 window bs (encode c) (r .holds) (ap (λ (id : List ℕ). bodyWith id bs) id-of ∙ e),
     )
 
@@ -94,20 +103,20 @@ module _ (d : List ℕ) (bs : List Row) (c : Descriptor) (clock : ℕ) (window :
     other-held : (b : List ℕ) → bodyWith (c .payload .id) bs ≡ some b → (b ≡ encode c → ⊥) → Gives d (encode c) clock 0 window 5 d
     other-held b e o =
         let q : numberOf (submitted d (encode c) clock 0 window) ≡ 5
-        = fails-with 5 (rw (early, open-key, e, not-same b (encode c) o)) in
+        = fails-with 5 (rw (real, short, early, open-key, e, not-same b (encode c) o)) in
         (q, refusal-keeps d (encode c) clock 0 window (λ z. omega arith))
 
     module _ (e : bodyWith (c .payload .id) bs ≡ none) where
       -- there is no room beside the rows that are not expired
       no-room : roomFor (length d) (unexpired clock bs) (rowNow (encode c) clock) ≡ false → Gives d (encode c) clock 0 window 6 d
       no-room f =
-          let q : numberOf (submitted d (encode c) clock 0 window) ≡ 6 = fails-with 6 (rw (early, open-key, e, f)) in
+          let q : numberOf (submitted d (encode c) clock 0 window) ≡ 6 = fails-with 6 (rw (real, short, early, open-key, e, f)) in
           (q, refusal-keeps d (encode c) clock 0 window (λ z. omega arith))
 
       module _ (room : roomFor (length d) (unexpired clock bs) (rowNow (encode c) clock) ≡ true) where
         -- every step passes
         stored : numberOf (submitted d (encode c) clock 0 window) ≡ 0
-        stored = all-passed (rw (early, open-key, e, room))
+        stored = all-passed (rw (real, short, early, open-key, e, room))
 
         -- the id of the body is new
         new : bodyWith (idOf (encode c)) bs ≡ none
@@ -245,16 +254,40 @@ same-body s d id cs bs k h l e = go (bodyWith id bs) refl
         let m = lookup-exactly .held d id bs y l (readable d bs h) f in
         (n .answer ∙ sym (m .answer), n .bytes ∙ sym (m .bytes))
 
+-- an id that had an expired body, and has none, was removed
+removed : (d id : List ℕ) (bs : List Row) (after : List ℕ) (cs : List Row) (clock : ℕ) → Holds d bs → Holds after cs → length id ≡ idSize
+    → (bodyWith id cs ≡ none) × ((c : List ℕ) × (bodyWith id bs ≡ some c) × (endOf c ≤ clock)) → RemovedFrom clock after d id
+unfolding isExpired
+removed d id bs after cs clock h k l e = (
+  lookup-exactly .not-held after id cs l (readable after cs k) (e .0),
+  (e .1 .0, lookup-exactly .held d id bs (e .1 .0) l (readable d bs h) (e .1 .1), le-leb (endOf (e .1 .0)) clock (e .1 .2)),
+)
+
+-- `HeldFound`
+pub held-found : HeldFound
+held-found d b clock verdict window bs id c fits h l e = go (same (idOf b) id) refl
+  where
+    go : (t : Bool) → same (idOf b) id ≡ t
+        → FoundAt (afterOf d b clock verdict window) c (numbersOf (findOf (afterOf d b clock verdict window) id))
+        ⊎ RemovedFrom clock (afterOf d b clock verdict window) d id
+    go true k =
+        let mine : bodyWith (idOf b) bs ≡ some c = ap (λ (x : List ℕ). bodyWith x bs) (same-equal (idOf b) id k) ∙ e in
+        inl (subst (λ (s : List ℕ). FoundAt s c (numbersOf (findOf s id))) (sym (repeat-keeps d b clock verdict window bs c h mine))
+        (lookup-exactly .held d id bs c l (readable d bs h) e))
+    go false k =
+        let w = after-holds d b clock verdict window bs fits h in
+        let after : List ℕ = afterOf d b clock verdict window in
+        ⊎-elim {C = FoundAt after c (numbersOf (findOf after id)) ⊎ RemovedFrom clock after d id}
+        (λ f. inl (lookup-exactly .held after id (w .0) c l (readable after (w .0) (w .1)) (f ∙ e)))
+        (λ f. inr (removed d id bs after (w .0) clock h (w .1) l f))
+        (w .3 id (λ i. false≢true (sym k ∙ equal-same (idOf b) id i)))
+
 -- `OthersFound`
 pub others-found : OthersFound
-unfolding isExpired
 others-found d b clock verdict window bs id fits h l other =
     let w = after-holds d b clock verdict window bs fits h in
     let after : List ℕ = afterOf d b clock verdict window in
     ⊎-elim {C = FoundAlike after d id ⊎ RemovedFrom clock after d id}
     (λ e. inl (same-body after d id (w .0) bs (w .1) h l e))
-    (λ e. inr (
-      lookup-exactly .not-held after id (w .0) l (readable after (w .0) (w .1)) (e .0),
-      (e .1 .0, lookup-exactly .held d id bs (e .1 .0) l (readable d bs h) (e .1 .1), le-leb (endOf (e .1 .0)) clock (e .1 .2)),
-    ))
+    (λ e. inr (removed d id bs after (w .0) clock h (w .1) l e))
     (w .3 id other)

@@ -1,7 +1,9 @@
+pub mod IdLaws
 pub mod StepLaws
 pub mod AfterLaws
 pub mod StoredLaws
 pub mod NumberLaws
+pub mod IdStepLaws
 pub mod LastLaws
 pub mod Laws
 pub mod Promises

@@ -1,18 +1,24 @@
 -- The number of a submission is that of the first failing step of specs/Promises.antt. Assumes nothing.
 use mathlib.Core.Path.{_≡_, refl, sym, ap, ap₂, _∙_, subst}
+use mathlib.Core.Bool.{Bool, true, false}
 use mathlib.Core.List.{List, []}
-use Prim.Native.Nat.{ℕ}
+use mathlib.Core.Option.{Option, none, some}
+use Prim.Native.Nat.{ℕ, _-_}
 use native.Mathlib.Omega.{arith}
 use lib.ListN.{length}
+use lib.Dec.{leb}
+use borrow.Author.Tests.{leb-true}
 use Rattle.octets.specs.Bytes.{AreBytes}
 use Rattle.descriptor_spec.specs.declared.Fields.{Fields}
 use Rattle.descriptor_spec.specs.declared.Reading.{Reading}
 use Rattle.descriptor_spec.specs.declared.Reading.the-variants.{Read, Structure, Validity}
 use Rattle.descriptor_spec.specs.Model.{Descriptor, encode}
-use Rattle.descriptor_spec.specs.Allowed.{Allowed}
+use Rattle.descriptor_spec.specs.Allowed.{longestPeriod, period, Formed, Allowed}
 use Rattle.descriptor_spec.specs.Numbers as descriptor
-use Rattle.descriptor_spec.specs.Reader.{readOf}
-use Rattle.descriptor_spec.specs.Code.{readingOf}
+use Rattle.descriptor_spec.specs.Reader.{Seen, formedIn, readOf}
+use Rattle.descriptor_spec.specs.View.{descriptorView}
+use Rattle.descriptor_spec.specs.Code.{fieldsOf, readingOf, formOf, withinPeriod, readingIn}
+use Rattle.descriptor_spec.proofs.Laws.{formed-exactly, read-by-period}
 use Rattle.steps.specs.declared.Window.{Window}
 use Rattle.steps.specs.Order.{Step, orElse, inOrder, NoneIs}
 use Rattle.steps.specs.Key.{isVerdict, isThat, keyOpen}
@@ -23,18 +29,19 @@ use Rattle.image_spec.specs.declared.Held.{Held}
 use Rattle.image_spec.specs.declared.Held.the-variants.{Missing, Body}
 use Rattle.image_spec.specs.declared.ImageCheck.{ImageCheck}
 use Rattle.image_spec.specs.declared.ImageCheck.the-variants.{Sound, Unsound}
-use Rattle.image_spec.specs.Image.{Row, reading, isRead, idOf}
+use Rattle.image_spec.specs.Image.{Row, reading, idOf}
 use Rattle.image_spec.specs.Grow as grow
 use Rattle.image_spec.specs.Layout.{edition2}
 use Rattle.image_spec.specs.Edition2.{imageOf, Holds, checkOf, rowsHeld}
 use Rattle.image_spec.specs.Promises.{answerOf}
 use Rattle.image_spec.specs.Laws.{HeldIs}
-use Rattle.image_spec.proofs.Laws.{edition2-ok, body-read, encoding-read, check-tells, check-says, check-unsound, rows-named}
+use Rattle.image_spec.proofs.Laws.{edition2-ok, encoding-read, check-tells, check-says, check-unsound, rows-named}
 use Rattle.submission_spec.specs.declared.Submission.the-variants as answers
-use Rattle.submission_spec.specs.Submission.{stepsBy, steps, submitted, numberOf}
-use Rattle.submission_spec.specs.Promises.{Stored, badImage, rows, structure, validity, descriptor as encoding, IsStored, IsBody}
+use Rattle.submission_spec.specs.Submission.{entering, stepsBy, steps, submitted, numberOf}
+use Rattle.submission_spec.specs.Promises.{Stored, badImage, rows, structure, descriptor as encoding, IsStored, IsBody, version7Ids}
 use Rattle.submission_spec.specs.Promises.{AlwaysMeets, stepsFor, SubmittedExactly, DoneExactly, RefusedExactly}
 use Rattle.submission_spec.specs.Promises as promised
+use Rattle.submission_spec.proofs.IdLaws.{entering-formed, entering-structure}
 
 -- ---- the number, by what reading answers and what the check finds
 
@@ -42,13 +49,17 @@ use Rattle.submission_spec.specs.Promises as promised
 abbrev numberBy : List ℕ → List ℕ → ℕ → ℕ → Window → Reading → ImageCheck → ℕ
 numberBy d b clock verdict window r v = inOrder (mapped numberOf (stepsBy d b clock verdict window r v)) 0
 
--- the number of a submission is that by the reading of the body and the check of the buffer for its id
-number-by : (d b : List ℕ) (clock verdict : ℕ) (window : Window) (r : Reading) (v : ImageCheck) → reading b ≡ r → checkOf d (idOf b) ≡ v
+-- the number of a submission is that by what is answered of the body and the check of the buffer for its id
+number-by : (d b : List ℕ) (clock verdict : ℕ) (window : Window) (r : Reading) (v : ImageCheck) → entering b ≡ r → checkOf d (idOf b) ≡ v
     → numberOf (submitted d b clock verdict window) ≡ numberBy d b clock verdict window r v
 unfolding submitted steps
 number-by d b clock verdict window r v e f =
-    order-mapped numberOf (stepsBy d b clock verdict window (reading b) (checkOf d (idOf b))) answers.Done
+    order-mapped numberOf (stepsBy d b clock verdict window (entering b) (checkOf d (idOf b))) answers.Done
     ∙ ap₂ (numberBy d b clock verdict window) e f
+
+-- the period of a descriptor is not too long
+abbrev notTooLong : Descriptor → Bool
+notTooLong c = leb (c .payload .notAfter - c .payload .notBefore) 7776000
 
 -- a check that does not call the image sound, whatever reading answers
 by-unsound : (d b : List ℕ) (clock verdict : ℕ) (window : Window) (r : Reading) (x : promised.Body)
@@ -63,34 +74,73 @@ by-structure : (d b : List ℕ) (clock verdict : ℕ) (window : Window) (bs : Li
 unfolding stepsBy inOrder orElse isVerdict
 by-structure d b clock verdict window bs n end h = refl
 
--- a body that reading answers with 2
-by-validity : (d b : List ℕ) (clock verdict : ℕ) (window : Window) (bs : List Row) (n end : ℕ) (h : Held)
-    → numberBy d b clock verdict window Validity (Sound n end h) ≡ inOrder (stepsFor (rows bs) validity (length d) clock verdict window) 0
+-- the encoding of a descriptor with another id
+by-other-id : (d b : List ℕ) (clock verdict : ℕ) (window : Window) (bs : List Row) (c : Descriptor) (n end : ℕ) (h : Held)
+    → version7Ids c ≡ false
+    → numberBy d b clock verdict window Structure (Sound n end h)
+    ≡ inOrder (stepsFor (rows bs) (encoding c) (length d) clock verdict window) 0
 unfolding stepsBy inOrder orElse isVerdict
-by-validity d b clock verdict window bs n end h = refl
+by-other-id d b clock verdict window bs c n end h e = rw e
 
--- the encoding of a descriptor
+-- one whose period is too long
+by-period : (d b : List ℕ) (clock verdict : ℕ) (window : Window) (bs : List Row) (c : Descriptor) (n end : ℕ) (h : Held)
+    → version7Ids c ≡ true → notTooLong c ≡ false
+    → numberBy d b clock verdict window Validity (Sound n end h)
+    ≡ inOrder (stepsFor (rows bs) (encoding c) (length d) clock verdict window) 0
+unfolding stepsBy inOrder orElse isVerdict
+by-period d b clock verdict window bs c n end h e f = rw (e, f)
+
+-- one that is allowed
 by-descriptor : (d : List ℕ) (clock verdict : ℕ) (window : Window) (bs : List Row) (c : Descriptor) (f : Fields) (h : Held)
+    → version7Ids c ≡ true → notTooLong c ≡ true
     → rowsHeld d ≡ bs → f .«not_before» .0 ≡ c .payload .notBefore → HeldIs d (c .payload .id) bs h
     → numberBy d (encode c) clock verdict window (Read f) (Sound (length bs) (length (imageOf bs)) h)
     ≡ inOrder (stepsFor (rows bs) (encoding c) (length d) clock verdict window) 0
 unfolding stepsBy isVerdict isThat keyOpen grow.hasRoom
-by-descriptor d clock verdict window bs c f Missing q e k = ap (λ (l : List (Step ℕ)). inOrder l 0)
-    (rw (e, k, q))
-by-descriptor d clock verdict window bs c f (Body row at len g) q e k = ap (λ (l : List (Step ℕ)). inOrder l 0) (rw (e, k .which))
+by-descriptor d clock verdict window bs c f Missing i p q e k = ap (λ (l : List (Step ℕ)). inOrder l 0) (rw (i, p, e, k, q))
+by-descriptor d clock verdict window bs c f (Body row at len g) i p q e k =
+    ap (λ (l : List (Step ℕ)). inOrder l 0) (rw (i, p, e, k .which))
 
 -- ---- the number of a descriptor
 
--- the number for an allowed descriptor and a buffer that holds a list of bodies
+-- what is answered of a descriptor with ids of version 7, by its period
+entering-long : (c : Descriptor) → AreBytes (encode c) → Formed c → version7Ids c ≡ true → notTooLong c ≡ false
+    → entering (encode c) ≡ Validity
+unfolding withinPeriod
+entering-long c bytes q i p = entering-formed c bytes q ∙ rw (i, p)
+
+entering-allowed : (c : Descriptor) → AreBytes (encode c) → Formed c → version7Ids c ≡ true → notTooLong c ≡ true
+    → entering (encode c) ≡ Read (fieldsOf (descriptorView 0 c))
+unfolding withinPeriod
+entering-allowed c bytes q i p = entering-formed c bytes q ∙ rw (i, p)
+
+-- the number for a descriptor that is allowed but for its period and a buffer that holds a list of bodies
 pub number-descriptor : (d : List ℕ) (clock verdict : ℕ) (window : Window) (bs : List Row) (c : Descriptor) → Holds d bs
-    → AreBytes (encode c) → Allowed c
+    → AreBytes (encode c) → Formed c
     → numberOf (submitted d (encode c) clock verdict window) ≡ inOrder (stepsFor (rows bs) (encoding c) (length d) clock verdict window) 0
-number-descriptor d clock verdict window bs c h bytes a =
-    let r = encoding-read c bytes a in
-    let w = check-tells edition2 edition2-ok d (idOf (encode c)) bs h in
-    number-by d (encode c) clock verdict window (Read (r .0)) (Sound (length bs) (length (imageOf bs)) (w .0)) (r .1) (w .1)
-    ∙ by-descriptor d clock verdict window bs c (r .0) (w .0) (rows-named edition2 edition2-ok d bs h) (r .2)
-    (subst (λ (id : List ℕ). HeldIs d id bs (w .0)) (r .3) (w .2))
+number-descriptor d clock verdict window bs c h bytes q = go (version7Ids c) (notTooLong c) refl refl
+  where
+    go : (i p : Bool) → version7Ids c ≡ i → notTooLong c ≡ p
+        → numberOf (submitted d (encode c) clock verdict window)
+        ≡ inOrder (stepsFor (rows bs) (encoding c) (length d) clock verdict window) 0
+    go false p e f =
+        let w = check-tells edition2 edition2-ok d (idOf (encode c)) bs h in
+        number-by d (encode c) clock verdict window Structure (Sound (length bs) (length (imageOf bs)) (w .0))
+        (entering-formed c bytes q ∙ rw e) (w .1)
+        ∙ by-other-id d (encode c) clock verdict window bs c (length bs) (length (imageOf bs)) (w .0) e
+    go true false e f =
+        let w = check-tells edition2 edition2-ok d (idOf (encode c)) bs h in
+        number-by d (encode c) clock verdict window Validity (Sound (length bs) (length (imageOf bs)) (w .0))
+        (entering-long c bytes q e f) (w .1)
+        ∙ by-period d (encode c) clock verdict window bs c (length bs) (length (imageOf bs)) (w .0) e f
+    go true true e f =
+        let a : Allowed c = record { formed = q; period = leb-true (period c) longestPeriod f } in
+        let r = encoding-read c bytes a in
+        let w = check-tells edition2 edition2-ok d (idOf (encode c)) bs h in
+        number-by d (encode c) clock verdict window (Read (fieldsOf (descriptorView 0 c)))
+        (Sound (length bs) (length (imageOf bs)) (w .0)) (entering-allowed c bytes q e f) (w .1)
+        ∙ by-descriptor d clock verdict window bs c (fieldsOf (descriptorView 0 c)) (w .0) e f (rows-named edition2 edition2-ok d bs h) refl
+        (subst (λ (id : List ℕ). HeldIs d id bs (w .0)) (r .3) (w .2))
 
 -- ---- every case
 
@@ -104,29 +154,16 @@ structure-read b e = go (readingOf (readOf b)) e
     go Structure e = refl
     go Validity e = absurd (omega arith)
 
--- what reading answers with 2
-validity-read : (b : List ℕ) → answerOf b ≡ 2 → reading b ≡ Validity
-unfolding reading
-validity-read b e = go (readingOf (readOf b)) e
-  where
-    go : (r : Reading) → descriptor.numberOf r ≡ 2 → r ≡ Validity
-    go (Read f) e = absurd (omega arith)
-    go Structure e = absurd (omega arith)
-    go Validity e = refl
-
 -- `SubmittedExactly`
 pub submitted-exactly : SubmittedExactly
 submitted-exactly d b clock verdict window badImage x m =
-    number-by d b clock verdict window (reading b) Unsound refl (check-unsound edition2 edition2-ok d (idOf b) (m .buffer-bytes) .1 (m .stored))
-    ∙ by-unsound d b clock verdict window (reading b) x
+    number-by d b clock verdict window (entering b) Unsound refl (check-unsound edition2 edition2-ok d (idOf b) (m .buffer-bytes) .1 (m .stored))
+    ∙ by-unsound d b clock verdict window (entering b) x
 submitted-exactly d b clock verdict window (rows bs) structure m =
     let w = check-tells edition2 edition2-ok d (idOf b) bs (m .stored) in
-    number-by d b clock verdict window Structure (Sound (length bs) (length (imageOf bs)) (w .0)) (structure-read b (m .body)) (w .1)
+    number-by d b clock verdict window Structure (Sound (length bs) (length (imageOf bs)) (w .0))
+    (entering-structure b (structure-read b (m .body))) (w .1)
     ∙ by-structure d b clock verdict window bs (length bs) (length (imageOf bs)) (w .0)
-submitted-exactly d b clock verdict window (rows bs) validity m =
-    let w = check-tells edition2 edition2-ok d (idOf b) bs (m .stored) in
-    number-by d b clock verdict window Validity (Sound (length bs) (length (imageOf bs)) (w .0)) (validity-read b (m .body)) (w .1)
-    ∙ by-validity d b clock verdict window bs (length bs) (length (imageOf bs)) (w .0)
 submitted-exactly d b clock verdict window (rows bs) (encoding c) m =
     ap (λ (y : List ℕ). numberOf (submitted d y clock verdict window)) (m .body .1)
     ∙ number-descriptor d clock verdict window bs c (m .stored) (subst AreBytes (m .body .1) (m .body-bytes)) (m .body .0)
@@ -140,7 +177,6 @@ never-zero : (s : Stored) (x : promised.Body) (room clock verdict : ℕ) (window
 never-zero badImage x room clock verdict window = none-is itself 0 (stepsFor badImage x room clock verdict window) refl
 never-zero (rows bs) structure room clock verdict window = none-is itself 0
     (stepsFor (rows bs) structure room clock verdict window) refl
-never-zero (rows bs) validity room clock verdict window = none-is itself 0 (stepsFor (rows bs) validity room clock verdict window) refl
 never-zero (rows bs) (encoding c) room clock verdict window = none-is itself 0
     (stepsFor (rows bs) (encoding c) room clock verdict window) refl
 
@@ -168,13 +204,11 @@ stored-of d bytes = go (checkOf d []) refl
 
 -- what every body is
 body-of : (b : List ℕ) → AreBytes b → (x : promised.Body) × IsBody b x
-unfolding reading
-body-of b bytes = go (reading b) refl
+body-of b bytes = go (formedIn b) refl
   where
-    go : (r : Reading) → reading b ≡ r → (x : promised.Body) × IsBody b x
-    go (Read f) e = let w = body-read b bytes (ap isRead e) in (encoding (w .0), (w .1, w .2))
-    go Structure e = (structure, ap descriptor.numberOf e)
-    go Validity e = (validity, ap descriptor.numberOf e)
+    go : (o : Option Seen) → formedIn b ≡ o → (x : promised.Body) × IsBody b x
+    go (some v) e = let w = formed-exactly b bytes v .0 e in (encoding (w .0), (w .1, w .2))
+    go none e = (structure, ap descriptor.numberOf (read-by-period b ∙ ap (λ (o : Option Seen). readingIn (formOf o)) e))
 
 -- `AlwaysMeets`
 pub always-meets : AlwaysMeets

@@ -1,13 +1,21 @@
 -- The promises of specs/Promises.antt, each from its law. Assumes nothing.
 use Rattle.submission_spec.specs.Promises.{AlwaysMeets, SubmittedExactly, DoneExactly, RefusedExactly, EditionsRefused, RefusalKeeps}
 use Rattle.submission_spec.specs.Promises.{RepeatKeeps, LastSteps, RoomKeepsAll, UnexpiredKept, StoredFound, OthersFound, LeadBoundary}
-use Rattle.submission_spec.specs.Promises.{RoomExactly, ExpiredExactly, UnexpiredExactly, RemovalOnce, RowBoundary}
+use Rattle.submission_spec.specs.Promises.{RoomExactly, ExpiredExactly, UnexpiredExactly, RemovalOnce, RowBoundary, IdsExactly, StepOfIds}
+use Rattle.submission_spec.specs.Promises.{HeldFound}
+use Rattle.submission_spec.proofs.IdLaws as ids
+use Rattle.submission_spec.proofs.IdStepLaws as steps
 use Rattle.submission_spec.proofs.NumberLaws as number
 use Rattle.submission_spec.proofs.StoredLaws as stored
 use Rattle.submission_spec.proofs.LastLaws as last
 
 pub always-meets : AlwaysMeets
 always-meets = number.always-meets
+
+-- ---- the three ids
+
+pub ids-exactly : IdsExactly
+ids-exactly = ids.ids-exactly
 
 -- ---- room, and the rows that may go for it
 
@@ -34,6 +42,9 @@ done-exactly = number.done-exactly
 pub refused-exactly : RefusedExactly
 refused-exactly = number.refused-exactly
 
+pub step-of-ids : StepOfIds
+step-of-ids = steps.step-of-ids
+
 pub editions-refused : EditionsRefused
 editions-refused = stored.editions-refused
 
@@ -59,6 +70,9 @@ stored-found = last.stored-found
 
 pub others-found : OthersFound
 others-found = last.others-found
+
+pub held-found : HeldFound
+held-found = last.held-found
 
 -- ---- both sides of a line
 

@@ -22,7 +22,8 @@ use Rattle.image_spec.specs.Choose.{unexpired}
 use Rattle.image_spec.specs.Edition2.{checkOf, rowsHeld, hasRoom}
 use Rattle.submission_spec.specs.declared.Submission.{Submission}
 use Rattle.submission_spec.specs.declared.Submission.the-variants as answers
-use Rattle.submission_spec.specs.Submission.{rowNow, isStructure, isValidity, agrees, stepsBy, steps, submitted, numberOf}
+use Rattle.submission_spec.specs.Submission.{entering, rowNow, isStructure, isValidity, agrees, stepsBy, steps, submitted, numberOf}
+use Rattle.submission_spec.proofs.IdLaws.{entering-read}
 
 -- ---- the steps and the answer 0
 
@@ -86,8 +87,8 @@ done-passed d b clock verdict window e =
     = λ n. passed-by numberOf n (steps d b clock verdict window) p in
     record {
       sound = and-left _ true (by (numberOf answers.BadImage));
-      reads = read-passes (reading b) (and-left _ true (by (numberOf answers.Structure)))
-          (and-left (not (isValidity (reading b))) _ (by (numberOf answers.Validity)));
+      reads = entering-read b (read-passes (entering b) (and-left _ true (by (numberOf answers.Structure)))
+          (and-left (not (isValidity (entering b))) _ (by (numberOf answers.Validity))));
       same-bytes = and-left _ true (by (numberOf answers.Duplicate));
       room = and-left _ true (by (numberOf answers.Full));
     }

@@ -9,9 +9,14 @@ use native.Mathlib.Omega.{arith}
 use lib.ListN.{length}
 use lib.Dec.{eqb}
 use borrow.Author.Tests.{eqb-true, eqb-false}
-use Rattle.octets.specs.Bytes.{part, same}
+use Rattle.octets.specs.Bytes.{AreBytes, part, same}
 use Rattle.descriptor_spec.specs.declared.Fields.{Fields}
+use Rattle.descriptor_spec.specs.Model.{Descriptor, encode}
+use Rattle.descriptor_spec.specs.Allowed.{Formed}
 use Rattle.steps.specs.declared.Window.{Window}
+use Rattle.steps.specs.Order.{Step, AllPass}
+use Rattle.steps.proofs.Laws.{none-is, passed-by}
+use Rattle.steps.proofs.Promises as order
 use Rattle.image_spec.specs.declared.Held.{Held}
 use Rattle.image_spec.specs.declared.Held.the-variants.{Missing, Body}
 use Rattle.image_spec.specs.declared.ImageCheck.{ImageCheck}
@@ -25,13 +30,17 @@ use Rattle.image_spec.specs.Removal.{left, Removal}
 use Rattle.image_spec.specs.Edition2.{imageOf, Holds, checkOf, rowsHeld, hasRoom, withBody}
 use Rattle.octets.proofs.OptionLaws.{some-same, none-some}
 use Rattle.octets.proofs.SameLaws.{same-equal}
+use Rattle.octets.proofs.Tests.{and-left}
 use Rattle.image_spec.specs.Laws.{HeldIs}
 use Rattle.image_spec.proofs.Laws.{edition2-ok, body-read, rows-named, check-tells, check-says, editions-checked, one-more}
 use Rattle.image_spec.proofs.Laws.{choice-exactly, choice-removal, unexpired-stay, stored-holds, left-finds}
 use Rattle.submission_spec.specs.declared.Submission.the-variants as answers
 use Rattle.submission_spec.specs.Submission.{rowNow, agrees, submitted, numberOf, afterOf}
+use Rattle.submission_spec.specs.Promises.{rows, descriptor, AreVersion7, version7Ids, stepsFor}
 use Rattle.submission_spec.specs.Promises.{RefusalKeeps, RepeatKeeps, EditionsRefused, UnexpiredKept}
 use Rattle.submission_spec.specs.Laws.{DoneMeans, HasAfter, AfterHolds}
+use Rattle.submission_spec.proofs.IdLaws.{ids-exactly}
+use Rattle.submission_spec.proofs.NumberLaws.{itself, number-descriptor}
 use Rattle.submission_spec.proofs.AfterLaws.{refused-keeps, after-held, after-new}
 use Rattle.submission_spec.proofs.StepLaws.{number-is, Passed, done-passed, unsound-refused}
 
@@ -93,16 +102,32 @@ editions-refused d b clock verdict window h other =
 
 -- ---- what an answer of 0 says
 
+-- the buffer holds a list of rows
+done-holds : (d b : List ℕ) → AreBytes d → isSound (checkOf d (idOf b)) ≡ true → (bs : List Row) × Holds d bs
+done-holds d b bytes = go (checkOf d (idOf b)) refl
+  where
+    go : (v : ImageCheck) → checkOf d (idOf b) ≡ v → isSound v ≡ true → (bs : List Row) × Holds d bs
+    go (Sound n end h) e = λ t. (rowsHeld d, check-says edition2 edition2-ok d (idOf b) bytes n end h e .holds)
+    go Unsound e = λ t. absurd (false≢true t)
+
+-- the ids of what was submitted are of version 7
+done-ids : (d : List ℕ) (bs : List Row) (c : Descriptor) (clock verdict : ℕ) (window : Window) → Holds d bs → AreBytes (encode c) → Formed c
+    → numberOf (submitted d (encode c) clock verdict window) ≡ 0 → AreVersion7 c
+done-ids d bs c clock verdict window h bytes q z =
+    let all : List (Step ℕ) = stepsFor (rows bs) (descriptor c) (length d) clock verdict window in
+    let p : AllPass all = order.pass-exactly ℕ all 0 (none-is itself 0 all refl) .0
+    (sym (number-descriptor d clock verdict window bs c h bytes q) ∙ z) in
+    ids-exactly c bytes q .0 (and-left (version7Ids c) true (passed-by itself 1 all p))
+
 -- `DoneMeans`
 pub done-means : DoneMeans
 done-means d b clock verdict window bytes a z =
     let p = done-passed d b clock verdict window (number-is (submitted d b clock verdict window) answers.Done z) in
     let r = body-read b a (p .reads) in
-    (go (checkOf d (idOf b)) refl (p .sound), (r .0, r .1, r .2, r .3))
-  where
-    go : (v : ImageCheck) → checkOf d (idOf b) ≡ v → isSound (checkOf d (idOf b)) ≡ true → (bs : List Row) × Holds d bs
-    go (Sound n end h) e t = (rowsHeld d, check-says edition2 edition2-ok d (idOf b) bytes n end h e .holds)
-    go Unsound e t = absurd (false≢true (sym (ap isSound e) ∙ t))
+    let w = done-holds d b bytes (p .sound) in
+    let mine : numberOf (submitted d (encode (r .0)) clock verdict window) ≡ 0
+    = sym (ap (λ (y : List ℕ). numberOf (submitted d y clock verdict window)) (r .2)) ∙ z in
+    (w, (r .0, r .1, r .2, r .3, done-ids d (w .0) (r .0) clock verdict window (w .1) (subst AreBytes (r .2) a) (r .1 .formed) mine))
 
 module _ (d b : List ℕ) (clock verdict : ℕ) (window : Window) (bs : List Row) (h : Holds d bs)
     (z : numberOf (submitted d b clock verdict window) ≡ 0) where

@@ -15,6 +15,7 @@ use Rattle.image_spec.specs.Edition2.{Holds}
 use Rattle.submission_spec.specs.declared.Submission.{Submission}
 use Rattle.submission_spec.specs.declared.Submission.the-variants.{Done}
 use Rattle.submission_spec.specs.Submission.{submitted, afterAnswer, afterOf, numberOf}
+use Rattle.submission_spec.specs.Promises.{AreVersion7}
 
 -- answers with the same number are the same
 abbrev pub NumbersTell : Type 0
@@ -24,12 +25,12 @@ NumbersTell = (x a : Submission) → numberOf x ≡ numberOf a → x ≡ a
 abbrev pub RefusedKeeps : Type 0
 RefusedKeeps = (d b : List ℕ) (clock : ℕ) (held : Bool) (a : Submission) → (a ≡ Done → ⊥) → afterAnswer d b clock held a ≡ d
 
--- an answer of 0 says that the buffer holds a list of rows, and that what was submitted is the encoding of an allowed descriptor and
--- has its id
+-- an answer of 0 says that the buffer holds a list of rows, and that what was submitted is the encoding of an allowed descriptor, has its
+-- id, and has ids of version 7
 abbrev pub DoneMeans : Type 0
 DoneMeans = (d b : List ℕ) (clock verdict : ℕ) (window : Window) → AreBytes d → AreBytes b
     → numberOf (submitted d b clock verdict window) ≡ 0
-    → ((rs : List Row) × Holds d rs) × ((c : Descriptor) × Allowed c × (b ≡ encode c) × (idOf b ≡ c .payload .id))
+    → ((rs : List Row) × Holds d rs) × ((c : Descriptor) × Allowed c × (b ≡ encode c) × (idOf b ≡ c .payload .id) × AreVersion7 c)
 
 -- what an id has after a submission at a clock, and had before: the same; or it had an expired body, and has none
 abbrev pub HasAfter : ℕ → List Row → List Row → List ℕ → Type 0

@@ -1,17 +1,21 @@
 -- What is promised of submission, and nothing else. Each statement `NameOfIt` is proved in proofs/Promises.antt as `name-of-it`.
--- Document 01, "Submission, in this order", as document 02 §5 amends it.
+-- Document 01, "Submission, in this order", as document 02 §5 and §6 amend it.
 use mathlib.Core.Path.{_≡_}
 use mathlib.Core.Logic.{_↔_, _⊎_}
 use mathlib.Core.Bool.{Bool, true, false, not, _&&_, _||_}
 use mathlib.Core.List.{List, [], _∷_, _++_}
 use mathlib.Core.Option.{Option, none, some}
-use Prim.Native.Nat.{ℕ, _+_, _^_, _≤_, _<_}
+use Prim.Native.Nat.{ℕ, _+_, _-_, _^_, _≤_, _<_}
+use Prim.Native.String.{String}
 use lib.ListN.{length, drop}
 use lib.Dec.{leb, ltb, eqb}
 use Rattle.octets.specs.Bytes.{AreBytes, part, same}
 use Rattle.octets.specs.Number.{numberAt}
+use Rattle.resource_spec.specs.Characters.{codes}
+use Rattle.uuid_spec.specs.Uuid.{IsVersion7, text}
+use Rattle.uuid_spec.specs.Version7.{isVersion7, isVersion7Text}
 use Rattle.descriptor_spec.specs.Model.{Descriptor, encode}
-use Rattle.descriptor_spec.specs.Allowed.{Allowed}
+use Rattle.descriptor_spec.specs.Allowed.{Formed, Allowed}
 use Rattle.steps.specs.declared.Window.{Window}
 use Rattle.steps.specs.Order.{Step, step, inOrder, AllPass, FirstFails}
 use Rattle.image_spec.specs.Layout.{edition2}
@@ -32,10 +36,9 @@ pub data Stored : Type 0 where
   badImage : Stored
   rows : List Row → Stored
 
--- what is submitted: bytes that reading answers with 1, or with 2, or the encoding of an allowed descriptor
+-- what is submitted: bytes that reading answers with 1, or the encoding of a descriptor that is allowed but for its period
 pub data Body : Type 0 where
   structure : Body
-  validity : Body
   descriptor : Descriptor → Body
 
 -- the buffer d holds that
@@ -46,8 +49,7 @@ IsStored d (rows rs) = Holds d rs
 -- the bytes b are that
 abbrev pub IsBody : List ℕ → Body → Type 0
 IsBody b structure = answerOf b ≡ 1
-IsBody b validity = answerOf b ≡ 2
-IsBody b (descriptor c) = Allowed c × (b ≡ encode c)
+IsBody b (descriptor c) = Formed c × (b ≡ encode c)
 
 -- the bytes d and b are a buffer that holds s, and x
 pub record Meets (d b : List ℕ) (s : Stored) (x : Body) : Type 0 where
@@ -59,6 +61,27 @@ pub record Meets (d b : List ℕ) (s : Stored) (x : Body) : Type 0 where
 -- every buffer and every body are one of these
 abbrev pub AlwaysMeets : Type 0
 AlwaysMeets = (d b : List ℕ) → AreBytes d → AreBytes b → (s : Stored) × (x : Body) × Meets d b s x
+
+-- ---- the three ids (document 02 §6)
+
+-- a text is the prefix and the lower-case text of a UUID of version 7 with RFC 9562's variant
+abbrev pub Version7After : String → List ℕ → Type 0
+Version7After prefix t = (b : List ℕ) × IsVersion7 b × (t ≡ codes prefix ++ text b)
+
+-- the descriptor id is a UUID of version 7 with that variant, and so are those of the fay id and the terminal id, in lower case
+pub record AreVersion7 (c : Descriptor) : Type 0 where
+  pub id : IsVersion7 (c .payload .id)
+  pub fay : Version7After "fay:" (c .payload .fay)
+  pub terminal : Version7After "terminal:" (c .payload .terminal)
+
+-- the same as a test: of the id, and of what follows "fay:" and "terminal:"
+abbrev pub version7Ids : Descriptor → Bool
+version7Ids c =
+    isVersion7 (c .payload .id) && (isVersion7Text (drop 4 (c .payload .fay)) && isVersion7Text (drop 9 (c .payload .terminal)))
+
+-- the test passes exactly when they are
+abbrev pub IdsExactly : Type 0
+IdsExactly = (c : Descriptor) → AreBytes (encode c) → Formed c → (version7Ids c ≡ true) ↔ AreVersion7 c
 
 -- ---- room, and the rows that may go for it
 
@@ -104,8 +127,8 @@ abbrev pub isHeld : Option (List ℕ) → Bool
 isHeld none = false
 isHeld (some c) = true
 
--- The steps of a submission to a buffer of `room` bytes, each with its number. 15: host verdict above 2. 16. Then 1 or 2 from reading;
--- 2 if not_before > now + 86,400. 3: verdict 2. 14: now < valid_from, or there is a valid_until and now > valid_until. 4: verdict 1.
+-- The steps of a submission to a buffer of `room` bytes, each with its number. 15: host verdict above 2. 16. Then 1 from reading, and 1 for
+-- another id; 2 for a period of over 7,776,000 seconds; 2 if not_before > now + 86,400. 3: verdict 2. 14: now < valid_from, or there is a valid_until and now > valid_until. 4: verdict 1.
 -- Then, if the id is held, other bytes 5. 6 exactly when it is not, and there is no room beside the rows that are not expired.
 abbrev pub stepsFor : Stored → Body → ℕ → ℕ → ℕ → Window → List (Step ℕ)
 stepsFor badImage x room clock verdict window =
@@ -117,17 +140,11 @@ stepsFor (rows rs) structure room clock verdict window =
     ∷ step true 16
     ∷ step false 1
     ∷ []
-stepsFor (rows rs) validity room clock verdict window =
-    step (leb verdict 2) 15
-    ∷ step true 16
-    ∷ step true 1
-    ∷ step false 2
-    ∷ []
 stepsFor (rows rs) (descriptor c) room clock verdict window =
     step (leb verdict 2) 15
     ∷ step true 16
-    ∷ step true 1
-    ∷ step true 2
+    ∷ step (version7Ids c) 1
+    ∷ step (leb (c .payload .notAfter - c .payload .notBefore) 7776000) 2
     ∷ step (leb (c .payload .notBefore) (clock + 86400)) 2
     ∷ step (not (eqb verdict 2)) 3
     ∷ step (leb (window .from .0) clock && (not (window .bounded) || leb clock (window .until .0))) 14
@@ -150,6 +167,16 @@ DoneExactly = (d b : List ℕ) (clock verdict : ℕ) (window : Window) (s : Stor
 abbrev pub RefusedExactly : Type 0
 RefusedExactly = (d b : List ℕ) (clock verdict : ℕ) (window : Window) (s : Stored) (x : Body) → Meets d b s x → (n : ℕ) → (n ≡ 0 → ⊥)
     → (numberOf (submitted d b clock verdict window) ≡ n) ↔ FirstFails (stepsFor s x (length d) clock verdict window) n
+
+-- A descriptor that is allowed but for its period passes the step of the ids exactly when they are of version 7: else it is answered 1, whatever
+-- its period is, and the buffer is left as it was, also where these very bytes are held from before; with such ids it is not answered 1.
+pub record StepOfIds : Type 0 where
+  pub refused : (d : List ℕ) (rs : List Row) (c : Descriptor) (clock verdict : ℕ) (window : Window) → Holds d rs → AreBytes (encode c)
+      → Formed c → verdict ≤ 2 → (AreVersion7 c → ⊥)
+      → (numberOf (submitted d (encode c) clock verdict window) ≡ 1) × (afterOf d (encode c) clock verdict window ≡ d)
+  pub passed : (d : List ℕ) (rs : List Row) (c : Descriptor) (clock verdict : ℕ) (window : Window) → Holds d rs → AreBytes (encode c)
+      → Formed c → AreVersion7 c
+      → numberOf (submitted d (encode c) clock verdict window) ≡ 1 → ⊥
 
 -- an image whose image edition is another than 2, as an image of edition 1 is, or whose mode edition is another than 1 is answered 16, and
 -- left as it was
@@ -182,10 +209,11 @@ larger rs c clock = rs ++ (newRow (encode c) clock ∷ [])
 abbrev pub written : List ℕ → List Row → List ℕ
 written d rs = imageOf rs ++ drop (length (imageOf rs)) d
 
--- the buffer d holds the rows, c is allowed, the clock is a number of 64 bits, and in the key's window
+-- the buffer d holds the rows, c is allowed and has ids of version 7, the clock is a number of 64 bits, and in the key's window
 pub record Ready (d : List ℕ) (rs : List Row) (c : Descriptor) (clock : ℕ) (window : Window) : Type 0 where
   pub holds : Holds d rs
   pub allowed : Allowed c
+  pub ids : AreVersion7 c
   pub bytes : AreBytes (encode c)
   pub held : clock < 2 ^ 64
   pub opened : window .from .0 ≤ clock
@@ -254,6 +282,14 @@ OthersFound = (d b : List ℕ) (clock verdict : ℕ) (window : Window) (rs : Lis
     → length id ≡ 16 → (idOf b ≡ id → ⊥)
     → let after = afterOf d b clock verdict window in
     FoundAlike after d id ⊎ RemovedFrom clock after d id
+
+-- Whatever ids a body from before has: it is found after every submission as it was, whatever that answered; or it was expired, and was
+-- removed.
+abbrev pub HeldFound : Type 0
+HeldFound = (d b : List ℕ) (clock verdict : ℕ) (window : Window) (rs : List Row) (id c : List ℕ) → clock < 2 ^ 64 → Holds d rs
+    → length id ≡ 16 → bodyWith id rs ≡ some c
+    → let after = afterOf d b clock verdict window in
+    FoundAt after c (numbersOf (findOf after id)) ⊎ RemovedFrom clock after d id
 
 -- ---- both sides of a line
 

@@ -1,12 +1,20 @@
 -- Submission: what the code answers, and the buffer after it. These definitions compute. A reader of the promises does not need this page.
-use mathlib.Core.Bool.{Bool, true, false, not, _||_}
+use mathlib.Core.Bool.{Bool, true, false, not, cond, _&&_, _||_}
 use mathlib.Core.List.{List, [], _∷_}
-use Prim.Native.Nat.{ℕ, _+_}
+use Prim.Native.Nat.{ℕ, _+_, _-_}
 use lib.ListN.{length}
 use lib.Dec.{leb}
 use Rattle.octets.specs.Bytes.{part, same}
+use Rattle.resource_spec.specs.Identifier.{faySize, terminalSize}
+use Rattle.uuid_spec.specs.Version7.{isVersion7, isVersion7Text}
+use Rattle.descriptor_spec.specs.declared.Fields.{Fields}
+use Rattle.descriptor_spec.specs.declared.Form.{Form}
+use Rattle.descriptor_spec.specs.declared.Form.the-variants.{Formed, Unformed}
 use Rattle.descriptor_spec.specs.declared.Reading.{Reading}
 use Rattle.descriptor_spec.specs.declared.Reading.the-variants.{Read, Structure, Validity}
+use Rattle.descriptor_spec.specs.Allowed.{idSize}
+use Rattle.descriptor_spec.specs.Reader.{formedIn}
+use Rattle.descriptor_spec.specs.Code.{formOf, withinPeriod}
 use Rattle.steps.specs.declared.Window.{Window}
 use Rattle.steps.specs.Order.{Step, step, inOrder}
 use Rattle.steps.specs.Key.{bad, noKey, isVerdict, isThat, keyOpen}
@@ -14,7 +22,7 @@ use Rattle.image_spec.specs.declared.Held.the-variants.{Missing, Body}
 use Rattle.image_spec.specs.declared.ImageCheck.{ImageCheck}
 use Rattle.image_spec.specs.declared.ImageCheck.the-variants.{Sound, Unsound}
 use Rattle.image_spec.specs.Layout.{edition2}
-use Rattle.image_spec.specs.Image.{Row, reading, idOf}
+use Rattle.image_spec.specs.Image.{Row, idOf}
 use Rattle.image_spec.specs.Check.{isSound, isHeld}
 use Rattle.image_spec.specs.Choose.{unexpired, stayingOf}
 use Rattle.image_spec.specs.Edition2.{checkOf, rowsHeld, hasRoom, withBody}
@@ -24,6 +32,31 @@ use Rattle.submission_spec.specs.declared.Submission.the-variants as ans
 -- one day in seconds: how far ahead a descriptor may begin
 abbrev pub longestLead : ℕ
 longestLead = 86400
+
+-- ---- the three ids (document 02 §6)
+
+-- where the UUID text begins in a fay id, after "fay:", and in a terminal id, after "terminal:"
+abbrev pub fayText : ℕ
+fayText = 4
+
+abbrev pub terminalText : ℕ
+terminalText = 9
+
+-- the ids of the fields in b are of version 7, the two texts in lower case
+unfoldable pub idsIn : List ℕ → Fields → Bool
+idsIn b f =
+    isVersion7 (part b (f .id) idSize)
+    && (isVersion7Text (part b (f .fay + fayText) (faySize - fayText))
+    && isVersion7Text (part b (f .terminal + terminalText) (terminalSize - terminalText)))
+
+-- what is answered of b, by what it is before the period is looked at: 1 for another id, and then 2 for the period
+abbrev pub enteringBy : List ℕ → Form → Reading
+enteringBy b (Formed f) = cond (idsIn b f) (withinPeriod f) Structure
+enteringBy b Unformed = Structure
+
+-- what reading answers of bytes that are submitted, with the ids looked at
+unfoldable pub entering : List ℕ → Reading
+entering b = enteringBy b (formOf (formedIn b))
 
 -- ---- what was read and what was found
 
@@ -80,7 +113,7 @@ stepsBy d b clock verdict window r v =
 
 -- the steps of a submission of the body b to the image d
 unfoldable pub steps : List ℕ → List ℕ → ℕ → ℕ → Window → List (Step Submission)
-steps d b clock verdict window = stepsBy d b clock verdict window (reading b) (checkOf d (idOf b))
+steps d b clock verdict window = stepsBy d b clock verdict window (entering b) (checkOf d (idOf b))
 
 -- the answer: the first failing step's, or done
 unfoldable pub submitted : List ℕ → List ℕ → ℕ → ℕ → Window → Submission

@@ -11,9 +11,9 @@ use borrow.Author.Tests.{leb-true, eqb-true, eq-eqb}
 use Rattle.octets.specs.Bytes.{AreBytes}
 use Rattle.octets.proofs.Tests.{by-cond, and-left, and-right, and-both, no-flag}
 use Rattle.resource_spec.specs.Identifier.{between, isHex, Slot, digit as aDigit, char, hasForm, uuidForm}
-use Rattle.uuid_spec.specs.Uuid.{digit, hex, grouped, lower, lowered, Spells}
+use Rattle.uuid_spec.specs.Uuid.{digit, hex, grouped, text, lower, lowered, Spells}
 use Rattle.uuid_spec.specs.Promises.{TextsSpell, SpelledOnce}
-use Rattle.uuid_spec.proofs.DigitLaws.{value, octet-value, hex-digit, digit-hex}
+use Rattle.uuid_spec.proofs.DigitLaws.{digit-lower, value, octet-value, hex-digit, digit-hex}
 
 -- ---- octets
 
@@ -220,6 +220,34 @@ texts-spell t = (
       (r .octets, record { octets = r .bytes; size = r .size; text = r .spelled }),
   λ w. groups-back (4 ∷ 2 ∷ 2 ∷ 2 ∷ 6 ∷ []) (w .0) t (w .1 .octets) (w .1 .size) (w .1 .text),
 )
+
+-- ---- the text of octets is lower case
+
+-- so are the digits of octets
+hex-lowered : (xs : List ℕ) → AreBytes xs → lowered (hex xs) ≡ hex xs
+hex-lowered [] f = refl
+hex-lowered (x ∷ xs) f =
+    let same : (n : ℕ) → n < 16 → lower (digit n) ≡ digit n = λ n h. rw (digit-lower n h) in
+    let high : lower (digit (x / 16)) ≡ digit (x / 16) = same (x / 16) (omega (arith, f 0)) in
+    let low : lower (digit (x % 16)) ≡ digit (x % 16) = same (x % 16) (omega arith) in
+    ap₂ (λ (c d : ℕ). c ∷ d ∷ lowered (hex xs)) high low ∙ ap (pair x) (hex-lowered xs (λ i. f (suc i)))
+
+-- a text before another
+lowered-append : (t u : List ℕ) → lowered (t ++ u) ≡ lowered t ++ lowered u
+lowered-append [] u = refl
+lowered-append (c ∷ t) u = ap (λ (l : List ℕ). lower c ∷ l) (lowered-append t u)
+
+-- and groups of them
+groups-lowered : (ns b : List ℕ) → AreBytes b → lowered (grouped ns b) ≡ grouped ns b
+groups-lowered [] b f = refl
+groups-lowered (n ∷ []) b f = hex-lowered (take n b) (bytes-take n b f)
+groups-lowered (n ∷ m ∷ ns) b f =
+    lowered-append (hex (take n b)) (45 ∷ grouped (m ∷ ns) (drop n b))
+    ∙ ap₂ (λ (x y : List ℕ). x ++ (45 ∷ y)) (hex-lowered (take n b) (bytes-take n b f)) (groups-lowered (m ∷ ns) (drop n b) (bytes-drop n b f))
+
+-- so the text of 16 octets spells them
+pub text-spells : (b : List ℕ) → AreBytes b → length b ≡ 16 → Spells (text b) b
+text-spells b f l = record { octets = f; size = l; text = groups-lowered (4 ∷ 2 ∷ 2 ∷ 2 ∷ 6 ∷ []) b f }
 
 -- ---- the octets are those alone
 

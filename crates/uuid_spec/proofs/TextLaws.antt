@@ -12,9 +12,10 @@ use Rattle.octets.proofs.Tests.{by-cond, and-left, and-right, and-both}
 use Rattle.resource_spec.specs.Identifier.{between}
 use Rattle.uuid_spec.specs.Uuid.{IsVersion7, digit, text, lower, lowered, Spells}
 use Rattle.uuid_spec.specs.Version7.{isVersion7, noUpper, isVariantDigit, isVersion7Text}
-use Rattle.uuid_spec.specs.Promises.{TextExactly}
+use Rattle.uuid_spec.specs.Promises.{TextExactly, TextOfVersion7}
 use Rattle.uuid_spec.proofs.DigitLaws.{digit-seven, digit-variant}
 use Rattle.uuid_spec.proofs.OctetLaws.{octets-exactly}
+use Rattle.uuid_spec.proofs.SpellLaws.{texts-spell, text-spells}
 
 -- ---- lower case
 
@@ -100,4 +101,17 @@ text-exactly t b s = (
   λ e. let low : lowered t ≡ t = accepted-lower t e in
       (low, octets-exactly b (s .octets) .0 (sym (lower-answer t b s low) ∙ e)),
   λ w. lower-answer t b s (w .0) ∙ octets-exactly b (s .octets) .1 (w .1),
+)
+
+-- `TextOfVersion7`
+pub text-of-version7 : TextOfVersion7
+text-of-version7 t e = (
+  λ a.
+      let w = texts-spell t .0 e in
+      let x = text-exactly t (w .0) (w .1) .0 a in
+      (w .0, x .1, sym (x .0) ∙ w .1 .text),
+  λ w.
+      let v : IsVersion7 (w .0) = w .1 in
+      let s : Spells (text (w .0)) (w .0) = text-spells (w .0) (v .octets) (v .size) in
+      subst (λ (u : List ℕ). isVersion7Text u ≡ true) (sym (w .2)) (text-exactly (text (w .0)) (w .0) s .1 (s .text, v)),
 )

@@ -12,7 +12,7 @@ use Rattle.octets.specs.Number.{numberAt}
 use Rattle.resource_spec.specs.Characters.{codes}
 use Rattle.resource_spec.specs.Identifier.{hasForm}
 use Rattle.resource_spec.specs.Promises.{form}
-use Rattle.uuid_spec.specs.Uuid.{IsVersion7, lowered, Spells}
+use Rattle.uuid_spec.specs.Uuid.{IsVersion7, text, lowered, Spells}
 use Rattle.uuid_spec.specs.Version7.{isVersion7, isVersion7Text}
 
 -- ---- octets
@@ -53,6 +53,11 @@ SpelledOnce = (t a b : List ℕ) → Spells t a → Spells t b → a ≡ b
 -- a text is accepted exactly when it is lower case and the 16 octets that it spells are of version 7
 abbrev pub TextExactly : Type 0
 TextExactly = (t b : List ℕ) → Spells t b → (isVersion7Text t ≡ true) ↔ ((lowered t ≡ t) × IsVersion7 b)
+
+-- so a UUID text is accepted exactly when it is the lower-case text of a UUID of version 7
+abbrev pub TextOfVersion7 : Type 0
+TextOfVersion7 = (t : List ℕ) → hasForm (form (codes "xxxxxxxx-xxxx-xxxx-xxxx-xxxxxxxxxxxx")) t ≡ true
+    → (isVersion7Text t ≡ true) ↔ ((b : List ℕ) × IsVersion7 b × (t ≡ text b))
 
 -- ---- published examples
 

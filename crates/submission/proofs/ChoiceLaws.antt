@@ -20,7 +20,7 @@ use Rattle.image_spec.specs.declared.Held.{Held}
 use Rattle.image_spec.specs.declared.Held.the-variants.{Missing, Body}
 use Rattle.image_spec.specs.declared.ImageCheck.{ImageCheck}
 use Rattle.image_spec.specs.declared.ImageCheck.the-variants.{Sound, Unsound}
-use Rattle.image_spec.specs.Image.{reading, idOf}
+use Rattle.image_spec.specs.Image.{idOf}
 use Rattle.image_spec.specs.Check.{isHeld}
 use Rattle.image_spec.specs.Choose.{unexpired}
 use Rattle.image_spec.specs.Edition2.{checkOf, rowsHeld, hasRoom}
@@ -29,7 +29,7 @@ use Rattle.submission_spec.specs.declared.Submission.the-variants as answers
 use Rattle.submission.specs.declared.choose.Choice.{Choice}
 use Rattle.submission.specs.declared.choose.Choice.the-variants.{Answer, Store}
 use Rattle.submission.specs.declared.choose.Admission.{Admission}
-use Rattle.submission_spec.specs.Submission.{longestLead, rowNow, stepsBy, numberOf, afterAnswer}
+use Rattle.submission_spec.specs.Submission.{entering, longestLead, rowNow, stepsBy, numberOf, afterAnswer}
 use Rattle.submission.specs.Code.{admitted, placed, whenAdmitted, chosenRead, chosenUnread, chosenBy, choiceOf}
 use Rattle.submission_spec.proofs.Laws.{numbers-tell, refused-keeps}
 
@@ -125,10 +125,10 @@ module _ (d b : List ℕ) (clock verdict : ℕ) (window : Window) (known : isVer
 
 -- what the stages choose is what the steps come to
 pub choice-is : (d b : List ℕ) (clock verdict : ℕ) (window : Window)
-    → ChoiceIs d b clock verdict window (reading b) (checkOf d (idOf b)) (choiceOf d b clock verdict window)
+    → ChoiceIs d b clock verdict window (entering b) (checkOf d (idOf b)) (choiceOf d b clock verdict window)
 unfolding stepsBy choiceOf
 choice-is d b clock verdict window =
-    let r : Reading = reading b in
+    let r : Reading = entering b in
     let v : ImageCheck = checkOf d (idOf b) in
     by-cond (ChoiceIs d b clock verdict window r v) (isVerdict verdict)
     (λ known. known-is d b clock verdict window known r v)

@@ -1,8 +1,9 @@
 -- Laws that the proofs of the code apply: what the tests and calls of the code say of the definitions of specs/Code.antt.
 -- Assumes nothing.
 use mathlib.Core.Path.{_≡_, refl, sym, ap, ap₂, _∙_, subst}
-use mathlib.Core.Bool.{Bool, true, false, not, cond}
+use mathlib.Core.Bool.{Bool, true, false, not, cond, _&&_}
 use mathlib.Core.List.{List}
+use mathlib.Core.Option.{Option, none, some}
 use Prim.Native.Nat.{ℕ, _+_, _-_, _≤_, _<_}
 use native.Mathlib.Omega.{arith}
 use lib.ListN.{length, take, drop, replicate}
@@ -10,12 +11,17 @@ use lib.Dec.{ltb}
 use borrow.Author.Tests.{ltb-true, ltb-false, le-leb, lt-leb, eq-eqb, ne-eqb, not-true, not-false}
 use Rattle.time.specs.declared.Seconds.{Seconds}
 use Rattle.time.specs.Time.{seconds, plusAtMost}
-use Rattle.octets.specs.Bytes.{part, same}
+use Rattle.octets.specs.Bytes.{AreBytes, part, same}
+use Rattle.resource_spec.specs.Identifier.{faySize, terminalSize}
+use Rattle.uuid_spec.specs.Version7.{isVersion7, isVersion7Text}
 use Rattle.descriptor_spec.specs.declared.Fields.{Fields}
 use Rattle.descriptor_spec.specs.declared.Reading.{Reading}
 use Rattle.descriptor_spec.specs.declared.Reading.the-variants.{Read, Structure, Validity}
-use Rattle.descriptor_spec.specs.Reader.{readOf}
-use Rattle.descriptor_spec.specs.Code.{readingOf}
+use Rattle.descriptor_spec.specs.declared.Form.{Form}
+use Rattle.descriptor_spec.specs.declared.Form.the-variants.{Formed, Unformed}
+use Rattle.descriptor_spec.specs.Reader.{Seen, formedIn}
+use Rattle.descriptor_spec.specs.Code.{fieldsOf, formOf, withinPeriod}
+use Rattle.descriptor_spec.proofs.Laws.{formed-bounds}
 use Rattle.steps.specs.declared.Window.{Window}
 use Rattle.steps.specs.Key.{isVerdict, isThat, keyOpen}
 use Rattle.image_spec.specs.declared.Held.{Held}
@@ -33,17 +39,18 @@ use Rattle.image_spec.specs.Grow as grow
 use Rattle.image_spec.specs.Choose.{roomOf, afterRoom}
 use Rattle.image_spec.specs.Edition2.{checkOf, addedOf, afterAdd}
 use Rattle.image_spec.specs.Laws.{HeldFits}
-use Rattle.image_spec.proofs.Laws.{read-in}
+use Rattle.image_spec.proofs.Laws.{edition2-ok, read-in, check-says, check-unsound}
 use Rattle.descriptor_spec.specs.Allowed.{idSize}
-use Rattle.octets.proofs.PartLaws.{lent-part}
+use Rattle.octets.proofs.PartLaws.{lent-part, lent-later}
 use Rattle.submission_spec.specs.declared.Submission.{Submission}
 use Rattle.submission_spec.specs.declared.Submission.the-variants as answers
 use Rattle.submission.specs.declared.choose.Choice.{Choice}
 use Rattle.submission.specs.declared.choose.Choice.the-variants.{Answer, Store}
 use Rattle.submission.specs.declared.choose.Admission.{Admission}
 use Rattle.submission.specs.declared.choose.Admission.the-variants.{Refused, Admitted}
-use Rattle.submission_spec.specs.Submission.{longestLead}
-use Rattle.submission.specs.Code.{admitted, placed, whenAdmitted, chosenRead, chosenUnread, chosenBy, choiceOf}
+use Rattle.submission_spec.specs.Submission.{fayText, terminalText, idsIn, enteringBy, entering, longestLead}
+use Rattle.submission_spec.proofs.Laws.{entering-reads}
+use Rattle.submission.specs.Code.{IdsFit, admitted, placed, whenAdmitted, chosenRead, chosenUnread, chosenBy, choiceOf}
 use Rattle.submission.specs.Code.{storedAs, storedIn, afterIn, storedAfterRemoval, afterRemoval, storedOr, afterOr, storedOf, afterStore}
 
 -- ---- the beginning, the issuer, the key and the signature
@@ -149,16 +156,76 @@ module _ (d id : List ℕ) (a : Submission) (v : ImageCheck) (e : v ≡ checkOf 
   unfolding chosenUnread
   unread-unsound u = ap (chosenUnread a) (sym u ∙ e)
 
+-- ---- what is answered of the body
+
+-- the three ids of a descriptor that is seen lie in the body
+pub ids-room : (b : List ℕ) (o : Form) (f : Fields) → o ≡ formOf (formedIn b) → o ≡ Formed f → IdsFit b f
+ids-room b o f k e = go (formedIn b) refl (sym k ∙ e)
+  where
+    same-fields : (x y : Fields) → Formed x ≡ Formed y → x ≡ y
+    same-fields x y g = cc
+
+    go : (x : Option Seen) → formedIn b ≡ x → formOf x ≡ Formed f → IdsFit b f
+    go (some v) g = λ t.
+        let p = formed-bounds b v g .1 in
+        subst (IdsFit b) (same-fields (fieldsOf v) f t) (record { id = p .id; fay = p .fay; terminal = p .terminal })
+    go none g = λ t. absurd (let z : _≡_ {A = ℕ} 0 1 = cc in omega arith)
+
+-- the answers of the three tests are that of the ids
+pub ids-tested : (b : List ℕ) (f : Fields) (i n t : Bool) → i ≡ isVersion7 (take (f .id + idSize - f .id) (drop (f .id) b))
+    → n ≡ isVersion7Text (take (f .fay + faySize - (f .fay + fayText)) (drop (f .fay + fayText) b))
+    → t ≡ isVersion7Text (take (f .terminal + terminalSize - (f .terminal + terminalText)) (drop (f .terminal + terminalText) b))
+    → (i && (n && t)) ≡ idsIn b f
+unfolding idsIn
+ids-tested b f i n t e g h =
+    ap₂ (λ (x y : Bool). x && y) (e ∙ ap isVersion7 (lent-part b (f .id) idSize))
+    (ap₂ (λ (x y : Bool). x && y)
+    (g ∙ ap isVersion7Text (lent-later b (f .fay) faySize fayText))
+    (h ∙ ap isVersion7Text (lent-later b (f .terminal) terminalSize terminalText)))
+
+module _ (b : List ℕ) (o : Form) (k : o ≡ formOf (formedIn b)) where
+  -- no descriptor is seen
+  pub entering-none : o ≡ Unformed → Structure ≡ entering b
+  unfolding entering
+  entering-none e = ap (enteringBy b) (sym e ∙ k)
+
+  module _ (f : Fields) (e : o ≡ Formed f) (t : Bool) (ids : t ≡ idsIn b f) where
+    -- what is answered, by the test of the ids
+    by-ids : entering b ≡ cond t (withinPeriod f) Structure
+    unfolding entering
+    by-ids = sym (ap (enteringBy b) (sym e ∙ k)) ∙ ap (λ (x : Bool). cond x (withinPeriod f) Structure) (sym ids)
+
+    -- an id is not of version 7
+    pub entering-refused : not t ≡ true → Structure ≡ entering b
+    entering-refused n = sym (by-ids ∙ rw (not-true t n))
+
+    -- all are: the period decides
+    pub entering-passed : not t ≡ false → (r : Reading) → r ≡ withinPeriod f → r ≡ entering b
+    entering-passed n r p = p ∙ sym (by-ids ∙ rw (not-false t n))
+
 -- ---- what is to be done
 
--- what the code reads is the reading of the body
-reading-is : (b : List ℕ) (o x : Reading) → o ≡ readingOf (readOf b) → o ≡ x → reading b ≡ x
-unfolding reading
-reading-is b o x k e = sym k ∙ e
-
 -- the id that was read lies in the body
-pub id-room : (b : List ℕ) (o : Reading) (f : Fields) → o ≡ readingOf (readOf b) → o ≡ Read f → f .id + idSize ≤ length b
-id-room b o f k e = read-in b f (reading-is b o (Read f) k e) .id
+pub id-room : (b : List ℕ) (o : Reading) (f : Fields) → o ≡ entering b → o ≡ Read f → f .id + idSize ≤ length b
+id-room b o f k e = read-in b f (entering-reads b f (sym k ∙ e)) .id
+
+-- it is the body's
+id-read : (b : List ℕ) (f : Fields) → reading b ≡ Read f → part b (f .id) idSize ≡ idOf b
+unfolding idOf
+id-read b f e = ap (idIn b) (sym e)
+
+-- whether an image is sound does not depend on the id that is looked for
+unread-alike : (d : List ℕ) (a : Submission) (x y : List ℕ) → AreBytes d → chosenUnread a (checkOf d x) ≡ chosenUnread a (checkOf d y)
+unfolding chosenUnread
+unread-alike d a x y bytes = go (checkOf d x) (checkOf d y) refl refl
+  where
+    go : (v w : ImageCheck) → checkOf d x ≡ v → checkOf d y ≡ w → chosenUnread a v ≡ chosenUnread a w
+    go (Sound n end h) (Sound m to k) e f = refl
+    go Unsound Unsound e f = refl
+    go (Sound n end h) Unsound e f =
+        absurd (check-unsound edition2 edition2-ok d y bytes .0 f _ (check-says edition2 edition2-ok d x bytes n end h e .holds))
+    go Unsound (Sound m to k) e f =
+        absurd (check-unsound edition2 edition2-ok d x bytes .0 e _ (check-says edition2 edition2-ok d y bytes m to k f .holds))
 
 -- a verdict that is none of the three is refused
 pub choice-malformed : (d b : List ℕ) (clock verdict : ℕ) (window : Window) → 2 < verdict
@@ -166,31 +233,30 @@ pub choice-malformed : (d b : List ℕ) (clock verdict : ℕ) (window : Window) 
 unfolding choiceOf isVerdict
 choice-malformed d b clock verdict window h = rw (lt-leb verdict 2 h)
 
-module _ (d b : List ℕ) (clock verdict : ℕ) (window : Window) (h : verdict ≤ 2) (o : Reading) (k : o ≡ readingOf (readOf b)) where
-  -- what is to be done, by what was read
-  choice-by : (x : Reading) → o ≡ x → chosenBy d b clock verdict window x (checkOf d (idIn b x)) ≡ choiceOf d b clock verdict window
-  unfolding choiceOf isVerdict idOf
-  choice-by x e =
-      ap (λ (y : Reading). chosenBy d b clock verdict window y (checkOf d (idIn b y))) (sym (reading-is b o x k e))
-      ∙ rw (le-leb verdict 2 h)
+module _ (d b : List ℕ) (clock verdict : ℕ) (window : Window) (h : verdict ≤ 2) (o : Reading) (k : o ≡ entering b) where
+  -- what is to be done, by what is answered of the body
+  choice-by : (x : Reading) → o ≡ x → chosenBy d b clock verdict window x (checkOf d (idOf b)) ≡ choiceOf d b clock verdict window
+  unfolding choiceOf isVerdict
+  choice-by x e = ap (λ (y : Reading). chosenBy d b clock verdict window y (checkOf d (idOf b))) (sym e ∙ k) ∙ rw (le-leb verdict 2 h)
 
-  -- a body that reads
+  -- a body that enters
   pub choice-read : (f : Fields) (v : ImageCheck) (r : Choice) → o ≡ Read f → v ≡ checkOf d (take (f .id + idSize - f .id) (drop (f .id) b))
       → r ≡ chosenRead d b clock verdict window f v → r ≡ choiceOf d b clock verdict window
   choice-read f v r e s p =
       p
-      ∙ ap (chosenRead d b clock verdict window f) (s ∙ ap (checkOf d) (lent-part b (f .id) idSize))
+      ∙ ap (chosenRead d b clock verdict window f)
+      (s ∙ ap (checkOf d) (lent-part b (f .id) idSize ∙ id-read b f (entering-reads b f (sym k ∙ e))))
       ∙ choice-by (Read f) e
 
   -- a body with a fault of structure
-  pub choice-structure : (r : Choice) → o ≡ Structure → r ≡ chosenUnread answers.Structure (checkOf d (replicate idSize 0))
+  pub choice-structure : AreBytes d → (r : Choice) → o ≡ Structure → r ≡ chosenUnread answers.Structure (checkOf d (replicate idSize 0))
       → r ≡ choiceOf d b clock verdict window
-  choice-structure r e p = p ∙ choice-by Structure e
+  choice-structure bytes r e p = p ∙ unread-alike d answers.Structure (replicate idSize 0) (idOf b) bytes ∙ choice-by Structure e
 
   -- a body with a period that is not valid
-  pub choice-validity : (r : Choice) → o ≡ Validity → r ≡ chosenUnread answers.Validity (checkOf d (replicate idSize 0))
+  pub choice-validity : AreBytes d → (r : Choice) → o ≡ Validity → r ≡ chosenUnread answers.Validity (checkOf d (replicate idSize 0))
       → r ≡ choiceOf d b clock verdict window
-  choice-validity r e p = p ∙ choice-by Validity e
+  choice-validity bytes r e p = p ∙ unread-alike d answers.Validity (replicate idSize 0) (idOf b) bytes ∙ choice-by Validity e
 
 -- ---- storing the body
 

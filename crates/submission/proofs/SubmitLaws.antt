@@ -24,7 +24,8 @@ use Rattle.submission_spec.specs.declared.Submission.{Submission}
 use Rattle.submission_spec.specs.declared.Submission.the-variants as answers
 use Rattle.submission.specs.declared.choose.Choice.{Choice}
 use Rattle.submission.specs.declared.choose.Choice.the-variants.{Answer, Store}
-use Rattle.submission_spec.specs.Submission.{rowNow, staying, steps, submitted, afterAnswer, afterOf}
+use Rattle.submission_spec.specs.Submission.{entering, rowNow, staying, steps, submitted, afterAnswer, afterOf}
+use Rattle.submission_spec.proofs.Laws.{entering-reads}
 use Rattle.submission.specs.Code.{choiceOf, storedAs, storedIn, afterIn, storedAfterRemoval, afterRemoval, storedOr, afterOr}
 use Rattle.submission.specs.Code.{storedOf, afterStore}
 use Rattle.submission.proofs.ChoiceLaws.{Storing, ChoiceIs, choice-is}
@@ -35,8 +36,8 @@ pub choice-answer : (d b : List ℕ) (clock verdict : ℕ) (window : Window) (a 
 unfolding submitted steps afterOf
 choice-answer d b clock verdict window a e =
     let v : ImageCheck = checkOf d (idOf b) in
-    let k : ChoiceIs d b clock verdict window (reading b) v (Answer a)
-    = subst (ChoiceIs d b clock verdict window (reading b) v) e (choice-is d b clock verdict window) in
+    let k : ChoiceIs d b clock verdict window (entering b) v (Answer a)
+    = subst (ChoiceIs d b clock verdict window (entering b) v) e (choice-is d b clock verdict window) in
     (k .0, sym (k .1) ∙ ap (afterAnswer d b clock (isHeld v)) (k .0))
 
 -- ---- what storing a body comes to, in a buffer that holds rows
@@ -128,12 +129,12 @@ stored-is : (d b : List ℕ) (clock verdict : ℕ) (window : Window) (n end id m
 unfolding submitted steps afterOf
 stored-is d b clock verdict window n end id mask bytes e =
     let v : ImageCheck = checkOf d (idOf b) in
-    let k : Storing d b clock verdict window (reading b) v n end id mask
-    = subst (ChoiceIs d b clock verdict window (reading b) v) e (choice-is d b clock verdict window) in
+    let k : Storing d b clock verdict window (entering b) v n end id mask
+    = subst (ChoiceIs d b clock verdict window (entering b) v) e (choice-is d b clock verdict window) in
     let rs : List Row = rowsHeld d in
     let s = check-says edition2 edition2-ok d (idOf b) bytes n end Missing (k .found) in
     let t : Bool = hasRoom d (unexpired clock rs) (rowNow b clock) in
-    let a = store-is d b clock rs (k .fields) (s .holds) (k .reads) t refl in
+    let a = store-is d b clock rs (k .fields) (s .holds) (entering-reads b (k .fields) (k .reads)) t refl in
     let x = go k t refl in (
       ap₂ (λ (i j : ℕ). storedOf d i j b id clock) (s .rows) (s .ends)
           ∙ ap (λ (i : ℕ). storedOf d (length rs) (length (imageOf rs)) b i clock) (k .named) ∙ a .0 ∙ x .0,
@@ -141,7 +142,7 @@ stored-is d b clock verdict window n end id mask bytes e =
           ∙ ap₂ (λ (i m : ℕ). afterStore d (length rs) (length (imageOf rs)) b i m clock) (k .named) (k .modes) ∙ a .1 ∙ x .1,
     )
   where
-    go : Storing d b clock verdict window (reading b) (checkOf d (idOf b)) n end id mask → (t : Bool)
+    go : Storing d b clock verdict window (entering b) (checkOf d (idOf b)) n end id mask → (t : Bool)
         → hasRoom d (unexpired clock (rowsHeld d)) (rowNow b clock) ≡ t
         → (cond t answers.Done answers.Full ≡ submitted d b clock verdict window)
         × (cond t (withBody d (staying d b clock) (rowNow b clock)) d ≡ afterOf d b clock verdict window)

@@ -2,10 +2,12 @@
 -- proofs/ tie it to Submission.antt.
 use mathlib.Core.Bool.{cond}
 use mathlib.Core.List.{List}
-use Prim.Native.Nat.{ℕ, _+_}
+use Prim.Native.Nat.{ℕ, _+_, _≤_}
 use lib.ListN.{length}
 use lib.Dec.{leb}
 use Rattle.octets.specs.Bytes.{part, same}
+use Rattle.resource_spec.specs.Identifier.{faySize, terminalSize}
+use Rattle.descriptor_spec.specs.Allowed.{idSize}
 use Rattle.descriptor_spec.specs.declared.Fields.{Fields}
 use Rattle.descriptor_spec.specs.declared.Reading.{Reading}
 use Rattle.descriptor_spec.specs.declared.Reading.the-variants.{Read, Structure, Validity}
@@ -20,7 +22,7 @@ use Rattle.image_spec.specs.declared.Added.the-variants.{Done, Full}
 use Rattle.image_spec.specs.declared.Room.{Room}
 use Rattle.image_spec.specs.declared.Room.the-variants.{Made, NoRoom}
 use Rattle.image_spec.specs.Layout.{edition2}
-use Rattle.image_spec.specs.Image.{reading, idOf}
+use Rattle.image_spec.specs.Image.{idOf}
 use Rattle.image_spec.specs.Choose.{roomOf, afterRoom}
 use Rattle.image_spec.specs.Edition2.{checkOf, addedOf, afterAdd}
 use Rattle.submission_spec.specs.declared.Submission.{Submission}
@@ -29,9 +31,15 @@ use Rattle.submission.specs.declared.choose.Choice.{Choice}
 use Rattle.submission.specs.declared.choose.Choice.the-variants.{Answer, Store}
 use Rattle.submission.specs.declared.choose.Admission.{Admission}
 use Rattle.submission.specs.declared.choose.Admission.the-variants.{Refused, Admitted}
-use Rattle.submission_spec.specs.Submission.{longestLead}
+use Rattle.submission_spec.specs.Submission.{longestLead, entering}
 
 -- ---- the stages that only look
+
+-- the three ids of the fields lie in the bytes
+pub record IdsFit (b : List ℕ) (f : Fields) : Type 0 where
+  pub id : f .id + idSize ≤ length b
+  pub fay : f .fay + faySize ≤ length b
+  pub terminal : f .terminal + terminalSize ≤ length b
 
 -- the beginning, the issuer, the key and the signature of a body that reads
 unfoldable pub admitted : ℕ → ℕ → ℕ → Window → Admission
@@ -57,12 +65,12 @@ chosenRead d b clock verdict window f (Sound n end h) =
     whenAdmitted (admitted (f .«not_before» .0) clock verdict window) (placed d b n end h f)
 chosenRead d b clock verdict window f Unsound = Answer answers.BadImage
 
--- a body that does not read, by the check of the image
+-- a body that is answered 1 or 2, by the check of the image
 unfoldable pub chosenUnread : Submission → ImageCheck → Choice
 chosenUnread a (Sound n end h) = Answer a
 chosenUnread a Unsound = Answer answers.BadImage
 
--- by what reading the body answers
+-- by what is answered of the body
 abbrev pub chosenBy : List ℕ → List ℕ → ℕ → ℕ → Window → Reading → ImageCheck → Choice
 chosenBy d b clock verdict window (Read f) v = chosenRead d b clock verdict window f v
 chosenBy d b clock verdict window Structure v = chosenUnread answers.Structure v
@@ -71,7 +79,7 @@ chosenBy d b clock verdict window Validity v = chosenUnread answers.Validity v
 -- what is to be done
 unfoldable pub choiceOf : List ℕ → List ℕ → ℕ → ℕ → Window → Choice
 choiceOf d b clock verdict window =
-    cond (isVerdict verdict) (chosenBy d b clock verdict window (reading b) (checkOf d (idOf b))) (Answer answers.Malformed)
+    cond (isVerdict verdict) (chosenBy d b clock verdict window (entering b) (checkOf d (idOf b))) (Answer answers.Malformed)
 
 -- ---- the stages that write
 

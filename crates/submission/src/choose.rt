@@ -1,5 +1,6 @@
 // The steps of a submission: which one refuses, or that the body is to be stored. Nothing is written here.
 use crate::Submission;
+use crate::entering::read_entering;
 use descriptor::Fields;
 use descriptor::Reading;
 use descriptor_spec::sizes::ID_SIZE;
@@ -82,7 +83,7 @@ fn place(image: &[u8], body: &[u8], rows: u64, end: usize, held: Held, fields: F
     }
 }
 
-// A body that reads, by the check of the image for its id.
+// A body that reads and has ids of version 7, by the check of the image for its id.
 fn choose_read(
     image: &[u8],
     body: &[u8],
@@ -107,7 +108,7 @@ fn choose_read(
     }
 }
 
-// A body that does not read: the image is looked at first.
+// A body that is answered 1 or 2: the image is looked at first.
 fn choose_unread(image: &[u8], answer: Submission) -> Choice
     ensures { λ r. ⌜ r ≡ chosenUnread answer (checkOf (now (image .entry)) (replicate idSize 0)) ⌝ }
 {
@@ -135,7 +136,7 @@ pub(crate) fn choose(
     if 2 < verdict {
         return Choice::Answer(Submission::Malformed);
     }
-    match descriptor::read_descriptor(body) {
+    match read_entering(body) {
         Reading::Read(fields) => {
             let id = fields.id;
             let found = image::check_latest(image, &body[id..id + ID_SIZE]);

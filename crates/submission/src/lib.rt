@@ -1,5 +1,6 @@
 // The functions that take a submission. What a submission is and what is promised of it is in `submission_spec`.
 mod choose;
+mod entering;
 
 use choose::Choice;
 use image_write::Added;

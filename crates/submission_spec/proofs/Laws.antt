@@ -1,8 +1,12 @@
 -- The statements of specs/Laws.antt, each from its law. Assumes nothing.
-use Rattle.submission_spec.specs.Laws.{NumbersTell, RefusedKeeps, DoneMeans, AfterHolds}
+use Rattle.submission_spec.specs.Laws.{EnteringReads, NumbersTell, RefusedKeeps, DoneMeans, AfterHolds}
+use Rattle.submission_spec.proofs.IdLaws as ids
 use Rattle.submission_spec.proofs.StepLaws.{number-is}
 use Rattle.submission_spec.proofs.AfterLaws as after
 use Rattle.submission_spec.proofs.StoredLaws as stored
+
+pub entering-reads : EnteringReads
+entering-reads = ids.entering-reads
 
 pub numbers-tell : NumbersTell
 numbers-tell = number-is

@@ -6,16 +6,22 @@ use mathlib.Core.Logic.{_⊎_}
 use mathlib.Core.Option.{none, some}
 use Prim.Native.Nat.{ℕ, _^_, _≤_, _<_}
 use Rattle.octets.specs.Bytes.{AreBytes}
+use Rattle.descriptor_spec.specs.declared.Fields.{Fields}
+use Rattle.descriptor_spec.specs.declared.Reading.the-variants.{Read}
 use Rattle.descriptor_spec.specs.Model.{Descriptor, encode}
 use Rattle.descriptor_spec.specs.Allowed.{Allowed}
 use Rattle.steps.specs.declared.Window.{Window}
-use Rattle.image_spec.specs.Image.{Row, idOf, bodyWith}
+use Rattle.image_spec.specs.Image.{Row, reading, idOf, bodyWith}
 use Rattle.image_spec.specs.Choose.{endOf}
 use Rattle.image_spec.specs.Edition2.{Holds}
 use Rattle.submission_spec.specs.declared.Submission.{Submission}
 use Rattle.submission_spec.specs.declared.Submission.the-variants.{Done}
-use Rattle.submission_spec.specs.Submission.{submitted, afterAnswer, afterOf, numberOf}
+use Rattle.submission_spec.specs.Submission.{entering, submitted, afterAnswer, afterOf, numberOf}
 use Rattle.submission_spec.specs.Promises.{AreVersion7}
+
+-- bytes that are answered with fields where they are submitted are read with them
+abbrev pub EnteringReads : Type 0
+EnteringReads = (b : List ℕ) (f : Fields) → entering b ≡ Read f → reading b ≡ Read f
 
 -- answers with the same number are the same
 abbrev pub NumbersTell : Type 0

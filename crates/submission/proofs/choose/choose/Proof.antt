@@ -19,10 +19,10 @@ returns : tie.Need-returns
 returns c = (choice-malformed _ _ _ _ _ (omega arith), bytes (c .before .before))
 
 add-check-latest : tie.Need-add-check-latest
-add-check-latest c = omega (arith, id-room _ _ _ (c .before .before .before .read-descriptor .ensures) (c .before .fields .given .1))
+add-check-latest c = omega (arith, id-room _ _ _ (c .before .before .before .read-entering .ensures) (c .before .fields .given .1))
 
 part-check-latest-end : tie.Need-part-check-latest-end
-part-check-latest-end c = omega (arith, id-room _ _ _ (c .before .before .before .read-descriptor .ensures) (c .before .fields .given .1))
+part-check-latest-end c = omega (arith, id-room _ _ _ (c .before .before .before .read-entering .ensures) (c .before .fields .given .1))
 
 choose-read-requires : tie.Need-choose-read-requires
 choose-read-requires c κs =
@@ -35,7 +35,7 @@ returns-2 c =
     let k = c .before in
     let x = k .before .before .before in
     let o = x .before .before in (
-      choice-read _ _ _ _ _ (omega arith) _ (o .read-descriptor .ensures) _ _ _ (x .fields .given .1) (k .check-latest .ensures)
+      choice-read _ _ _ _ _ (omega arith) _ (o .read-entering .ensures) _ _ _ (x .fields .given .1) (k .check-latest .ensures)
           (c .choose-read .ensures),
       bytes (o .before .before .before),
     )
@@ -43,7 +43,7 @@ returns-2 c =
 returns-3 : tie.Need-returns-3
 returns-3 c =
     let o = c .before .before .before in (
-      choice-structure _ _ _ _ _ (omega arith) _ (o .read-descriptor .ensures) _ (c .before .enum-told .given .1)
+      choice-structure _ _ _ _ _ (omega arith) _ (o .read-entering .ensures) (bytes (o .before .before .before)) _ (c .before .enum-told .given .1)
           (c .choose-unread .ensures),
       bytes (o .before .before .before),
     )
@@ -51,7 +51,7 @@ returns-3 c =
 returns-4 : tie.Need-returns-4
 returns-4 c =
     let o = c .before .before .before in (
-      choice-validity _ _ _ _ _ (omega arith) _ (o .read-descriptor .ensures) _ (c .before .enum-told2 .given .1)
+      choice-validity _ _ _ _ _ (omega arith) _ (o .read-entering .ensures) (bytes (o .before .before .before)) _ (c .before .enum-told2 .given .1)
           (c .choose-unread2 .ensures),
       bytes (o .before .before .before),
     )

@@ -13,6 +13,8 @@ from records import DESCRIPTOR, GRANT, answered, summed, written
 
 FAY = "fay:01927b34-7e21-7c4d-a89f-1234567890ab"
 MODES = ["read", "write", "execute", "configure"]
+# the longest period, in seconds
+LONGEST = 7776000
 PAYLOAD = "grants metadata? issued_at issuer_id not_after grantor_id? not_before terminal_id descriptor_id subject_fay_id".split()
 
 
@@ -85,57 +87,82 @@ class Reader(Items):
                 g["pattern"] = (start, n, c)
         return g
 
+    def uuid_text(self, kind):
+        """The place of a fay id or a terminal id, and the text."""
+        at, _, text = self.text()
+        need(re.match(rf"{kind}:{UUID}\Z", text.decode("latin-1")))
+        return at, text
 
-def read(s):
-    """0 with the fields, 1 or 2."""
+    def payload(self):
+        start, f = self.at, {"grantor": (0, 0), "metadata": (0, 0)}
+        for k in self.table(PAYLOAD):
+            if k == "grants":
+                n = self.number(4)
+                need(1 <= n <= 256)
+                f["grants"] = [self.grant() for _ in range(n)]
+            elif k == "metadata":
+                f["metadata"] = self.pairs(16)
+            elif k in ("issued_at", "not_after", "not_before"):
+                f[k] = self.number(0)
+            elif k == "issuer_id":
+                f["issuer"] = self.text(1, 128)[:2]
+            elif k == "grantor_id":
+                f["grantor"] = self.text(1, 128)[:2]
+            elif k == "terminal_id":
+                f["terminal"], terminal = self.uuid_text("terminal")
+            elif k == "descriptor_id":
+                f["id"] = self.string(2, 16, 16)[0]
+            else:
+                f["fay"], _ = self.uuid_text("fay")
+        f["payload"] = (start, self.at - start)
+        need(all(g["pattern"][2][:45] == terminal for g in f["grants"]))
+        need(f["issued_at"] <= f["not_before"] < f["not_after"])
+        return f
+
+    def signature(self):
+        f = {}
+        for k in self.table(["key_id", "algorithm", "signature_value"]):
+            if k == "key_id":
+                f["key"] = self.text(1, 64)[:2]
+            elif k == "algorithm":
+                a = self.text()[2]
+                need(a in (b"ed25519", b"ecdsa-p256-sha256"))
+                f["algorithm"] = int(a != b"ed25519")
+            else:
+                f["signature"] = self.string(2, 1, 72)[:2]
+                need(f["algorithm"] == 1 or f["signature"][1] == 64)
+        return f
+
+
+def fields(s):
+    """The fields of a descriptor that is right, whatever its period is, or nothing."""
+    r, f = Reader(s), {}
     try:
         need(len(s) <= 32768)
-        r, f = Reader(s), {"grantor": (0, 0), "metadata": (0, 0)}
         for k in r.table(["payload", "version", "signature"]):
             if k == "payload":
-                start = r.at
-                for k in r.table(PAYLOAD):
-                    if k == "grants":
-                        n = r.number(4)
-                        need(1 <= n <= 256)
-                        f["first"] = r.at
-                        f["grants"] = [r.grant() for _ in range(n)]
-                    elif k == "metadata":
-                        f["metadata"] = r.pairs(16)
-                    elif k in ("issued_at", "not_after", "not_before"):
-                        f[k] = r.number(0)
-                    elif k == "issuer_id":
-                        f["issuer"] = r.text(1, 128)[:2]
-                    elif k == "grantor_id":
-                        f["grantor"] = r.text(1, 128)[:2]
-                    elif k == "terminal_id":
-                        f["terminal"], _, terminal = r.text()
-                        need(re.match(rf"terminal:{UUID}\Z", terminal.decode("latin-1")))
-                    elif k == "descriptor_id":
-                        f["id"] = r.string(2, 16, 16)[0]
-                    else:
-                        f["fay"], _, fay = r.text()
-                        need(re.match(rf"fay:{UUID}\Z", fay.decode("latin-1")))
-                f["payload"] = (start, r.at - start)
-                need(all(g["pattern"][2][:45] == terminal for g in f["grants"]))
-                need(f["issued_at"] <= f["not_before"] < f["not_after"])
+                f.update(r.payload())
             elif k == "version":
                 need(r.number(0) == 1)
             else:
-                for k in r.table(["key_id", "algorithm", "signature_value"]):
-                    if k == "key_id":
-                        f["key"] = r.text(1, 64)[:2]
-                    elif k == "algorithm":
-                        a = r.text()[2]
-                        need(a in (b"ed25519", b"ecdsa-p256-sha256"))
-                        f["algorithm"] = int(a != b"ed25519")
-                    else:
-                        f["signature"] = r.string(2, 1, 72)[:2]
-                        need(f["algorithm"] == 1 or f["signature"][1] == 64)
+                f.update(r.signature())
         need(r.at == len(s))
     except Bad:
+        return None
+    return f
+
+
+def is_too_long(f):
+    """Whether the period is longer than 90 days."""
+    return f["not_after"] - f["not_before"] > LONGEST
+
+
+def read(s):
+    """0 with the fields, 1 or 2."""
+    f = fields(s)
+    if f is None:
         return 1, None
-    return (2, None) if f["not_after"] - f["not_before"] > 7776000 else (0, f)
+    return (2, None) if is_too_long(f) else (0, f)
 
 
 # ---- descriptors

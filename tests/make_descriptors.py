@@ -10,8 +10,11 @@ import cbor2
 from make_items import Bad, Items, need
 from make_matching import T, U, UUID, is_pattern
 from records import DESCRIPTOR, GRANT, answered, summed, written
+from uuids import version_7
 
 FAY = "fay:01927b34-7e21-7c4d-a89f-1234567890ab"
+# the descriptor id where none is named
+ID = version_7(bytes(range(16)))
 MODES = ["read", "write", "execute", "configure"]
 # the longest period, in seconds
 LONGEST = 7776000
@@ -180,7 +183,7 @@ def payload(**more):
         "not_after": 3000,
         "not_before": 2000,
         "terminal_id": T,
-        "descriptor_id": bytes(range(16)),
+        "descriptor_id": ID,
         "subject_fay_id": FAY,
     }
     p.update(more)
@@ -392,15 +395,20 @@ def described(s):
     return ": 0" + "".join("\n    " + line for line in lines)
 
 
+def add_descriptor(v, name, s, answer):
+    """A descriptor that is read with this answer, and its first grants."""
+    got, f = read(s)
+    assert got == answer, name
+    count = min(3, len(f["grants"]) + 1) if f else 1
+    expected = described(s) + "".join(of_grant(s, i) for i in range(count))
+    v.add(DESCRIPTOR, f"{name}, {len(s)} bytes", expected, [count], [s])
+
+
 def descriptors(v):
     for heading, answer, rows in vectors():
         v.heading("## " + heading)
         for name, s in rows:
-            got, f = read(s)
-            assert got == answer, name
-            count = min(3, len(f["grants"]) + 1) if f else 1
-            expected = described(s) + "".join(of_grant(s, i) for i in range(count))
-            v.add(DESCRIPTOR, f"{name}, {len(s)} bytes", expected, [count], [s])
+            add_descriptor(v, name, s, answer)
     v.heading("## Grants by their index")
     for n, indices in ((3, (0, 2, 3, 2**32, 2**64 - 1)), (256, (255, 256))):
         s = encode(payload(grants=[grant(["execute"], T + f"/g/{i}") for i in range(n)]))

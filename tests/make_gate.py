@@ -3,7 +3,7 @@
 The descriptors are made by the same independent encoder as those of make_descriptors.py. The expected output is from the ordinary image,
 submission and request of ordinary_gate.py.
 """
-from make_descriptors import FAY, MODES, encode, grant, payload
+from make_descriptors import FAY, ID, MODES, encode, grant, payload
 from make_matching import T, U
 from ordinary_gate import DAY, FIRST, HEADER, LAST_MOMENT, SECOND, image_of, number
 from runs import ident, made, revocation
@@ -16,6 +16,7 @@ LAST_SECOND = LAST_MOMENT // 1000
 def images(r):
     """New images, and each rule of the image broken once."""
     base = encode()
+    # its id is one from before, of no version
     other = encode(payload(descriptor_id=bytes(16), grants=[grant(["write"]), grant(["read", "configure"])]))
     r.load("no byte is lent", b"")
     r.new("new image in no byte")
@@ -35,7 +36,7 @@ def images(r):
 
 def lookups(r, edition, two):
     r.load(f"image of edition {edition.number} of two bodies, and 40 bytes after", image_of(two, 40, edition))
-    r.find("lookup of the first", bytes(range(16)))
+    r.find("lookup of the first", ID)
     r.find("lookup of the second", bytes(16))
     r.find("lookup of another", ident(9))
     r.find("lookup of 15 bytes", bytes(15))
@@ -83,19 +84,19 @@ def broken_images(r, edition, two):
     end, bodies = len(good), HEADER + 2 * edition.row
     for name, change in changed_bytes(edition, good):
         r.load(name, image_of(two, 40, edition, change=change))
-        r.find("lookup in it", bytes(range(16)))
+        r.find("lookup in it", ID)
         r.submit("submission to it", made(5))
         r.request("request to it")
     base = two[0]
     r.load("the same body twice", image_of([base, base], 40, edition))
-    r.find("lookup in it", bytes(range(16)))
+    r.find("lookup in it", ID)
     r.load("two bodies with one id", image_of([base, encode(payload(not_after=2999))], 40, edition))
-    r.find("lookup in it", bytes(range(16)))
+    r.find("lookup in it", ID)
     r.load("a body with too long a period", image_of([encode(payload(not_after=2000 + 7776001))], 40, edition))
-    r.find("lookup in it", bytes(range(16)))
+    r.find("lookup in it", ID)
     for cut in (1, len(two[1]), len(two[1]) + 1, end - bodies, end - bodies + 1, end - HEADER + 1):
         r.load(f"cut by {cut} bytes", good[: end - cut])
-        r.find("lookup in it", bytes(range(16)))
+        r.find("lookup in it", ID)
 
 
 def submissions(r):
@@ -103,11 +104,11 @@ def submissions(r):
     r.load("1,000 bytes", b"\xee" * 1000)
     r.new("new image")
     r.submit("first", base)
-    r.find("lookup of it", bytes(range(16)))
+    r.find("lookup of it", ID)
     r.submit("the same bytes again", base)
     r.submit("other bytes under the id", encode(payload(not_after=2999)))
     r.submit("second", made(2))
-    r.find("lookup of the first", bytes(range(16)))
+    r.find("lookup of the first", ID)
     r.find("lookup of the second", ident(2))
     r.submit("no room for a third", made(3))
     # each step failing alone
@@ -155,7 +156,7 @@ def submissions(r):
     r.submit("no room", base)
     r.lend("one byte more", size)
     r.submit("room", base)
-    r.find("lookup of it", bytes(range(16)))
+    r.find("lookup of it", ID)
     # more rows than an image of edition 1 may have
     bodies = [made(100 + i, grants=[grant(["read", "write", "execute", "configure"][i % 4 : i % 4 + 1], T + f"/r/{i}")]) for i in range(65)]
     r.lend("32,000 bytes", 32000)
@@ -200,7 +201,7 @@ def requests(r):
     r.request("mode 4", mode=4)
     r.request("mode 2^64 - 1", mode=LAST)
     r.request("id of 15 bytes", id=bytes(15))
-    r.request("id of 17 bytes", id=bytes(range(17)))
+    r.request("id of 17 bytes", id=ID + b"\x10")
     r.request("no fay id", fay="fay:x")
     r.request("no terminal id", terminal="terminal:x")
     r.request("resource without a level", resource=T)
@@ -309,15 +310,15 @@ def revocation_lists(r):
     # places in the list
     r.request("second of three", revoked=other + revocation(2000) + other)
     r.request("last of two", revoked=other + revocation(2000))
-    r.request("an id that differs in the first byte", revoked=revocation(0, b"\x01" + bytes(range(1, 16))))
-    r.request("an id that differs in the last byte", revoked=revocation(0, bytes(range(15)) + b"\x00"))
-    r.request("the id stands from byte 8 of a row on", revoked=bytes(8) + bytes(range(16)) + bytes(24))
-    r.request("the id stands across two rows", revoked=bytes(16) + bytes(range(16)) + bytes(16))
+    r.request("an id that differs in the first byte", revoked=revocation(0, b"\x01" + ID[1:]))
+    r.request("an id that differs in the last byte", revoked=revocation(0, ID[:-1] + b"\x00"))
+    r.request("the id stands from byte 8 of a row on", revoked=bytes(8) + ID + bytes(24))
+    r.request("the id stands across two rows", revoked=bytes(16) + ID + bytes(16))
     # lengths
     for n in (1, 15, 16, 23, 25, 47, 49):
         r.request(f"list length {n}", revoked=(revocation(0) * 3)[:n])
     r.request("list length 48, two other ids", revoked=other + other)
-    r.request("list length 48, the id three times without a moment, which is two rows", revoked=bytes(range(16)) * 3)
+    r.request("list length 48, the id three times without a moment, which is two rows", revoked=ID * 3)
     # before the steps on the period
     r.request("revoked from now on, and expired", now=3000, revoked=revocation(3000))
     r.request("revoked in the future, and expired", now=3000, revoked=revocation(3001))
@@ -406,13 +407,10 @@ def most_exact_grants(r):
 
 
 def gate(r):
-    groups = (
+    r.groups(
         ("Images", images),
         ("Submissions", submissions),
         ("Requests", requests),
         ("Revocation lists", revocation_lists),
         ("Most exact grants", most_exact_grants),
     )
-    for heading, calls in groups:
-        r.v.heading("## " + heading)
-        calls(r)

@@ -3,7 +3,7 @@
 The descriptors and the expected output are made as those of make_gate.py. A case that is there for one answer, or for the rows that are kept, says
 so, and what ordinary_gate.py gives is compared with that.
 """
-from make_descriptors import FAY, encode, grant, payload, signature, sized
+from make_descriptors import FAY, ID, encode, grant, payload, signature, sized
 from make_gate import LAST, LAST_SECOND
 from make_leases import states
 from make_matching import T, U
@@ -228,7 +228,7 @@ def tight(r):
         r.find(f"lookup of row {k}", filled(template, k), must=must)
     assert len(sound(r.image).rows) == 1023
     r.submit("one of 32,768 bytes, for which many go", sized(32768), now=VALID, must=0)
-    r.find("lookup of it", bytes(range(16)), must=0)
+    r.find("lookup of it", ID, must=0)
     r.find("lookup of row 1", filled(template, 1), must=0)
     r.find("lookup of row 1,024", filled(template, 1024), must=0)
     # the beginning of the image changed
@@ -274,14 +274,13 @@ def moments(r):
     assert [row.moment for row in sound(r.image).rows] == [LAST_SECOND, LAST]
 
 
-def unraised(r):
-    """A request that is refused changes nothing."""
-    r.load("image: a row that was never used", image_of([stored(1)], 50))
-    before, q = r.image, dict(id=ident(1), now=NOW)
+def refused_requests(i):
+    """A request for the id with each refusal: its name, the answer, and what the request has."""
+    q = dict(id=i, now=NOW)
     for name, must, more in (
         ("malformed", 15, dict(mode=4)),
-        ("not held", 7, dict(id=ident(2))),
-        ("revoked", 8, dict(revoked=revocation(0, ident(1)))),
+        ("not held", 7, dict(id=ident(LATEST))),
+        ("revoked", 8, dict(revoked=revocation(0, i))),
         ("not yet valid", 9, dict(now=1999)),
         ("expired", 10, dict(now=VALID)),
         ("another subject", 11, dict(fay=FAY.replace("7e21", "7e22"))),
@@ -291,11 +290,19 @@ def unraised(r):
         ("key no longer valid", 14, dict(valid=(0, 1, NOW - 1))),
         ("signature bad", 4, dict(verdict=1)),
     ):
-        r.request(name, must=must, **{**q, **more})
-    for (name, table), must in zip(states(1000 * NOW, ident(1)), (26, 23, 24, 25)):
-        r.request(name, must=must, leases=table, **q)
+        yield name, must, {**q, **more}
+    for (name, table), must in zip(states(1000 * NOW, i), (26, 23, 24, 25)):
+        yield name, must, dict(leases=table, **q)
+
+
+def unraised(r):
+    """A request that is refused changes nothing."""
+    r.load("image: a row that was never used", image_of([stored(1)], 50))
+    before = r.image
+    for name, must, q in refused_requests(ident(1)):
+        r.request(name, must=must, **q)
     assert r.image == before
-    r.request("and then it is granted", must=0, **q)
+    r.request("and then it is granted", id=ident(1), now=NOW, must=0)
     assert r.image != before
 
 
@@ -407,7 +414,7 @@ def refused_upgrades(r):
 
 
 def store(r):
-    groups = (
+    r.groups(
         ("Room for a submission", room),
         ("Least recently used first", order),
         ("Only what is expired", expiry),
@@ -421,6 +428,3 @@ def store(r):
         ("Upgrades", upgrades),
         ("Upgrades that are refused", refused_upgrades),
     )
-    for heading, calls in groups:
-        r.v.heading("## " + heading)
-        calls(r)

@@ -5,9 +5,10 @@ import re
 from collections import namedtuple
 from functools import lru_cache
 
-from make_descriptors import read
+from make_descriptors import fields, is_too_long, read
 from make_matching import UUID, equal_names, is_resource, matches
 from records import answered
+from uuids import is_version_7, number_of
 
 DAY = 86400
 # of a lease table: the length of a row; the last moment of a last sync and of the clock, in ms; the end of ttl and grace, in s; the most of
@@ -119,6 +120,17 @@ def made_room(rows, body, now, room):
     return kept if fits(kept, body, room) else None
 
 
+def text_at(s, at, n):
+    return s[at : at + n].decode()
+
+
+def ids_enter(body, f):
+    """Whether a submission takes the ids of a descriptor: UUIDs of version 7, those of the fay and of the terminal in lower case (document 02 §6)."""
+    texts = [text_at(body, f["fay"], 40), text_at(body, f["terminal"], 45)]
+    uuids = [number(body, f["id"], 16)] + [number_of(text.split(":")[1]) for text in texts]
+    return all(map(is_version_7, uuids)) and all(text == text.lower() for text in texts)
+
+
 def submission_refusal(s, body, now, verdict, valid):
     """The number of the first step that fails before the image is looked through for the id, or 0."""
     if verdict > 2:
@@ -126,10 +138,10 @@ def submission_refusal(s, body, now, verdict, valid):
     held = sound(s)
     if held is None or held.edition != SECOND:
         return 16
-    answer, f = read_once(body)
-    if answer:
-        return answer
-    if f["not_before"] > now + DAY:
+    f = fields(body)
+    if f is None or not ids_enter(body, f):
+        return 1
+    if is_too_long(f) or f["not_before"] > now + DAY:
         return 2
     if verdict == 2:
         return 3
@@ -273,9 +285,9 @@ def decision(s, q):
         return 9, {}
     if now >= f["not_after"]:
         return 10, {}
-    if body[f["fay"] : f["fay"] + 40].decode() != q["fay"]:
+    if text_at(body, f["fay"], 40) != q["fay"]:
         return 11, {}
-    if body[f["terminal"] : f["terminal"] + 45].decode() != q["terminal"]:
+    if text_at(body, f["terminal"], 45) != q["terminal"]:
         return 12, {}
     grants = list(serving(f, q))
     if not grants:

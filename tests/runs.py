@@ -1,10 +1,11 @@
 """Calls on one image that stays from call to call, with what is expected of them: the answers and images of ordinary_gate.py."""
 from functools import lru_cache
 
-from make_descriptors import FAY, encode, payload
+from make_descriptors import FAY, ID, encode, payload
 from make_matching import T
-from ordinary_gate import SECOND, find, image_of, number, over, read_once, request, sound, submit, upgrade
+from ordinary_gate import SECOND, find, image_of, number, over, read_once, request, sound, submission_refusal, submit, upgrade
 from records import FILL, FIND, LEND, NEW, REQUEST, SUBMIT, UPGRADE, summed
+from uuids import version_7
 
 # how many bytes the program has for the image, and for the template of a fill
 STORE, TEMPLATE = 1 << 19, 1024
@@ -25,6 +26,12 @@ class Run:
 
     def __init__(self, v):
         self.v, self.image, self.store = v, b"", bytes(STORE)
+
+    def groups(self, *groups):
+        """Calls, each group of them under its heading."""
+        for heading, calls in groups:
+            self.v.heading("## " + heading)
+            calls(self)
 
     def shown(self):
         rows = number(self.image, 4, 2) if len(self.image) >= 6 else 0
@@ -64,6 +71,7 @@ class Run:
         rows = sound(self.image).rows
         held = {row.ident for row in rows}
         assert len(template) <= TEMPLATE and not any(b[at : at + 16] in held for b in bodies)
+        assert submission_refusal(self.image, bodies[0], now, 0, (0, 0, 0)) == 0, name
         moments = [row.moment for row in rows] + [now + k * step for k in range(count)]
         filled = image_of([row.body for row in rows] + bodies, moments=moments)
         assert len(rows) + count <= SECOND.most and len(filled) <= len(self.image)
@@ -87,7 +95,7 @@ class Run:
 
     def request(self, name, now=2000, ms=0, must=None, **more):
         """A request so many milliseconds after a second, or at now_ms."""
-        q = dict(id=bytes(range(16)), fay=FAY, terminal=T, resource=T + "/a/b", mode=0, now_ms=1000 * now + ms, session=100)
+        q = dict(id=ID, fay=FAY, terminal=T, resource=T + "/a/b", mode=0, now_ms=1000 * now + ms, session=100)
         q.update(revoked=b"", leases=b"", verdict=0, valid=(0, 0, 0))
         q.update(more)
         numbers = [q["mode"], q["now_ms"], q["session"], q["verdict"], *q["valid"]]
@@ -103,7 +111,8 @@ def answer_of(text):
 
 
 def ident(i):
-    return i.to_bytes(2, "big") + bytes(13) + bytes([i % 251])
+    """A UUID of version 7 that begins with the number."""
+    return version_7(i.to_bytes(2, "big") + bytes(13) + bytes([i % 251]))
 
 
 def numbered(template, k):
@@ -112,7 +121,7 @@ def numbered(template, k):
     return template[: at + 12] + k.to_bytes(4, "big") + template[at + 16 :]
 
 
-def revocation(moment, i=bytes(range(16))):
+def revocation(moment, i=ID):
     """A row of the revocation list, of the id that most requests have."""
     return i + moment.to_bytes(8, "big")
 

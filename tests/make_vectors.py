@@ -8,6 +8,7 @@ import sys
 
 from make_descriptors import descriptors
 from make_gate import gate
+from make_ids import ids
 from make_items import items
 from make_leases import leases
 from make_matching import matching
@@ -27,6 +28,7 @@ GROUPS = (
     ("The gate", gate, r),
     ("Leases", leases, r),
     ("The store of a thousand", store, r),
+    ("Ids", ids, r),
 )
 for name, group, to in GROUPS:
     v.heading("# " + name)

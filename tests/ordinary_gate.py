@@ -1,5 +1,5 @@
 """An ordinary image, lookup, submission, upgrade and request, written from documents 01 and 02. It knows nothing of the Rattle code: what the stored
-vectors of make_gate.py, make_leases.py and make_store.py expect is from here.
+vectors of make_gate.py, make_leases.py, make_store.py and make_ids.py expect is from here.
 """
 import re
 from collections import namedtuple

@@ -1,7 +1,8 @@
 /* Each call of include/cap.h with known input: every field of every answer is compared, by its name in the header. The descriptors are made by
  * made.h, a small writer that notes where it puts what; the values are all different, so that two fields of the header cannot be exchanged unnoticed.
- * The calls on images other than requests are in stores.h. */
+ * The calls on images other than requests are in stores.h, and the ids that a submission takes in ids.h. */
 #include "cap.h"
+#include "ids.h"
 #include "made.h"
 #include "same.h"
 #include "stores.h"
@@ -179,14 +180,13 @@ typedef struct asked {
 
 /* The revocation list, of which a request takes so many bytes as it says: another id, then id 7 from 2501 on, then id 7 from 2500 on. */
 static const uint8_t revoked[] = {
-    9, 9, 9, 9, 9, 9, 9, 9, 9, 9, 9, 9, 9, 9, 9, 9, 0, 0, 0, 0, 0, 0, 0, 0,
-    7, 7, 7, 7, 7, 7, 7, 7, 7, 7, 7, 7, 7, 7, 7, 7, 0, 0, 0, 0, 0, 0, 2501 / 256, 2501 % 256,
-    7, 7, 7, 7, 7, 7, 7, 7, 7, 7, 7, 7, 7, 7, 7, 7, 0, 0, 0, 0, 0, 0, 2500 / 256, 2500 % 256,
+    ID(9), 0, 0, 0, 0, 0, 0, 0, 0,
+    ID(7), 0, 0, 0, 0, 0, 0, 2501 / 256, 2501 % 256,
+    ID(7), 0, 0, 0, 0, 0, 0, 2500 / 256, 2500 % 256,
 };
 
-static void decided(uint8_t *image, size_t n, const asked *q, const uint8_t *leases, size_t leases_len) {
-    uint8_t id[16];
-    memset(id, q->id, 16);
+/* Makes the request with these 16 bytes as the id, whatever number it has. */
+static void decided_under(uint8_t *image, size_t n, const uint8_t *id, const asked *q, const uint8_t *leases, size_t leases_len) {
     what = q->name;
     cap_decision d = cap_request(image, n, id, 16, (const uint8_t *)q->fay, strlen(q->fay), (const uint8_t *)q->terminal, strlen(q->terminal),
                                  (const uint8_t *)q->resource, strlen(q->resource), q->mode, q->now_ms, 77, revoked, q->revoked_len, leases, leases_len,
@@ -196,6 +196,12 @@ static void decided(uint8_t *image, size_t n, const asked *q, const uint8_t *lea
     SAME(d, mask, q->expected.mask);
     SAME(d, session_end, q->expected.session_end);
     same_margin(d.margin, q->expected.margin);
+}
+
+/* Makes the request with the id that has its number. */
+static void decided(uint8_t *image, size_t n, const asked *q, const uint8_t *leases, size_t leases_len) {
+    const uint8_t id[16] = {ID(q->id)};
+    decided_under(image, n, id, q, leases, leases_len);
 }
 
 static void requests(void) {
@@ -252,8 +258,8 @@ static void used(const char *name, uint8_t *image, size_t n, uint64_t mode, uint
 static void uses(void) {
     static uint8_t image[4096], before[4096];
     static bytes b, old;
-    make(&b, &stored);
-    put_first_edition(&old, &b, stored.id, 7);
+    places at = make(&b, &stored);
+    put_first_edition(&old, &b, at.id, 7);
     cap_image_new(image, sizeof image);
     submitted("stored to be used", image, sizeof image, &b, 2300, 0, 0, 0, 0, 0);
     used("granted in the second in which it was stored", image, sizeof image, 2, 2300999, 0, 2300);
@@ -265,6 +271,36 @@ static void uses(void) {
     asked q = {"granted on an image of edition 1", 7, FAY, T, T "/a/b", 2, 2500000, 0, 0, 0, 0, 0, {.answer = 0, .grant = 1, .mask = 6, .session_end = 2577}};
     decided(old.at, old.len, &q, CAP_EMPTY, 0);
     same("the image is unchanged", memcmp(old.at, before, old.len) == 0, 1);
+}
+
+/* The descriptor from before, whose id is of version 4, is found in the image, and a request for it is granted. */
+static void still_held(uint8_t *image, size_t n, const uint8_t *id, size_t body_at, size_t body_len) {
+    asked q = {"request for one of version 4", 0, FAY, T, T "/a/b", 2, 2500000, 0, 0, 0, 0, 0, {.answer = 0, .grant = 1, .mask = 6, .session_end = 2577}};
+    found_under("one of version 4", image, n, id, 16, (cap_stored){.answer = 0, .body_at = body_at, .body_len = body_len});
+    decided_under(image, n, id, &q, CAP_EMPTY, 0);
+}
+
+/* A descriptor from before stays as it is in both editions, and after another was stored; submitted again it is refused. */
+static void from_before(void) {
+    static uint8_t image[4096];
+    static bytes b, old;
+    fields f = stored;
+    uint8_t id[16];
+    const id_change version_4 = {"of version 4", VERSION_BYTE, 0x47, 1};
+    size_t id_at = make_changed(&b, &f, DESCRIPTOR_ID, &version_4), n = b.len;
+    memcpy(id, b.at + id_at, 16);
+    put_first_edition(&old, &b, id_at, 7);
+    still_held(old.at, old.len, id, HEADER + FIRST_ROW, n);
+    upgraded("of one of version 4", old.at, old.len, image, sizeof image, (cap_written){.answer = 0, .len = HEADER + ROW + n});
+    still_held(image, sizeof image, id, HEADER + ROW, n);
+    what = "one of version 4, submitted again";
+    tried("answer", image, sizeof image, &b, 0, 1);
+    f.not_after = 3001;
+    make_changed(&b, &f, DESCRIPTOR_ID, &version_4);
+    tried("answer of other bytes under its id", image, sizeof image, &b, 0, 1);
+    make(&b, &f);
+    tried("answer of one of version 7", image, sizeof image, &b, 0, 0);
+    still_held(image, sizeof image, id, HEADER + 2 * ROW, n);
 }
 
 /* A request at a clock with a table of two rows: another id, then this lease. */
@@ -408,8 +444,10 @@ int main(void) {
     images();
     removals();
     upgrades();
+    ids();
     requests();
     uses();
+    from_before();
     leases();
     named_grants();
     narrowings();

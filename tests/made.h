@@ -53,6 +53,9 @@ static size_t text(bytes *b, const char *s) { return string(b, 3, s, strlen(s));
 #define FAY "fay:01927b34-7e21-7c4d-a89f-1234567890ab"
 #define OTHER_FAY "fay:01927b34-7e21-7c4d-a89f-1234567890ac"
 
+/* The 16 bytes of the descriptor id with a number below 16, a UUID of version 7: each byte has the number, one the version too, and one the variant. */
+#define ID(n) (n), (n), (n), (n), (n), (n), 0x70 | (n), (n), 0x80 | (n), (n), (n), (n), (n), (n), (n), (n)
+
 static const char *const modes[] = {"read", "write", "execute", "configure"};
 
 typedef struct grant {
@@ -67,7 +70,7 @@ typedef struct fields {
     unsigned pairs;  /* of metadata; 0: absent */
     const char *grantor;
     unsigned issued_at, not_before, not_after;
-    uint8_t id;
+    uint8_t id; /* its number */
     unsigned algorithm, signature_len;
 } fields;
 
@@ -117,8 +120,7 @@ static void put_grants(bytes *b, const fields *f, places *at) {
 }
 
 static void put_payload(bytes *b, const fields *f, places *at) {
-    uint8_t id[16];
-    memset(id, f->id, 16);
+    const uint8_t id[16] = {ID(f->id)};
     at->payload = b->len;
     head(b, 5, 8 + (f->pairs != 0) + (f->grantor != NULL));
     put_grants(b, f, at);
@@ -186,9 +188,7 @@ static void put_number(bytes *b, uint64_t n) {
 }
 
 static void put_lease(bytes *b, const lease *l) {
-    uint8_t start[24] = {0};
-    memset(start, l->id, 16);
-    start[16] = l->revoked;
+    const uint8_t start[24] = {ID(l->id), l->revoked};
     put(b, start, sizeof start);
     put_number(b, l->last_sync_ms);
     put_number(b, l->ttl);

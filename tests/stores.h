@@ -21,10 +21,10 @@ static const fields stored = {
 /* The length of an image's header and of its rows, and where the last-used moment of the first row stands. */
 enum { HEADER = 8, FIRST_ROW = 32, ROW = 40, MOMENT_AT = HEADER + 32 };
 
-/* Writes an image of edition 1 of one body, whose id is 16 times the byte. */
-static void put_first_edition(bytes *out, const bytes *body, uint8_t id, uint8_t mask) {
+/* Writes an image of edition 1 of one body, whose id stands at the place. */
+static void put_first_edition(bytes *out, const bytes *body, size_t id_at, uint8_t mask) {
     uint8_t start[HEADER + FIRST_ROW] = {0, 1, 0, 1, 0, 1, 0, 0};
-    memset(start + HEADER, id, 16);
+    memcpy(start + HEADER, body->at + id_at, 16);
     start[HEADER + 19] = sizeof start;
     start[HEADER + 22] = (uint8_t)(body->len >> 8);
     start[HEADER + 23] = (uint8_t)body->len;
@@ -34,14 +34,19 @@ static void put_first_edition(bytes *out, const bytes *body, uint8_t id, uint8_t
     put(out, body->at, body->len);
 }
 
-static void found(const char *name, const uint8_t *image, size_t n, size_t id_len, uint8_t id, cap_stored expected) {
-    uint8_t key[17];
-    memset(key, id, 17);
+/* Looks an id up. */
+static void found_under(const char *name, const uint8_t *image, size_t n, const uint8_t *id, size_t id_len, cap_stored expected) {
     what = name;
-    cap_stored s = cap_image_find(image, n, key, id_len);
+    cap_stored s = cap_image_find(image, n, id, id_len);
     SAME(s, answer, expected.answer);
     SAME(s, body_at, expected.body_at);
     SAME(s, body_len, expected.body_len);
+}
+
+/* Looks the id with the number up, which is passed with so many bytes. */
+static void found(const char *name, const uint8_t *image, size_t n, size_t id_len, uint8_t id, cap_stored expected) {
+    const uint8_t key[17] = {ID(id)};
+    found_under(name, image, n, key, id_len, expected);
 }
 
 static void submitted(const char *name, uint8_t *image, size_t n, const bytes *b, uint64_t now, uint64_t verdict, uint64_t from, uint64_t has, uint64_t until,
@@ -122,8 +127,8 @@ static void upgraded(const char *name, const uint8_t *old, size_t old_len, uint8
 static void upgrades(void) {
     static uint8_t image[4096], before[4096];
     static bytes b, old;
-    make(&b, &stored);
-    put_first_edition(&old, &b, stored.id, 7);
+    places at = make(&b, &stored);
+    put_first_edition(&old, &b, at.id, 7);
     size_t n = HEADER + ROW + b.len;
     memset(image, 0xee, sizeof image);
     memcpy(before, image, sizeof image);

@@ -28,6 +28,7 @@ device=$terminal/device
 student=fay:01927b34-7e21-7c4d-a89f-1234567890ab
 staff=fay:01927b34-7e21-7c4d-a89f-fedcba098765
 id=01927b34-7e21-7c4d-a89f-0000000000
+version_4=919108f7-52d1-4320-9bac-f847db4148a8
 checked=0
 
 # Prints a heading.
@@ -111,6 +112,10 @@ must 1 'refused: E_VALIDITY_OUT_OF_RANGE (2)' '  step: 1, structural validation'
 must 1 'refused: E_VALIDITY_OUT_OF_RANGE (2)' -- submit image keys.txt long.cbor $start
 head -c 500 student.cbor >cut.cbor
 must 1 'refused: E_INVALID_STRUCTURE (1)' '  step: 1, structural validation' -- submit image keys.txt cut.cbor $start
+ids_hint="  hint: the descriptor reads, so one of its ids isn't a UUID of version 7 (RFC 9562) in lower case; ask the issuer for a new descriptor"
+must 1 'refused: E_INVALID_STRUCTURE (1)' '  step: 1, structural validation' "$ids_hint" "  id: $version_4" \
+    -- submit image keys.txt version-4.cbor $start
+must 1 'refused: E_INVALID_STRUCTURE (1)' "$ids_hint" '  fay: "fay:01927B34-7E21-7C4D-A89F-1234567890AB"' -- submit image keys.txt upper-case.cbor $start
 unchanged image image.before
 
 heading 'A file that is not the image, and an image that has no room'
@@ -244,27 +249,27 @@ ask_leased 1 'refused: malformed arguments (15)' -- 01 $((start + hour)) twice-l
 ask 1 'refused: E_DESCRIPTOR_REVOKED (8)' \
     -- 01 "$student" "$terminal" "$device/camera/front" read $((start + hour)) revoked.txt revoked-lease.txt
 
-# ask_camera STATUS LINE... -- IMAGE ID-END NOW: a request to read the front camera, to another image.
+# ask_camera STATUS LINE... -- IMAGE ID NOW: a request to read the front camera, to another image.
 ask_camera() {
     local lines=()
     while [ "$1" != -- ]; do
         lines+=("$1")
         shift
     done
-    must "${lines[@]}" -- request "$2" keys.txt "$id$3" "$student" "$terminal" "$device/camera/front" read "$4" $hour
+    must "${lines[@]}" -- request "$2" keys.txt "$3" "$student" "$terminal" "$device/camera/front" read "$4" $hour
 }
 
 heading 'An image of edition 1 is for requests only, until it is upgraded'
-# first_edition FILE DESCRIPTOR ID-END MASK SIZE: an image file of edition 1 of one descriptor, as the versions before 0.5.0 made it.
+# first_edition FILE DESCRIPTOR ID MASK SIZE: an image file of edition 1 of one descriptor, as the versions before 0.5.0 made it.
 first_edition() {
     local row
-    row=$(printf '%s%08x%08x%02x%014x' "${id//-/}$3" 40 "$(wc -c <"$2")" "$4" 0)
+    row=$(printf '%s%08x%08x%02x%014x' "${3//-/}" 40 "$(wc -c <"$2")" "$4" 0)
     { printf '\0\1\0\1\0\1\0\0' && printf "$(sed 's/../\\x&/g' <<<"$row")" && cat "$2"; } >"$1"
     truncate -s "$5" "$1"
 }
-first_edition old student.cbor 01 5 1024
+first_edition old student.cbor "${id}01" 5 1024
 cp old old.before
-ask_camera 0 "granted: read of \"$device/camera/front\"" -- old 01 $((start + hour))
+ask_camera 0 "granted: read of \"$device/camera/front\"" -- old "${id}01" $((start + hour))
 unchanged old old.before
 must 1 'refused: bad image (16)' \
     '  hint: the image is of edition 1, which is for requests only; `host upgrade IMAGE SIZE` turns it into one of edition 2' \
@@ -275,18 +280,29 @@ unchanged old old.before
 must 0 "upgraded: image of edition 2, 2048 bytes, of which $((8 + 40 + $(wc -c <student.cbor))) are in use" -- upgrade old 2048
 must 1 'refused: bad image (16)' -- upgrade old 2048
 must 0 "stored: descriptor ${id}09" -- submit old keys.txt guest.cbor $start
-ask_camera 0 "  last used, written: $((start + hour)) (2026-01-01 01:00:00 UTC)" -- old 01 $((start + hour))
-ask_camera 0 "granted: read of \"$device/camera/front\"" -- old 09 $((start + hour))
+ask_camera 0 "  last used, written: $((start + hour)) (2026-01-01 01:00:00 UTC)" -- old "${id}01" $((start + hour))
+ask_camera 0 "granted: read of \"$device/camera/front\"" -- old "${id}09" $((start + hour))
+
+heading 'A descriptor with an id of version 4, stored before: requests for it are decided as before, and it is refused when it is submitted again'
+first_edition before version-4.cbor "$version_4" 5 1024
+ask_camera 0 "granted: read of \"$device/camera/front\"" -- before "$version_4" $((start + hour))
+must 0 "upgraded: image of edition 2, 2048 bytes, of which $((8 + 40 + $(wc -c <version-4.cbor))) are in use" -- upgrade before 2048
+cp before before.upgraded
+must 1 'refused: E_INVALID_STRUCTURE (1)' "$ids_hint" "  id: $version_4" -- submit before keys.txt version-4.cbor $start
+unchanged before before.upgraded
+must 0 "stored: descriptor ${id}01" -- submit before keys.txt student.cbor $start
+ask_camera 0 "granted: read of \"$device/camera/front\"" "  last used, written: $((start + hour)) (2026-01-01 01:00:00 UTC)" -- before "$version_4" $((start + hour))
+ask_camera 1 'refused: E_DESCRIPTOR_EXPIRED (10)' -- before "$version_4" $((start + 30 * day))
 
 heading 'A full image: expired descriptors make room, the least recently used first; no other does'
 must 0 "new image: $((8 + 2 * 40 + $(cat student.cbor expired.cbor | wc -c))) bytes, no descriptor" \
     -- new full $((8 + 2 * 40 + $(cat student.cbor expired.cbor | wc -c)))
 must 0 "stored: descriptor ${id}01" -- submit full keys.txt student.cbor $start
 must 0 "stored: descriptor ${id}03" -- submit full keys.txt expired.cbor $start
-ask_camera 1 'refused: E_DESCRIPTOR_EXPIRED (10)' -- full 03 $start
+ask_camera 1 'refused: E_DESCRIPTOR_EXPIRED (10)' -- full "${id}03" $start
 must 0 "stored: descriptor ${id}0b" "  removed, since it was expired and room was needed: descriptor ${id}03" -- submit full keys.txt child-inside.cbor $start
-ask_camera 1 'refused: E_DESCRIPTOR_NOT_FOUND (7)' -- full 03 $start
-ask_camera 0 "granted: read of \"$device/camera/front\"" "  last used, written: $((start + hour)) (2026-01-01 01:00:00 UTC)" -- full 01 $((start + hour))
+ask_camera 1 'refused: E_DESCRIPTOR_NOT_FOUND (7)' -- full "${id}03" $start
+ask_camera 0 "granted: read of \"$device/camera/front\"" "  last used, written: $((start + hour)) (2026-01-01 01:00:00 UTC)" -- full "${id}01" $((start + hour))
 cp full full.before
 must 1 'refused: E_STORAGE_FULL (6)' \
     "  why: 1,024 descriptors are held, or this one doesn't fit into the image, also without the expired ones" \
@@ -294,7 +310,7 @@ must 1 'refused: E_STORAGE_FULL (6)' \
 unchanged full full.before
 must 0 "stored: descriptor ${id}0d" "  removed, since it was expired and room was needed: descriptor ${id}0b" \
     -- submit full keys.txt child-later.cbor $((start + 30 * day))
-ask_camera 1 'refused: E_DESCRIPTOR_EXPIRED (10)' -- full 01 $((start + 30 * day))
+ask_camera 1 'refused: E_DESCRIPTOR_EXPIRED (10)' -- full "${id}01" $((start + 30 * day))
 
 heading 'A stored descriptor that someone has changed on the disk'
 must 0 'new image: 2048 bytes, no descriptor' -- new changed 2048

@@ -34,6 +34,23 @@ static void print_upgrade_hint(const submission *s) {
     }
 }
 
+/* Prints how to go on with a descriptor that was refused as if it didn't read: where it does, one of its ids is the reason. */
+static void print_id_hint(const submission *s) {
+    const uint8_t *descriptor = s->descriptor.bytes;
+    cap_descriptor read = cap_descriptor_read(descriptor, s->descriptor.len);
+    if (read.answer == CAP_INVALID_STRUCTURE) {
+        return;
+    }
+    puts("  hint: the descriptor reads, so one of its ids isn't a UUID of version 7 (RFC 9562) in lower case; ask the issuer for a new descriptor");
+    if (read.answer == CAP_DONE) {
+        printf("  id: ");
+        print_id(descriptor + read.id_at);
+        putchar('\n');
+        print_labelled_text("fay", descriptor + read.fay_at, FAY_LEN);
+        print_labelled_text("terminal", descriptor + read.terminal_at, TERMINAL_LEN);
+    }
+}
+
 /* Prints the first line of a submission that the gate took. */
 static void print_taken(const submission *s, const char *taken) {
     cap_descriptor read = cap_descriptor_read(s->descriptor.bytes, s->descriptor.len);
@@ -53,6 +70,9 @@ static void print_submission_refusal(const submission *s, uint64_t answer, const
     }
     if (answer == CAP_BAD_IMAGE) {
         print_upgrade_hint(s);
+    }
+    if (answer == CAP_INVALID_STRUCTURE) {
+        print_id_hint(s);
     }
 }
 

@@ -151,11 +151,19 @@ static const char *step_of(enum asked_call call, uint64_t answer) {
     }
 }
 
+/* What a refusal says in the call that it came from; a submission asks more of a descriptor than that it reads. */
+static const char *meaning_of(enum asked_call call, uint64_t answer) {
+    if (call == ASKED_SUBMISSION && answer == CAP_INVALID_STRUCTURE) {
+        return "the bytes aren't the deterministic encoding of an allowed descriptor, or one of its ids isn't a UUID of version 7 in lower case";
+    }
+    return words_of(answer).meaning;
+}
+
 /* Prints a refusal with its name, its number, the step that it stands for, and what it says. */
 void print_refusal(enum asked_call call, uint64_t answer) {
     printf("refused: %s (%" PRIu64 ")\n", answer_name(answer), answer);
     printf("  step: %s\n", step_of(call, answer));
-    printf("  why: %s\n", words_of(answer).meaning);
+    printf("  why: %s\n", meaning_of(call, answer));
 }
 
 /* Prints the names of the modes in a mask, lowest first. */

@@ -15,8 +15,12 @@
 #define LAB "Lab Office"
 #define STRANGER "Another Lab"
 
-/* The descriptor ids of the example differ in their last two digits. */
+/* The descriptor ids of the example, UUIDs of version 7, differ in their last two digits. */
 #define ID(digits) "01927b34-7e21-7c4d-a89f-0000000000" digits
+
+/* Ids that no submission takes any more: a descriptor id of version 4, and the student's id in upper case. */
+#define VERSION_4_ID "919108f7-52d1-4320-9bac-f847db4148a8"
+#define UPPER_CASE_STUDENT "fay:01927B34-7E21-7C4D-A89F-1234567890AB"
 
 /* The modes as a mask has them. */
 enum { READ = 1 << CAP_READ, WRITE = 1 << CAP_WRITE, EXECUTE = 1 << CAP_EXECUTE, CONFIGURE = 1 << CAP_CONFIGURE };
@@ -104,6 +108,11 @@ const sample samples[] = {
      LAB_KEY,
      {ID("0e"), LAB, NULL, STUDENT, TERMINAL, START, START, START + 91 * DAY, {NULL, NULL}, student_grants, COUNT(student_grants)},
      NULL},
+    {"version-4.cbor",
+     LAB_KEY,
+     {VERSION_4_ID, LAB, NULL, STUDENT, TERMINAL, START - HOUR, START, START + 30 * DAY, {NULL, NULL}, student_grants, COUNT(student_grants)},
+     NULL},
+    {"upper-case.cbor", LAB_KEY, LAB_PAYLOAD("10", UPPER_CASE_STUDENT, START, student_grants), NULL},
     {"technician.cbor", STAFF_KEY, LAB_PAYLOAD("0f", STAFF, START, technician_grants), NULL},
     {"parent.cbor", LAB_KEY, LAB_PAYLOAD("0a", STAFF, START, parent_grants), NULL},
     {"child-inside.cbor", LAB_KEY, LAB_PAYLOAD("0b", STUDENT, START, inside_grants), NULL},

@@ -97,6 +97,7 @@ class Reader(Items):
         return at, text
 
     def payload(self):
+        """The fields of a payload."""
         start, f = self.at, {"grantor": (0, 0), "metadata": (0, 0)}
         for k in self.table(PAYLOAD):
             if k == "grants":
@@ -123,6 +124,7 @@ class Reader(Items):
         return f
 
     def signature(self):
+        """The fields of a signature."""
         f = {}
         for k in self.table(["key_id", "algorithm", "signature_value"]):
             if k == "key_id":

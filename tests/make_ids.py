@@ -63,6 +63,7 @@ def tried(r, which, name, text, must, i=1):
 
 
 def new_image(r, n):
+    """A new image in so many bytes."""
     r.lend(f"{n:,} bytes", n)
     r.new("new image")
 
@@ -154,7 +155,7 @@ def each(r, fault, pairs, must, **more):
 
 
 def steps(r):
-    """15 and 16 come before it, and every other refusal after it."""
+    """15 and 16 come before the 1 of an id, and every other refusal after it."""
     size = len(image_of([encode(), made(1)]))
     r.load("no image", b"\x00" * 100)
     each(r, "no image", bodies(), 16)
@@ -253,6 +254,7 @@ def full(r):
 
 
 def reading(r):
+    """Descriptors with such ids read, and one with too long a period is answered 2."""
     for name, body in bodies():
         add_descriptor(r.v, name, body, 0)
     for name, body in bodies(**LONG)[:1]:
@@ -260,6 +262,7 @@ def reading(r):
 
 
 def matching(r):
+    """Terminals of version 4 match; the same digits in upper case are another terminal."""
     lower, upper = f"terminal:{FOUR}/a".encode(), f"terminal:{FOUR.upper()}/a".encode()
     for name, pattern, resource, yes in (
         ("terminal id of version 4", lower, lower, 1),
@@ -272,6 +275,7 @@ def matching(r):
 
 
 def narrowing(r):
+    """A child is inside its parent with any ids; a terminal in upper case is another terminal."""
     fays = [dict(subject_fay_id="fay:" + text) for text in (FOUR, RIGHT.upper())]
     lower, upper = (dict(terminal="terminal:" + text) for text in (FOUR, FOUR.upper()))
     for name, parent, child, must in (

@@ -121,6 +121,7 @@ def made_room(rows, body, now, room):
 
 
 def text_at(s, at, n):
+    """The text of so many bytes at a place."""
     return s[at : at + n].decode()
 
 

@@ -1,8 +1,8 @@
-//! Images of both editions: which rows a submission removes, when the moment of a row is raised, and the upgrade. Images are
-//! written here once more, from documents 01 and 02.
+//! Images of both editions: which rows a submission removes, when the moment of a row is raised, and the upgrade.
 
-use descriptor::{encode_as, Rule, FAY, T};
+use descriptor::{model, Model, Rule, FAY, ID, T};
 use draw::Draw;
+use image::{image_with, Row};
 use reference::{
     image_find, image_new, image_upgrade, request, submit, Decision, Request, Submission, Written,
 };
@@ -12,6 +12,8 @@ use reference::{
 mod descriptor;
 #[path = "support/draw.rs"]
 mod draw;
+#[path = "support/image.rs"]
+mod image;
 
 /// The bytes after the images here.
 const TAIL: u8 = 0xaa;
@@ -38,7 +40,7 @@ impl Held {
     }
 
     fn id(&self) -> [u8; 16] {
-        let mut id = [7; 16];
+        let mut id = *ID;
         id[12..].copy_from_slice(&self.number.to_be_bytes());
         id
     }
@@ -51,28 +53,23 @@ impl Held {
         };
         let mut rules = vec![rule("a")];
         rules.extend((0..self.others).map(|n| rule(&"n".repeat(1 + n))));
-        encode_as(&rules, &self.id(), self.not_after)
+        Model {
+            id: self.id(),
+            not_after: u64::from(self.not_after),
+            ..model(&rules)
+        }
+        .bytes()
     }
 }
 
 /// The image of an edition that holds the descriptors.
 fn image(edition: u16, held: &[Held]) -> Vec<u8> {
-    let row = if edition == 1 { 32 } else { 40 };
-    let header = [edition, 1, held.len() as u16, 0];
-    let mut out = header.map(u16::to_be_bytes).concat();
-    let mut at = 8 + row * held.len();
-    for one in held {
-        let length = one.body().len();
-        out.extend(one.id());
-        out.extend([at as u32, length as u32].map(u32::to_be_bytes).concat());
-        out.extend([1, 0, 0, 0, 0, 0, 0, 0]);
-        if edition == 2 {
-            out.extend(one.last_used.to_be_bytes());
-        }
-        at += length;
-    }
-    held.iter().for_each(|one| out.extend(one.body()));
-    out
+    let row = |one: &Held| Row {
+        id: one.id(),
+        body: one.body(),
+        last_used: one.last_used,
+    };
+    image_with(edition, &held.iter().map(row).collect::<Vec<_>>())
 }
 
 /// So many descriptors, numbered from 0.

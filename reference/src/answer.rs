@@ -2,7 +2,7 @@
 
 /// Done, granted, accepted.
 pub(crate) const DONE: u64 = 0;
-/// Not the deterministic encoding of an allowed item or descriptor.
+/// Not the deterministic encoding of an allowed item or descriptor; on submission also an id that is no UUID of version 7.
 pub(crate) const INVALID_STRUCTURE: u64 = 1;
 /// Valid for too long, or beginning too far ahead.
 pub(crate) const VALIDITY_OUT_OF_RANGE: u64 = 2;

@@ -152,14 +152,19 @@ pub fn grant_at(bytes: &[u8], index: u64) -> Grant {
 /// Reads a descriptor, or answers 1 or 2.
 pub(crate) fn read(bytes: &[u8]) -> Result<Reading<'_>, u64> {
     let reading = read_structure(bytes).ok_or(INVALID_STRUCTURE)?;
-    if reading.numbers.not_after - reading.numbers.not_before > LONGEST_PERIOD {
+    if lasts_too_long(&reading.numbers) {
         return Err(VALIDITY_OUT_OF_RANGE);
     }
     Ok(reading)
 }
 
+/// Whether the period is over the longest.
+pub(crate) fn lasts_too_long(descriptor: &Descriptor) -> bool {
+    descriptor.not_after - descriptor.not_before > LONGEST_PERIOD
+}
+
 /// Reads a descriptor by all rules but the longest period.
-fn read_structure(bytes: &[u8]) -> Option<Reading<'_>> {
+pub(crate) fn read_structure(bytes: &[u8]) -> Option<Reading<'_>> {
     if bytes.len() > MOST_BYTES {
         return None;
     }

@@ -15,6 +15,7 @@ mod request;
 mod resource;
 mod room;
 mod submission;
+mod uuid;
 
 pub use descriptor::{descriptor_read, grant_at, Descriptor, Grant};
 pub use image::{image_find, image_new, image_upgrade, Stored, Written};

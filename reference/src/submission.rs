@@ -1,12 +1,14 @@
 //! Submission of a descriptor to an image.
 
 use crate::answer::{
-    BAD_IMAGE, DONE, DUPLICATE_DESCRIPTOR_ID, INVALID_SIGNATURE, MALFORMED_ARGUMENTS, STORAGE_FULL,
-    UNKNOWN_ISSUER, VALIDITY_OUT_OF_RANGE, VERDICT_BAD, VERDICT_NO_KEY, VERIFICATION_KEY_INVALID,
+    BAD_IMAGE, DONE, DUPLICATE_DESCRIPTOR_ID, INVALID_SIGNATURE, INVALID_STRUCTURE,
+    MALFORMED_ARGUMENTS, STORAGE_FULL, UNKNOWN_ISSUER, VALIDITY_OUT_OF_RANGE, VERDICT_BAD,
+    VERDICT_NO_KEY, VERIFICATION_KEY_INVALID,
 };
-use crate::descriptor::{read, Descriptor};
+use crate::descriptor::{lasts_too_long, read_structure, Descriptor, Reading};
 use crate::edition::EDITION_2;
 use crate::image::{Image, Row};
+use crate::uuid::{is_version_7, is_version_7_text};
 
 /// How far ahead of the clock a period may begin: a day.
 const LONGEST_WAIT: u64 = 86_400;
@@ -44,8 +46,10 @@ fn image_after(bytes: &[u8], body: &[u8], with: &Submission) -> Result<Option<Ve
         return Err(MALFORMED_ARGUMENTS);
     }
     let image = Image::of_edition(&EDITION_2, bytes).ok_or(BAD_IMAGE)?;
-    let reading = read(body)?;
-    check_clock_and_key(&reading.numbers, with)?;
+    let reading = read_structure(body)
+        .filter(has_ids_of_version_7)
+        .ok_or(INVALID_STRUCTURE)?;
+    check_times_and_key(&reading.numbers, with)?;
     if let Some(index) = image.find(reading.id()) {
         let same = image.rows[index].body == body;
         return same.then_some(None).ok_or(DUPLICATE_DESCRIPTOR_ID);
@@ -59,9 +63,19 @@ fn image_after(bytes: &[u8], body: &[u8], with: &Submission) -> Result<Option<Ve
     Ok(Some(after.ok_or(STORAGE_FULL)?.bytes()))
 }
 
-/// The steps between reading and the table of contents.
-fn check_clock_and_key(descriptor: &Descriptor, with: &Submission) -> Result<(), u64> {
-    if begins_too_late(descriptor.not_before, with.now) {
+/// Whether the descriptor id and the UUIDs of the fay id and the terminal id are of version 7, and neither text has an upper-case
+/// digit.
+fn has_ids_of_version_7(reading: &Reading) -> bool {
+    let fay = reading.fay().strip_prefix(b"fay:");
+    let terminal = reading.terminal().strip_prefix(b"terminal:");
+    is_version_7(reading.id())
+        && fay.is_some_and(is_version_7_text)
+        && terminal.is_some_and(is_version_7_text)
+}
+
+/// The steps between structure and the table of contents.
+fn check_times_and_key(descriptor: &Descriptor, with: &Submission) -> Result<(), u64> {
+    if lasts_too_long(descriptor) || begins_too_late(descriptor.not_before, with.now) {
         Err(VALIDITY_OUT_OF_RANGE)
     } else if with.verdict == VERDICT_NO_KEY {
         Err(UNKNOWN_ISSUER)

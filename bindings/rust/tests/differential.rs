@@ -20,6 +20,8 @@ mod lease_slips;
 mod random;
 #[path = "support/slips.rs"]
 mod slips;
+#[path = "support/uuid.rs"]
+mod uuid;
 #[path = "support/wrong_image.rs"]
 mod wrong_image;
 

@@ -1,11 +1,13 @@
 //! Descriptors: random ones, every limit from both sides, each rule broken at each place, and edited bytes.
 
 use super::changes::{changed, edit, reheaded};
+use super::paths::any_levels;
 use crate::compare::Compare;
 use crate::encoder::{
     grant, head, modes_of, wide_head, Grant, Model, Pairs, MODES, OTHER_TERMINAL, TERMINAL,
 };
 use crate::random::Random;
+use crate::uuid::{put_any, put_version_7};
 
 /// All cases of descriptors.
 pub fn run(compare: &mut Compare, random: &mut Random, rounds: usize) {
@@ -265,9 +267,17 @@ fn sizes(compare: &mut Compare) {
     }
 }
 
-/// A descriptor that reads, or nearly.
+/// A descriptor that reads, or nearly, with any ids or with ids of version 7.
 pub fn any_model(random: &mut Random) -> Model {
-    let terminal = any_terminal(random);
+    let mut model = any_model_of_version_7(random);
+    if random.once_in(2) {
+        put_any(&mut model, random);
+    }
+    model
+}
+
+/// A descriptor that reads, or nearly, with ids of version 7.
+pub fn any_model_of_version_7(random: &mut Random) -> Model {
     let grants = if random.once_in(40) {
         random.between(1, 256)
     } else {
@@ -276,16 +286,14 @@ pub fn any_model(random: &mut Random) -> Model {
     let not_before = random.edge();
     let period = *random.pick(&[1, 2, 100, 7_776_000, 7_776_001, 86_400]);
     let ecdsa = random.once_in(2);
-    Model {
-        grants: (0..grants).map(|_| any_grant(random, &terminal)).collect(),
+    let mut model = Model {
+        grants: (0..grants).map(|_| any_grant(random)).collect(),
         metadata: random.once_in(2).then(|| any_pairs(random, 16)),
         issued_at: not_before.saturating_sub(random.below(3) as u64),
         issuer: any_text(random, 1, 128),
         not_after: not_before.saturating_add(period),
         grantor: random.once_in(2).then(|| any_text(random, 1, 128)),
         not_before,
-        id: random.bytes(16),
-        fay: format!("fay:{}", any_uuid(random)),
         key_id: any_text(random, 1, 64),
         algorithm: if ecdsa {
             "ecdsa-p256-sha256"
@@ -298,37 +306,21 @@ pub fn any_model(random: &mut Random) -> Model {
         } else {
             random.bytes(64)
         },
-        terminal,
-    }
+        ..Model::plain()
+    };
+    put_version_7(&mut model, random);
+    model
 }
 
-fn any_uuid(random: &mut Random) -> String {
-    let digits = b"0123456789abcdefABCDEF";
-    let form = "xxxxxxxx-xxxx-xxxx-xxxx-xxxxxxxxxxxx";
-    form.chars()
-        .map(|c| {
-            if c == 'x' {
-                *random.pick(digits) as char
-            } else {
-                c
-            }
-        })
-        .collect()
-}
-
-fn any_terminal(random: &mut Random) -> String {
-    format!("terminal:{}", any_uuid(random))
-}
-
-fn any_grant(random: &mut Random, terminal: &str) -> Grant {
+/// A grant under the usual terminal.
+fn any_grant(random: &mut Random) -> Grant {
     let mut modes = modes_of(random.between(1, 15));
     let turns = random.below(modes.len());
     modes.rotate_left(turns);
     let constraints = random.once_in(3).then(|| any_pairs(random, 8));
     Grant {
-        modes,
-        pattern: format!("{terminal}/{}", super::paths::any_levels(random, 5)),
         constraints,
+        ..grant(&modes, &any_levels(random, 5))
     }
 }
 

@@ -50,7 +50,7 @@ fn with_room(bytes: Vec<u8>) -> Vec<u8> {
     [bytes, vec![0x55; ROOM]].concat()
 }
 
-/// Three rows with different modes and moments.
+/// Three rows with different modes and moments, of which the last has an id of version 4.
 pub fn some_rows() -> Vec<Row> {
     let models = [
         Model::plain(),
@@ -59,7 +59,7 @@ pub fn some_rows() -> Vec<Row> {
             grant(&["execute", "configure"], "a/**"),
         ])
         .numbered(1),
-        Model::full().numbered(2),
+        Model::full().of_version(4, 2),
     ];
     let moments = [0, 2400, u64::MAX];
     let used = models.iter().zip(moments);

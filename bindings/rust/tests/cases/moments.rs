@@ -20,7 +20,8 @@ pub fn run(compare: &mut Compare, random: &mut Random, rounds: usize) {
 
 /// Descriptors with the numbers from 0 on, valid from 2,000 to 3,000.
 fn models(count: u64) -> Vec<Model> {
-    (0..count).map(|n| Model::plain().numbered(n)).collect()
+    let model = |number| Model::plain().numbered_by_turns(number);
+    (0..count).map(model).collect()
 }
 
 /// Moments around a clock in seconds, at the ends, and with the clock's bytes the other way round.

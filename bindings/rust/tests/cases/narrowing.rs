@@ -5,6 +5,7 @@ use super::paths::any_levels;
 use crate::compare::Compare;
 use crate::encoder::{grant, modes_of, Grant, Model, MODES, OTHER_TERMINAL, TERMINAL};
 use crate::random::Random;
+use crate::uuid::put_any;
 
 /// All cases of narrowing.
 pub fn run(compare: &mut Compare, random: &mut Random, rounds: usize) {
@@ -38,7 +39,7 @@ fn steps(compare: &mut Compare) {
         |model| model.grants[0].constraints = Some(Vec::new()),
         |model| model.grants[0].pattern = format!("{TERMINAL}/**"),
         |model| model.grants[1].modes = MODES.to_vec(),
-        |model| moved(model, OTHER_TERMINAL),
+        |model| model.move_to(OTHER_TERMINAL),
     ];
     let base = Model::with(vec![grant(&["read"], "a/*"), grant(&["write"], "b")]);
     for of_parent in changes {
@@ -66,14 +67,6 @@ fn steps(compare: &mut Compare) {
     compare.narrow(&[], &[]);
     compare.narrow(&base.bytes(), &[]);
     compare.narrow(&[], &base.bytes());
-}
-
-/// Moves a descriptor to another terminal.
-fn moved(model: &mut Model, terminal: &str) {
-    model.terminal = terminal.into();
-    for grant in &mut model.grants {
-        grant.pattern = grant.pattern.replace(TERMINAL, terminal);
-    }
 }
 
 /// Stars, so many.
@@ -168,7 +161,7 @@ fn wide_cases() -> Vec<(Model, Model)> {
     ]
 }
 
-/// A parent and a child that are often near each other.
+/// A parent and a child that are often near each other, some with any ids.
 fn any_two(random: &mut Random) -> (Model, Model) {
     let names: &[&str] = if random.once_in(2) {
         &["a", "*"]
@@ -196,7 +189,13 @@ fn any_two(random: &mut Random) -> (Model, Model) {
     if random.once_in(5) {
         child.push(grant(&MODES, &any_levels(random, 12)));
     }
-    (Model::with(parent), Model::with(child))
+    let (mut parent, mut child) = (Model::with(parent), Model::with(child));
+    if random.once_in(3) {
+        put_any(&mut parent, random);
+        put_any(&mut child, random);
+        child.move_to(&parent.terminal);
+    }
+    (parent, child)
 }
 
 /// A grant with a pattern of at most four levels over the names.

@@ -13,6 +13,7 @@ use crate::encoder::{
 };
 use crate::lease_row::{LeaseRow, LAST_MOMENT};
 use crate::random::Random;
+use crate::uuid::put_any;
 
 /// The second of the last moment that the clock may have.
 const LAST_SECOND: u64 = LAST_MOMENT / 1000;
@@ -427,7 +428,7 @@ fn random_revocations(compare: &mut Compare, random: &mut Random) {
     asked.run(compare);
 }
 
-/// A descriptor of random grants, and a request that one of them often serves.
+/// A descriptor of random grants, often with any ids, and a request that one of them often serves.
 fn random_request(compare: &mut Compare, random: &mut Random) {
     let grants = (0..random.between(1, 8)).map(|_| Grant {
         constraints: random
@@ -435,7 +436,10 @@ fn random_request(compare: &mut Compare, random: &mut Random) {
             .then(|| vec![("k".to_string(), "v".to_string()); random.below(2)]),
         ..grant(&modes_of(random.between(1, 15)), &any_levels(random, 4))
     });
-    let model = Model::with(grants.collect());
+    let mut model = Model::with(grants.collect());
+    if random.once_in(2) {
+        put_any(&mut model, random);
+    }
     let row = Row::used(&model, 1_990 + random.below(1_020) as u64);
     let bytes = image_of(*random.pick(&EDITIONS), &[row]);
     let mut asked = Asked::of(&model, bytes);
@@ -451,7 +455,8 @@ fn random_request(compare: &mut Compare, random: &mut Random) {
             level.to_string()
         }
     });
-    let mut resource = format!("{TERMINAL}/{}", names.collect::<Vec<_>>().join("/"));
+    let names = names.collect::<Vec<_>>().join("/");
+    let mut resource = format!("{}/{names}", model.terminal);
     if random.once_in(4) {
         resource += &format!("/{}", any_name(random));
     }

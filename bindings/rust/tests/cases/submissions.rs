@@ -4,7 +4,7 @@
 use reference::Submission;
 
 use super::changes::{edit, set};
-use super::descriptors::any_model;
+use super::descriptors::any_model_of_version_7;
 use super::images::{some_rows, EDITIONS};
 use crate::compare::Compare;
 use crate::encoder::{image, image_of, Model, Row, NEW_ROW};
@@ -198,7 +198,7 @@ fn sequence(compare: &mut Compare, random: &mut Random) {
     };
     let mut bytes = random.bytes(length);
     let models: Vec<Model> = (0..6)
-        .map(|i| near_now(any_model(random), random).numbered(i))
+        .map(|i| near_now(any_model_of_version_7(random), random).numbered(i))
         .collect();
     if random.once_in(8) {
         let rows: Vec<Row> = models[..random.below(4)].iter().map(Row::of).collect();

@@ -26,13 +26,17 @@ pub fn run(compare: &mut Compare, random: &mut Random, rounds: usize) {
     }
 }
 
-/// A row with a number, with a body of a length of its own and, in edition 2, a moment.
-fn row(number: u64) -> Row {
-    let model = Model {
+/// A descriptor with a number, with a body of a length of its own.
+fn model(number: u64) -> Model {
+    Model {
         issuer: "i".repeat(1 + number as usize % 7),
-        ..Model::plain().numbered(number)
-    };
-    Row::used(&model, 1 + number)
+        ..Model::plain().numbered_by_turns(number)
+    }
+}
+
+/// Its row, in edition 2 with a moment.
+fn row(number: u64) -> Row {
+    Row::used(&model(number), 1 + number)
 }
 
 /// An upgrade to a buffer of so many bytes.
@@ -88,7 +92,7 @@ fn asked_and_submitted_to(compare: &mut Compare, rows: &[Row]) {
     compare.image_upgrade(&image_of(1, rows), &mut bytes);
     for number in [0, rows.len() as u64 / 2, rows.len() as u64] {
         compare.image_find(&bytes, &row(number).id);
-        let mut asked = Asked::of(&Model::plain().numbered(number), bytes);
+        let mut asked = Asked::of(&model(number), bytes);
         asked.now_ms = 2_600_000 + number;
         bytes = asked.run(compare);
     }
@@ -106,7 +110,7 @@ fn asked_and_submitted_to(compare: &mut Compare, rows: &[Row]) {
 fn random_upgrade(compare: &mut Compare, random: &mut Random) {
     let numbers = 0..random.below(5) as u64;
     let rows: Vec<Row> = numbers
-        .map(|number| Row::of(&any_model(random).numbered(number)))
+        .map(|number| Row::of(&any_model(random).numbered_by_turns(number)))
         .collect();
     let mut old = image_of(*random.pick(&[1, 1, 1, 2]), &rows);
     let new = old.len() + 8 * rows.len();

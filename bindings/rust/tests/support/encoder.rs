@@ -87,10 +87,12 @@ pub fn wide_head(major: u8, number: u64, width: usize) -> Vec<u8> {
 
 /// The terminal id of most descriptors here.
 pub const TERMINAL: &str = "terminal:00000000-0000-7000-8000-000000000001";
-/// Another terminal id.
+/// Another terminal id, in which a digit is an upper-case one.
 pub const OTHER_TERMINAL: &str = "terminal:00000000-0000-7000-8000-00000000000A";
 /// The fay id of most descriptors here.
 pub const FAY: &str = "fay:01927b34-7e21-7c4d-a89f-1234567890ab";
+/// The id of most descriptors here, which like their other two is of version 7.
+pub const ID: [u8; 16] = [0, 1, 2, 3, 4, 5, 0x76, 7, 0x88, 9, 10, 11, 12, 13, 14, 15];
 /// The names of the modes by their numbers.
 pub const MODES: [&str; 4] = ["read", "write", "execute", "configure"];
 
@@ -152,7 +154,7 @@ impl Model {
             grantor: None,
             not_before: 2000,
             terminal: TERMINAL.into(),
-            id: (0..16).collect(),
+            id: ID.to_vec(),
             fay: FAY.into(),
             key_id: "k1".into(),
             algorithm: "ed25519".into(),
@@ -232,12 +234,30 @@ impl Model {
         self.value().encode()
     }
 
-    /// The same descriptor under an id of its own.
-    pub fn numbered(mut self, number: u64) -> Model {
-        self.id = [0x0102_0304_0506_0708, number]
+    /// The same descriptor under an id of its own, by a number below 2^62.
+    pub fn numbered(self, number: u64) -> Model {
+        self.of_version(7, number)
+    }
+
+    /// The same descriptor under an id of its own, which is of version 4 where the number is odd.
+    pub fn numbered_by_turns(self, number: u64) -> Model {
+        self.of_version([7, 4][number as usize % 2], number)
+    }
+
+    /// The same descriptor under an id of its own, a UUID of a version.
+    pub fn of_version(mut self, version: u64, number: u64) -> Model {
+        self.id = [0x0102_0304_0506_0708 | version << 12, 1 << 63 | number]
             .map(u64::to_be_bytes)
             .concat();
         self
+    }
+
+    /// Puts a descriptor under another terminal.
+    pub fn move_to(&mut self, terminal: &str) {
+        for grant in &mut self.grants {
+            grant.pattern = grant.pattern.replace(&self.terminal, terminal);
+        }
+        self.terminal = terminal.into();
     }
 
     /// The union of the masks of the grants.

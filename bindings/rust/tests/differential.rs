@@ -95,6 +95,16 @@ fn submissions() {
 }
 
 #[test]
+fn ids() {
+    let answers = [0, 1, 2, 3, 4, 5, 6, 14, 15, 16];
+    let compare = agree("ids", cases::ids::run, "submit", &answers);
+    for call in ["descriptor_read", "image_find", "image_upgrade", "narrow"] {
+        assert!(compare.count(call, 0) > 0, "{call} never answered 0");
+    }
+    assert!(compare.count("request", 0) > 0);
+}
+
+#[test]
 fn removals() {
     let compare = agree("removals", cases::removals::run, "submit", &[0, 5, 6]);
     assert!(compare.count("request", 0) > 0);

@@ -3,6 +3,7 @@
 pub mod capacity;
 pub mod changes;
 pub mod descriptors;
+pub mod ids;
 pub mod images;
 pub mod items;
 pub mod leases;

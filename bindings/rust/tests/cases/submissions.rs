@@ -10,7 +10,8 @@ use crate::compare::Compare;
 use crate::encoder::{image, image_of, Model, Row, NEW_ROW};
 use crate::random::Random;
 
-const DAY: u64 = 86_400;
+/// How far ahead of the clock a period may begin.
+pub const DAY: u64 = 86_400;
 
 /// All cases of submissions.
 pub fn run(compare: &mut Compare, random: &mut Random, rounds: usize) {
@@ -25,15 +26,34 @@ pub fn run(compare: &mut Compare, random: &mut Random, rounds: usize) {
 
 /// The buffer, the descriptor and the numbers of a submission.
 #[derive(Clone)]
-struct Submitted {
-    image: Vec<u8>,
-    model: Model,
-    body: Option<Vec<u8>>,
-    with: Submission,
+pub struct Submitted {
+    pub image: Vec<u8>,
+    pub model: Model,
+    /// The bytes to submit, where they aren't the model's.
+    pub body: Option<Vec<u8>>,
+    pub with: Submission,
 }
 
 impl Submitted {
-    fn run(&self, compare: &mut Compare) {
+    /// A submission that is stored beside some rows.
+    pub fn fine() -> Submitted {
+        Submitted {
+            image: [image(&some_rows()), vec![0xaa; 1000]].concat(),
+            model: Model {
+                not_before: 5 * DAY,
+                not_after: 6 * DAY,
+                ..Model::plain().numbered(50)
+            },
+            body: None,
+            with: Submission {
+                now: 5 * DAY,
+                ..Submission::default()
+            },
+        }
+    }
+
+    /// Submits to a copy of the buffer.
+    pub fn run(&self, compare: &mut Compare) {
         let body = self.body.clone().unwrap_or_else(|| self.model.bytes());
         compare.submit(&mut self.image.clone(), &body, &self.with);
     }
@@ -70,19 +90,7 @@ fn steps(compare: &mut Compare) {
         |s| s.image.truncate(image(&some_rows()).len()),
         |s| s.image = image(&[Row::of(&s.model.clone().numbered(51))]),
     ];
-    let fine = Submitted {
-        image: [image(&some_rows()), vec![0xaa; 1000]].concat(),
-        model: Model {
-            not_before: 5 * DAY,
-            not_after: 6 * DAY,
-            ..Model::plain().numbered(50)
-        },
-        body: None,
-        with: Submission {
-            now: 5 * DAY,
-            ..Submission::default()
-        },
-    };
+    let fine = Submitted::fine();
     for first in changes {
         for second in changes {
             for third in [changes[0], changes[21], changes[22]] {

@@ -10,6 +10,8 @@ mod compare;
 mod encoder;
 #[path = "support/gate.rs"]
 mod gate;
+#[path = "support/id_slips.rs"]
+mod id_slips;
 #[path = "support/image_slips.rs"]
 mod image_slips;
 #[path = "support/lease_row.rs"]
@@ -18,15 +20,20 @@ mod lease_row;
 mod lease_slips;
 #[path = "support/random.rs"]
 mod random;
+#[path = "support/slip_list.rs"]
+mod slip_list;
 #[path = "support/slips.rs"]
 mod slips;
 #[path = "support/uuid.rs"]
 mod uuid;
+#[path = "support/wrong_ids.rs"]
+mod wrong_ids;
 #[path = "support/wrong_image.rs"]
 mod wrong_image;
 
 use compare::Compare;
 use gate::{Library, Ordinary};
+use id_slips::ID_SLIPS;
 use image_slips::{ImageSlip, IMAGE_SLIPS};
 use lease_slips::LEASE_SLIPS;
 use random::Random;
@@ -98,10 +105,10 @@ fn submissions() {
 fn ids() {
     let answers = [0, 1, 2, 3, 4, 5, 6, 14, 15, 16];
     let compare = agree("ids", cases::ids::run, "submit", &answers);
-    for call in ["descriptor_read", "image_find", "image_upgrade", "narrow"] {
+    let others = ["descriptor_read", "image_find", "image_upgrade", "request"];
+    for call in others.into_iter().chain(["narrow", "matching"]) {
         assert!(compare.count(call, 0) > 0, "{call} never answered 0");
     }
-    assert!(compare.count("request", 0) > 0);
 }
 
 #[test]
@@ -176,6 +183,7 @@ fn cases_for(slip: Slip) -> Cases {
         Slip::HighestMode | Slip::LevelsAlwaysOne => cases::narrowing::run,
         Slip::Lease(_) => cases::leases::run,
         Slip::Image(slip) => slip.map_or(cases::images::run, cases_for_images),
+        Slip::Id(_) => cases::ids::run,
     }
 }
 
@@ -202,9 +210,11 @@ fn cases_for_images(slip: ImageSlip) -> Cases {
 
 #[test]
 fn slips_are_noticed() {
-    let leases = LEASE_SLIPS.map(|slip| Slip::Lease(Some(slip)));
-    let images = IMAGE_SLIPS.map(|slip| Slip::Image(Some(slip)));
-    for slip in SLIPS.into_iter().chain(leases).chain(images) {
+    let leases = LEASE_SLIPS.iter().map(|&slip| Slip::Lease(Some(slip)));
+    let images = IMAGE_SLIPS.iter().map(|&slip| Slip::Image(Some(slip)));
+    let ids = ID_SLIPS.iter().map(|&slip| Slip::Id(Some(slip)));
+    let groups = leases.chain(images).chain(ids);
+    for slip in SLIPS.into_iter().chain(groups) {
         let wrong = Wrong(slip);
         let mut compare = Compare::new(&Library, &wrong);
         cases_for(slip)(&mut compare, &mut Random::new(setting("CAP_SEED", 1)), 50);
@@ -213,32 +223,54 @@ fn slips_are_noticed() {
     }
 }
 
-/// What the slips in the lease steps are slips of agrees with the ordinary implementation, so that each is noticed for itself.
-#[test]
-fn lease_steps_without_a_slip_agree() {
-    let right = Wrong(Slip::Lease(None));
+/// Asks that an implementation whose slip is none agrees with the ordinary one, so that each slip is noticed for itself.
+fn agree_without_a_slip(none: Slip, cases: &[Cases]) {
+    let right = Wrong(none);
     let mut compare = Compare::new(&Ordinary, &right);
-    for cases in [cases::leases::run, cases::requests::run] {
+    for cases in cases {
         cases(&mut compare, &mut Random::new(setting("CAP_SEED", 1)), 50);
     }
     assert_eq!(compare.differences(), 0, "{}", compare.notes());
 }
 
-/// What the slips with images are slips of agrees with the ordinary implementation.
+#[test]
+fn lease_steps_without_a_slip_agree() {
+    agree_without_a_slip(
+        Slip::Lease(None),
+        &[cases::leases::run, cases::requests::run],
+    );
+}
+
 #[test]
 fn calls_with_images_without_a_slip_agree() {
-    let right = Wrong(Slip::Image(None));
-    let mut compare = Compare::new(&Ordinary, &right);
-    for cases in [
-        cases::images::run,
-        cases::submissions::run,
-        cases::removals::run,
-        cases::capacity::run,
-        cases::upgrades::run,
-        cases::requests::run,
-        cases::moments::run,
-    ] {
-        cases(&mut compare, &mut Random::new(setting("CAP_SEED", 1)), 50);
-    }
-    assert_eq!(compare.differences(), 0, "{}", compare.notes());
+    agree_without_a_slip(
+        Slip::Image(None),
+        &[
+            cases::images::run,
+            cases::submissions::run,
+            cases::removals::run,
+            cases::capacity::run,
+            cases::upgrades::run,
+            cases::requests::run,
+            cases::moments::run,
+            cases::ids::run,
+        ],
+    );
+}
+
+#[test]
+fn calls_with_ids_without_a_slip_agree() {
+    agree_without_a_slip(
+        Slip::Id(None),
+        &[
+            cases::ids::run,
+            cases::submissions::run,
+            cases::removals::run,
+            cases::images::run,
+            cases::upgrades::run,
+            cases::requests::run,
+            cases::narrowing::run,
+            cases::paths::run,
+        ],
+    );
 }

@@ -4,119 +4,83 @@ use reference::Request;
 
 use super::gate::{Gate, Ordinary};
 use super::lease_row::{LAST_MOMENT, LENGTHS_END, MOST_ALLOWED};
+use super::slip_list::slips;
 
-/// A slip that an implementation of the lease steps might make.
-#[derive(Clone, Copy, Debug, PartialEq, Eq)]
-pub enum LeaseSlip {
-    /// The ttl is taken as milliseconds.
-    TtlUnscaled,
-    /// The grace is taken as milliseconds.
-    GraceUnscaled,
-    /// A lease is active up to last sync + ttl.
-    ActiveWithoutTolerance,
-    /// A lease is stale up to last sync + ttl + grace.
-    StaleWithoutTolerance,
-    /// The skew is taken for the tolerance, and the tolerance for the skew.
-    AllowancesExchanged,
-    /// Last sync - skew wraps below 0.
-    SkewWraps,
-    /// The first moment that is not too early is too early.
-    FutureAtItsBound,
-    /// The last active moment is stale.
-    ActiveOneShort,
-    /// The last stale moment is expired.
-    StaleOneShort,
-    /// Revoked is tested after future.
-    RevokedAfterFuture,
-    /// Revoked is tested after active.
-    RevokedAfterActive,
-    /// Active is tested before future.
-    ActiveBeforeFuture,
-    /// Stale is tested before future, and so before active.
-    StaleBeforeFuture,
-    /// The lease steps come before that of the signature.
-    BeforeSignature,
-    /// The lease steps are those of the first row, whichever id it has.
-    OfFirstRow,
-    /// An id without a row is refused as expired.
-    AbsentExpired,
-    /// A grant has no margin.
-    NoMarginOnGrant,
-    /// 24 has no margin.
-    NoMarginOnStale,
-    /// The margin of 24 has no sign.
-    MarginWithoutSign,
-    /// The margin leaves the tolerance out.
-    MarginWithoutTolerance,
-    /// 25 has a margin.
-    MarginOnExpired,
-    /// 24 has the grant's numbers.
-    GrantOnStale,
-    /// A part of a row at the table's end is left out.
-    PartOfRowPassed,
-    /// A flag above 1 is read as 1.
-    FlagNotChecked,
-    /// The seven bytes after the flag may be anything.
-    ZerosNotChecked,
-    /// Of the seven bytes after the flag only the first is looked at.
-    LaterZerosNotChecked,
-    /// Each number's limit is refused too.
-    LimitsRefused,
-    /// One more than each number's limit is allowed too.
-    LimitsPassed,
-    /// The form of a row is looked at where it has the id that is asked for.
-    FormOfAskedOnly,
-    /// Two rows with one id are refused where it is the one that is asked for.
-    DuplicatesOfAskedOnly,
-    /// Two rows with one id are refused where they stand side by side.
-    DuplicatesAdjacentOnly,
-    /// Of two rows with one id the first counts.
-    DuplicatesPassed,
-    /// The clock's bound is looked at where the table has a row.
-    ClockBoundOfRowsOnly,
-    /// The clock in seconds is rounded up.
-    ClockRoundedUp,
+slips! {
+    /// A slip that an implementation of the lease steps might make.
+    enum LeaseSlip, all in LEASE_SLIPS {
+        /// The ttl is taken as milliseconds.
+        TtlUnscaled,
+        /// The grace is taken as milliseconds.
+        GraceUnscaled,
+        /// A lease is active up to last sync + ttl.
+        ActiveWithoutTolerance,
+        /// A lease is stale up to last sync + ttl + grace.
+        StaleWithoutTolerance,
+        /// The skew is taken for the tolerance, and the tolerance for the skew.
+        AllowancesExchanged,
+        /// Last sync - skew wraps below 0.
+        SkewWraps,
+        /// The first moment that is not too early is too early.
+        FutureAtItsBound,
+        /// The last active moment is stale.
+        ActiveOneShort,
+        /// The last stale moment is expired.
+        StaleOneShort,
+        /// Revoked is tested after future.
+        RevokedAfterFuture,
+        /// Revoked is tested after active.
+        RevokedAfterActive,
+        /// Active is tested before future.
+        ActiveBeforeFuture,
+        /// Stale is tested before future, and so before active.
+        StaleBeforeFuture,
+        /// The lease steps come before that of the signature.
+        BeforeSignature,
+        /// The lease steps are those of the first row, whichever id it has.
+        OfFirstRow,
+        /// An id without a row is refused as expired.
+        AbsentExpired,
+        /// A grant has no margin.
+        NoMarginOnGrant,
+        /// 24 has no margin.
+        NoMarginOnStale,
+        /// The margin of 24 has no sign.
+        MarginWithoutSign,
+        /// The margin leaves the tolerance out.
+        MarginWithoutTolerance,
+        /// 25 has a margin.
+        MarginOnExpired,
+        /// 24 has the grant's numbers.
+        GrantOnStale,
+        /// A part of a row at the table's end is left out.
+        PartOfRowPassed,
+        /// A flag above 1 is read as 1.
+        FlagNotChecked,
+        /// The seven bytes after the flag may be anything.
+        ZerosNotChecked,
+        /// Of the seven bytes after the flag only the first is looked at.
+        LaterZerosNotChecked,
+        /// Each number's limit is refused too.
+        LimitsRefused,
+        /// One more than each number's limit is allowed too.
+        LimitsPassed,
+        /// The form of a row is looked at where it has the id that is asked for.
+        FormOfAskedOnly,
+        /// Two rows with one id are refused where it is the one that is asked for.
+        DuplicatesOfAskedOnly,
+        /// Two rows with one id are refused where they stand side by side.
+        DuplicatesAdjacentOnly,
+        /// Of two rows with one id the first counts.
+        DuplicatesPassed,
+        /// The clock's bound is looked at where the table has a row.
+        ClockBoundOfRowsOnly,
+        /// The clock in seconds is rounded up.
+        ClockRoundedUp,
+    }
 }
 
 use LeaseSlip::*;
-
-/// All slips.
-pub const LEASE_SLIPS: [LeaseSlip; 34] = [
-    TtlUnscaled,
-    GraceUnscaled,
-    ActiveWithoutTolerance,
-    StaleWithoutTolerance,
-    AllowancesExchanged,
-    SkewWraps,
-    FutureAtItsBound,
-    ActiveOneShort,
-    StaleOneShort,
-    RevokedAfterFuture,
-    RevokedAfterActive,
-    ActiveBeforeFuture,
-    StaleBeforeFuture,
-    BeforeSignature,
-    OfFirstRow,
-    AbsentExpired,
-    NoMarginOnGrant,
-    NoMarginOnStale,
-    MarginWithoutSign,
-    MarginWithoutTolerance,
-    MarginOnExpired,
-    GrantOnStale,
-    PartOfRowPassed,
-    FlagNotChecked,
-    ZerosNotChecked,
-    LaterZerosNotChecked,
-    LimitsRefused,
-    LimitsPassed,
-    FormOfAskedOnly,
-    DuplicatesOfAskedOnly,
-    DuplicatesAdjacentOnly,
-    DuplicatesPassed,
-    ClockBoundOfRowsOnly,
-    ClockRoundedUp,
-];
 
 /// The numbers of a decision by an implementation with a slip; without one it is as the ordinary one. The image changes where the
 /// request is granted.

@@ -8,9 +8,10 @@ use reference::{Request, Submission};
 
 use super::encoder::NEW_ROW;
 use super::gate::{Gate, Ordinary};
+use super::id_slips::IdSlip;
 use super::image_slips::ImageSlip;
 use super::lease_slips::{self, LeaseSlip};
-use super::wrong_image;
+use super::{wrong_ids, wrong_image};
 
 /// A slip that an implementation might make.
 #[derive(Clone, Copy, Debug, PartialEq, Eq)]
@@ -50,9 +51,11 @@ pub enum Slip {
     Lease(Option<LeaseSlip>),
     /// A slip with images, or none.
     Image(Option<ImageSlip>),
+    /// A slip with ids, or none.
+    Id(Option<IdSlip>),
 }
 
-/// All slips but those in the lease steps and those with images.
+/// All slips but those in the lease steps, those with images and those with ids.
 pub const SLIPS: [Slip; 31] = [
     Slip::EmptyStringAtZero,
     Slip::LongerHeadRead,
@@ -103,6 +106,9 @@ impl Gate for Wrong {
     }
 
     fn descriptor_read(&self, bytes: &[u8]) -> Vec<u64> {
+        if let Slip::Id(slip) = self.0 {
+            return wrong_ids::descriptor_read(slip, bytes);
+        }
         let read = Ordinary.descriptor_read(bytes);
         if self.0 == Slip::PeriodOneShort && read[5] - read[4] == 7_776_000 {
             let mut refused = vec![0; read.len()];
@@ -118,11 +124,15 @@ impl Gate for Wrong {
             Slip::LastGrantRepeated if grants > 0 => {
                 Ordinary.grant_at(bytes, index.min(grants - 1))
             }
+            Slip::Id(slip) => wrong_ids::grant_at(slip, bytes, index),
             _ => Ordinary.grant_at(bytes, index),
         }
     }
 
     fn matching(&self, pattern: &[u8], resource: &[u8]) -> Vec<u64> {
+        if let Slip::Id(slip) = self.0 {
+            return wrong_ids::matching(slip, pattern, resource);
+        }
         let mut answer = Ordinary.matching(pattern, resource);
         match (self.0, answer[0], answer[1]) {
             (Slip::MatchingByPrefix, 0, 0) if resource.starts_with(pattern) => answer[1] = 1,
@@ -146,15 +156,18 @@ impl Gate for Wrong {
     }
 
     fn image_upgrade(&self, old: &[u8], image: &mut [u8]) -> Vec<u64> {
-        if let Slip::Image(slip) = self.0 {
-            return wrong_image::image_upgrade(slip, old, image);
+        match self.0 {
+            Slip::Image(slip) => wrong_image::image_upgrade(slip, old, image),
+            Slip::Id(slip) => wrong_ids::image_upgrade(slip, old, image),
+            _ => Ordinary.image_upgrade(old, image),
         }
-        Ordinary.image_upgrade(old, image)
     }
 
     fn image_find(&self, image: &[u8], id: &[u8]) -> Vec<u64> {
-        if let Slip::Image(slip) = self.0 {
-            return wrong_image::image_find(slip, image, id);
+        match self.0 {
+            Slip::Image(slip) => return wrong_image::image_find(slip, image, id),
+            Slip::Id(slip) => return wrong_ids::image_find(slip, image, id),
+            _ => {}
         }
         let mut image = image.to_vec();
         if self.0 == Slip::EditionNotRead && image.len() > 1 && !image.starts_with(&[0, 1]) {
@@ -164,8 +177,10 @@ impl Gate for Wrong {
     }
 
     fn submit(&self, image: &mut [u8], descriptor: &[u8], with: &Submission) -> Vec<u64> {
-        if let Slip::Image(slip) = self.0 {
-            return wrong_image::submit(slip, image, descriptor, with);
+        match self.0 {
+            Slip::Image(slip) => return wrong_image::submit(slip, image, descriptor, with),
+            Slip::Id(slip) => return wrong_ids::submit(slip, image, descriptor, with),
+            _ => {}
         }
         let not_before = reference::descriptor_read(descriptor).not_before;
         let mut with = *with;
@@ -189,6 +204,7 @@ impl Gate for Wrong {
         match self.0 {
             Slip::Lease(slip) => return lease_slips::request(slip, image, with),
             Slip::Image(slip) => return wrong_image::request(slip, image, with),
+            Slip::Id(slip) => return wrong_ids::request(slip, image, with),
             _ => {}
         }
         let mut with = *with;
@@ -220,6 +236,9 @@ impl Gate for Wrong {
     }
 
     fn narrow(&self, parent: &[u8], child: &[u8]) -> Vec<u64> {
+        if let Slip::Id(slip) = self.0 {
+            return wrong_ids::narrow(slip, parent, child);
+        }
         let mut narrowing = Ordinary.narrow(parent, child);
         if narrowing[0] == 20 && self.0 == Slip::HighestMode {
             let mask = reference::grant_at(child, narrowing[1]).mask;
@@ -260,8 +279,7 @@ struct Matched {
 
 /// The grants of a stored descriptor that match.
 fn matched(image: &[u8], with: &Request) -> Vec<Matched> {
-    let stored = reference::image_find(image, with.id);
-    let body = part(image, stored.body_at, stored.body_len);
+    let body = wrong_image::body_of(image, with.id);
     let grants = 0..reference::descriptor_read(body).grants;
     let matched = grants.filter_map(|place| {
         let grant = reference::grant_at(body, place);

@@ -150,6 +150,25 @@ pub fn request(slip: Option<ImageSlip>, image: &mut [u8], with: &Request) -> Vec
     decision
 }
 
+/// The edition and the rows of a sound image.
+pub fn edition_and_rows(image: &[u8]) -> Option<(u16, Vec<Row>)> {
+    let held = With(None).held(image)?;
+    Some((held.edition, held.rows))
+}
+
+/// The body that an image holds under an id, or no bytes.
+pub fn body_of<'a>(image: &'a [u8], id: &[u8]) -> &'a [u8] {
+    let stored = reference::image_find(image, id);
+    cap::part(image, stored.body_at, stored.body_len)
+}
+
+/// The steps after those of the descriptor, on a sound image: 0, 5 or 6.
+pub fn store(image: &mut [u8], descriptor: &[u8], now: u64) -> u64 {
+    let with = With(None);
+    let held = with.held(image).expect("a sound image");
+    with.store(image, held, with.new_row(descriptor, now), now)
+}
+
 impl With {
     fn is(self, slip: ImageSlip) -> bool {
         self.0 == Some(slip)

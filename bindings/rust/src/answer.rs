@@ -9,7 +9,8 @@ use std::fmt;
 pub enum Answer {
     /// Done, granted, accepted.
     Done = 0,
-    /// Not the deterministic encoding of an allowed item or descriptor.
+    /// Not the deterministic encoding of an allowed item or descriptor. On submission also: an id is no UUID of version 7 with the
+    /// variant of RFC 9562, or the text of one has an upper-case digit.
     InvalidStructure = 1,
     /// Valid for over 90 days, or beginning over a day ahead.
     ValidityOutOfRange = 2,

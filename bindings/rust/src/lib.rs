@@ -158,7 +158,9 @@ pub fn image_upgrade(old: &[u8], image: &mut [u8]) -> Result<u64, Answer> {
     done(written.answer).map(|()| written.len)
 }
 
-/// Submits a descriptor to the image, which must be of edition 2 and then holds it, last used now. Where it doesn't fit, rows that
+/// Submits a descriptor to the image, which must be of edition 2 and then holds it, last used now. Its descriptor id and the UUIDs of
+/// its fay id and its terminal id must be of version 7, and the two texts in lower-case digits; bodies of other ids that the image
+/// holds stay there, and are answered with [`Answer::InvalidStructure`] when they are submitted again. Where it doesn't fit, rows that
 /// are expired now are removed, least recently used first, only until it does.
 pub fn submit(image: &mut [u8], descriptor: &[u8], now: Seconds, key: &Key) -> Result<(), Answer> {
     done(numbers::submit(

@@ -270,10 +270,12 @@ pub fn image_upgrade(old: &[u8], image: &mut [u8]) -> Written {
     unsafe { cap_image_upgrade(old.as_ptr(), old.len(), image.as_mut_ptr(), image.len()) }
 }
 
-/// Submits a descriptor to the image, which must be of edition 2: 0, or the number of the first step that fails. Storing sets the
-/// row's last-used moment to now. Where 1,024 rows are held or the larger image exceeds the buffer, rows that are expired now
-/// (now >= not_after) are removed, least recently used first, the earlier row on a tie, only until it fits. Where it wouldn't fit
-/// without all of them, the answer is 6 and nothing is removed.
+/// Submits a descriptor to the image, which must be of edition 2: 0, or the number of the first step that fails. The ids are looked
+/// at with structure, before the period: 1 unless the descriptor id and the UUIDs of the fay id and the terminal id are of version 7
+/// with the variant of RFC 9562, and the two texts are in lower-case digits. Storing sets the row's last-used moment to now. Where
+/// 1,024 rows are held or the larger image exceeds the buffer, rows that are expired now (now >= not_after) are removed, least
+/// recently used first, the earlier row on a tie, only until it fits. Where it wouldn't fit without all of them, the answer is 6 and
+/// nothing is removed.
 pub fn submit(
     image: &mut [u8],
     descriptor: &[u8],

@@ -196,6 +196,30 @@ fn a_body_is_stored_found_and_asked_for() {
 }
 
 #[test]
+fn ids_of_another_version_are_kept_and_not_submitted() {
+    let model = Model::plain().of_version(4, 1);
+    let id = model.id.clone().try_into().expect("16 bytes");
+    let held = image(&[Row::of(&model)]);
+    let mut bytes = [&held[..], &[0; 1000]].concat();
+    for issuer in ["uni", "other"] {
+        let body = Model {
+            issuer: issuer.into(),
+            ..model.clone()
+        }
+        .bytes();
+        assert_eq!(
+            cap::submit(&mut bytes, &body, Seconds(2000), &GOOD),
+            Err(Answer::InvalidStructure)
+        );
+    }
+    assert!(bytes.starts_with(&held));
+    assert_eq!(cap::image_find(&bytes, &id), Ok(&model.bytes()[..]));
+    let resource = format!("{TERMINAL}/a/b");
+    assert!(cap::request(&mut bytes, &asked(&id, &resource)).is_ok());
+    assert!(cap::descriptor_read(&model.bytes()).is_ok());
+}
+
+#[test]
 fn a_grant_raises_the_moment_of_the_row() {
     let model = Model::plain();
     let id = model.id.clone().try_into().expect("16 bytes");

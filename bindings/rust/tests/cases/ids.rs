@@ -12,7 +12,7 @@ use crate::compare::Compare;
 use crate::encoder::{image, image_of, Model, Row};
 use crate::random::Random;
 use crate::uuid::{
-    any_uuid, any_version_7, put_any, text_of, uuid_of, with_variant, with_version, Id, Uuid, IDS,
+    any_uuid, any_version_7, put_any, text_of, uuid_of, with_variant, with_version, Id, IDS,
 };
 
 /// UUIDs of version 7: the example of RFC 9562, one of letters, and those with few bits, with many, and with the digits of the version
@@ -159,28 +159,45 @@ fn bytes(compare: &mut Compare, fine: &Submitted) {
     }
 }
 
+/// A change of a submission.
+type Change = fn(&mut Submitted);
+
+/// The period is too long.
+const TOO_LONG: Change = |s| s.model.not_after = s.model.not_before + 7_776_001;
+/// The period begins too far ahead.
+const TOO_FAR_AHEAD: Change = |s| s.with.now = s.model.not_before - DAY - 1;
+/// The signature is bad.
+const BAD_SIGNATURE: Change = |s| s.with.verdict = 1;
+/// Other bytes are held under the id.
+const ID_HELD: Change = |s| s.image = with_room(image(&[Row::of(&other_bytes(&s.model))]));
+
 /// Changes by which another step refuses or just doesn't, or the bytes or the id are held.
-const STEPS: [fn(&mut Submitted); 19] = [
+const STEPS: [Change; 19] = [
     |_| {},
     |s| s.with.verdict = 3,
     |s| s.image.truncate(7),
     |s| set(&mut s.image, 1, 3),
-    |s| s.image = image_of(1, &[Row::of(&s.model)]),
+    |s| s.image = with_room(image_of(1, &[Row::of(&s.model)])),
     |s| s.model.issuer.clear(),
-    |s| s.model.not_after = s.model.not_before + 7_776_001,
+    TOO_LONG,
     |s| s.model.not_after = s.model.not_before + 7_776_000,
-    |s| s.with.now = s.model.not_before - DAY - 1,
+    TOO_FAR_AHEAD,
     |s| s.with.now = s.model.not_before - DAY,
     |s| s.with.verdict = 2,
     |s| s.with.valid_from = s.with.now + 1,
     |s| (s.with.has_valid_until, s.with.valid_until) = (1, s.with.now - 1),
-    |s| s.with.verdict = 1,
-    |s| s.image = [image(&[Row::of(&s.model)]), vec![0xaa; 1000]].concat(),
+    BAD_SIGNATURE,
+    |s| s.image = with_room(image(&[Row::of(&s.model)])),
     |s| s.image = image(&[Row::of(&s.model)]),
-    |s| s.image = [image(&[Row::of(&other_bytes(&s.model))]), vec![0xaa; 1000]].concat(),
+    ID_HELD,
     |s| s.image = image(&[Row::of(&other_bytes(&s.model))]),
     |s| s.image = image(&[Row::of(&s.model.clone().numbered(51))]),
 ];
+
+/// The bytes and room for a body more.
+fn with_room(bytes: Vec<u8>) -> Vec<u8> {
+    [bytes, vec![0xaa; 1000]].concat()
+}
 
 /// The same descriptor with another issuer.
 fn other_bytes(model: &Model) -> Model {
@@ -195,7 +212,7 @@ fn beside_other_steps(compare: &mut Compare, fine: &Submitted) {
     for text in NOT_TAKEN.into_iter().chain([LETTERS]) {
         for id in IDS {
             for first in STEPS {
-                for second in [STEPS[0], STEPS[6], STEPS[8], STEPS[13], STEPS[16]] {
+                for second in [first, TOO_LONG, TOO_FAR_AHEAD, BAD_SIGNATURE, ID_HELD] {
                     let mut submitted = fine.clone();
                     id.put(&mut submitted.model, text);
                     first(&mut submitted);
@@ -207,9 +224,9 @@ fn beside_other_steps(compare: &mut Compare, fine: &Submitted) {
     }
 }
 
-/// Descriptors with each UUID that isn't taken, for each id; those with a descriptor id of version 7 have one of their own.
+/// A descriptor for each id and each UUID that isn't taken, each with a descriptor id of its own.
 fn not_taken_models() -> Vec<Model> {
-    let texts = NOT_TAKEN.into_iter().zip(100..);
+    let numbered = NOT_TAKEN.into_iter().zip(100..);
     let with_each = |(text, number)| {
         IDS.map(|id| {
             let mut model = Model::plain().numbered(number + 100 * id as u64);
@@ -217,11 +234,11 @@ fn not_taken_models() -> Vec<Model> {
             model
         })
     };
-    texts.flat_map(with_each).collect()
+    numbered.flat_map(with_each).collect()
 }
 
-/// An image of many bodies that aren't taken: each of them submitted again, with other bytes and with other periods; looked up, asked
-/// for, upgraded, and removed when it is expired.
+/// An image of bodies that aren't taken: each is submitted again, with the same period and with others, looked up and asked for; they
+/// are upgraded, and removed where they are expired.
 fn held(compare: &mut Compare) {
     let models = not_taken_models();
     let rows: Vec<Row> = models.iter().map(Row::of).collect();
@@ -266,40 +283,37 @@ fn any_call(compare: &mut Compare, model: &Model) {
         }
         compare.image_upgrade(&bytes, &mut vec![0; bytes.len() + 512]);
         let new = Model::plain().numbered(2).bytes();
-        let with_room = [&bytes[..], &[0; 600]].concat();
-        compare.submit(&mut with_room.clone(), &new, &at(2000));
-        compare.submit(&mut with_room.clone(), &body, &at(2000));
+        for submitted in [&new, &body] {
+            compare.submit(&mut with_room(bytes.clone()), submitted, &at(2000));
+        }
     }
     let resource = format!("{}/a/b", model.terminal);
     let pattern = &model.grants[0].pattern;
     compare.matching(pattern.as_bytes(), resource.as_bytes());
 }
 
-/// A UUID text that is taken, or one that is nearly.
+/// A UUID text that is taken, or nearly.
 fn any_text(random: &mut Random) -> String {
-    let uuid: Uuid = any_version_7(random);
+    let uuid = any_version_7(random);
+    let text = text_of(uuid);
     match random.below(16) {
         0 => text_of(any_uuid(random)),
         1 => text_of(with_version(uuid, random.below(16) as u8)),
         2 => text_of(with_variant(uuid, random.below(4) as u8)),
-        3 => text_of(uuid).to_uppercase(),
-        4 => {
-            let text = text_of(uuid);
-            let place = random.below(text.len());
-            with_part_of(&text, place, &text.to_uppercase())
-        }
-        _ => text_of(uuid),
+        3 => text.to_uppercase(),
+        4 => with_part_of(&text, random.below(text.len()), &text.to_uppercase()),
+        _ => text,
     }
 }
 
-/// A descriptor with random ids, of which most are taken.
-fn any_model(random: &mut Random) -> Model {
-    let mut model = Model::plain();
+/// The same descriptor with random ids, of which most are taken.
+fn with_any_ids(mut model: Model, random: &mut Random) -> Model {
     if random.once_in(8) {
         put_any(&mut model, random);
-    } else {
-        IDS.iter()
-            .for_each(|id| id.put(&mut model, &any_text(random)));
+        return model;
+    }
+    for id in IDS {
+        id.put(&mut model, &any_text(random));
     }
     model
 }
@@ -307,20 +321,21 @@ fn any_model(random: &mut Random) -> Model {
 /// A descriptor with random ids, submitted, and in each other call.
 fn random_ids(compare: &mut Compare, fine: &Submitted, random: &mut Random) {
     let mut submitted = fine.clone();
-    submitted.model = any_model(random);
-    submitted.with = at(2000);
+    submitted.model = with_any_ids(submitted.model, random);
     for _ in 0..random.below(3) {
         random.pick(&STEPS)(&mut submitted);
     }
     submitted.run(compare);
     if random.once_in(4) {
-        any_call(compare, &any_model(random));
+        any_call(compare, &with_any_ids(Model::plain(), random));
     }
 }
 
 /// Submissions, requests and lookups on one buffer, which begins with an image of any ids, sometimes an upgraded one.
 fn sequence(compare: &mut Compare, random: &mut Random) {
-    let models: Vec<Model> = (0..10).map(|_| any_model(random)).collect();
+    let models: Vec<Model> = (0..10)
+        .map(|_| with_any_ids(Model::plain(), random))
+        .collect();
     let first: Vec<Row> = models[..random.below(4)].iter().map(Row::of).collect();
     let length = random.between(1500, 5000);
     let mut bytes = random.bytes(length);
@@ -335,12 +350,12 @@ fn sequence(compare: &mut Compare, random: &mut Random) {
         let mut model = random.pick(&models).clone();
         match random.below(8) {
             0 => model.issuer.push('i'),
-            1 => model.not_after = 2000 + 7_776_001,
+            1 => model.not_after = model.not_before + 7_776_001,
             2 => (model.not_before, model.not_after) = (now + DAY + 1, now + DAY + 2),
             _ => {}
         }
         let with = Submission {
-            verdict: random.below(20) as u64 / 17,
+            verdict: u64::from(random.once_in(8)),
             ..at(now)
         };
         compare.submit(&mut bytes, &model.bytes(), &with);

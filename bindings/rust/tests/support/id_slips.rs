@@ -31,7 +31,7 @@ slips! {
         VariantOfOctet9,
         /// The variant is read from the lower half of octet 8.
         VariantOfLowerHalf,
-        /// Variants are exchanged: 1 is taken, 2 isn't.
+        /// The two bits of the variant are exchanged.
         VariantReversed,
 
         /// Upper-case digits are taken.

@@ -183,6 +183,7 @@ fn is_closed(with: &Submission) -> bool {
 }
 
 impl With {
+    /// Whether the slip is this one.
     fn is(self, slip: IdSlip) -> bool {
         self.0 == Some(slip)
     }

@@ -19,7 +19,7 @@ use Rattle.entries_spec.specs.Value.{countAt, stringAt, kindAt, oneOf, orAbsent
 use Rattle.entries_spec.specs.Reader.{pairAt, pairsAt, optPairsAt, algorithmAt, signatureAt}
 use Rattle.descriptor_spec.specs.Model.{modeNames, encMode, encModes, encGrant, encGrants, encodePayload, encode}
 use Rattle.descriptor_spec.specs.Reader.{hasMode, modeAt, modesAt, grantAt, moreAt, grantsAt, issueAt, grantorAt, idsAt, payloadFits}
-use Rattle.descriptor_spec.specs.Reader.{payloadAt, beforePayload, beforeKeyId, descriptorAt, readOf}
+use Rattle.descriptor_spec.specs.Reader.{payloadAt, beforePayload, beforeKeyId, descriptorAt, formedIn, readOf}
 use Rattle.octets.specs.Order.{before}
 use Rattle.cbor_item_spec.proofs.Promises.{marked-items}
 use Rattle.resource_spec.proofs.Promises.{marked-matching}
@@ -34,7 +34,7 @@ unfolding bigEndian head encMode encModes encGrant encGrants encodePayload encAl
     kIssuedAt kIssuerId kNotAfter kGrantorId kNotBefore kTerminalId kDescriptorId kSubjectFayId kKeyId kAlgorithm kSignatureValue kModes
     kConstraints kResourcePattern algorithms modeNames ed25519 ecdsaP256Sha256 mRead mWrite mExecute mConfigure before countAt stringAt
     kindAt isKind oneOf orAbsent optKindAt pairAt pairsAt optPairsAt algorithmAt hasMode modeAt modesAt grantAt moreAt grantsAt issueAt
-    grantorAt idsAt payloadFits payloadAt signatureAt beforePayload beforeKeyId descriptorAt readOf levelsOf patternOf fewestNames
+    grantorAt idsAt payloadFits payloadAt signatureAt beforePayload beforeKeyId descriptorAt formedIn readOf levelsOf patternOf fewestNames
     lowestMode firstRule rulesAt compared narrow
 marked-narrowing = (refl, refl, refl, refl, refl, refl, refl)
 

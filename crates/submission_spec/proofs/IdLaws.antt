@@ -13,7 +13,7 @@ use Rattle.octets.specs.Bytes.{AreBytes, part}
 use Rattle.octets.proofs.Tests.{by-cond, and-left, and-right, and-both, no-flag}
 use Rattle.octets.proofs.PartLaws.{part-later, part-bytes}
 use Rattle.resource_spec.specs.Characters.{codes}
-use Rattle.resource_spec.specs.Identifier.{Slot, char, hasForm, uuidForm, fayForm, terminalForm, isFay, isTerminal}
+use Rattle.resource_spec.specs.Identifier.{Slot, char, hasForm, uuidForm, fayForm, terminalForm, faySize, terminalSize, isFay, isTerminal}
 use Rattle.resource_spec.specs.Promises.{form}
 use Rattle.uuid_spec.specs.Uuid.{IsVersion7, text}
 use Rattle.uuid_spec.specs.Version7.{isVersion7, isVersion7Text}
@@ -31,7 +31,7 @@ use Rattle.descriptor_spec.specs.Code.{fieldsOf, formOf, withinPeriod, readingI
 use Rattle.descriptor_spec.specs.Numbers.{numberOf}
 use Rattle.descriptor_spec.proofs.Laws.{formed-exactly, read-by-period, seen-handed}
 use Rattle.image_spec.specs.Image.{reading, isRead}
-use Rattle.submission_spec.specs.Submission.{idsIn, enteringBy, entering}
+use Rattle.submission_spec.specs.Submission.{fayText, terminalText, idsIn, enteringBy, entering}
 use Rattle.submission_spec.specs.Promises.{Version7After, AreVersion7, version7Ids, IdsExactly}
 
 -- ---- a prefix and a UUID text
@@ -92,8 +92,8 @@ module _ (c : Descriptor) (q : Formed c) where
       let v = descriptorView 0 c .payload in
       ap₂ (λ (x y : Bool). x && y) (ap isVersion7 (h .id))
       (ap₂ (λ (x y : Bool). x && y)
-      (ap isVersion7Text (part-later (encode c) (v .fay) 40 4 ∙ ap (drop 4) (h .fay)))
-      (ap isVersion7Text (part-later (encode c) (v .terminal) 45 9 ∙ ap (drop 9) (h .terminal))))
+      (ap isVersion7Text (part-later (encode c) (v .fay) faySize fayText ∙ ap (drop fayText) (h .fay)))
+      (ap isVersion7Text (part-later (encode c) (v .terminal) terminalSize terminalText ∙ ap (drop terminalText) (h .terminal))))
 
 -- `IdsExactly`
 pub ids-exactly : IdsExactly

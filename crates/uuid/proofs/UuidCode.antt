@@ -8,8 +8,7 @@ use lib.ListN.{length, drop, getD, drop-of-length-le}
 use lib.Seq.{drop-cons}
 use lib.Dec.{eqb}
 use borrow.Author.Tests.{ne-eqb, eq-eqb}
-use Rattle.resource_spec.specs.Identifier.{between}
-use Rattle.uuid_spec.specs.Version7.{isVersion7, noUpper, isVariantDigit, isVersion7Text}
+use Rattle.uuid_spec.specs.Version7.{isVersion7, isUpper, noUpper, isVariantDigit, isVersion7Text}
 
 -- ---- no letter of A-Z
 
@@ -28,12 +27,12 @@ and-true true = refl
 and-true false = refl
 
 -- one character more
-pub left-next : (t : List ℕ) (ok : Bool) (i : ℕ) → i < length t → Left t ok i → Left t (ok && not (between 65 90 (getD t i 0))) (i + 1)
+pub left-next : (t : List ℕ) (ok : Bool) (i : ℕ) → i < length t → Left t ok i → Left t (ok && not (isUpper (getD t i 0))) (i + 1)
 unfolding noUpper
 left-next t ok i h e =
     let next : drop i t ≡ getD t i 0 ∷ drop (i + 1) t = drop-cons t i 0 h ∙ ap (λ (j : ℕ). getD t i 0 ∷ drop j t) (sym (add-one i)) in
     e ∙ ap (λ (u : List ℕ). ok && noUpper u) next
-    ∙ and-assoc ok (not (between 65 90 (getD t i 0))) (noUpper (drop (i + 1) t))
+    ∙ and-assoc ok (not (isUpper (getD t i 0))) (noUpper (drop (i + 1) t))
 
 -- none is left
 pub left-end : (t : List ℕ) (ok : Bool) (i : ℕ) → length t ≤ i → Left t ok i → ok ≡ noUpper t

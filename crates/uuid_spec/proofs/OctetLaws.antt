@@ -1,5 +1,6 @@
 -- The version and the variant are in octets 6 and 8, and the layout of version 7 (specs/Uuid.antt, specs/Version7.antt). Assumes nothing.
 use mathlib.Core.Path.{_≡_, sym, ap, ap₂, _∙_, subst}
+use mathlib.Core.Bool.{Bool, true, _&&_}
 use mathlib.Core.List.{List}
 use Prim.Native.Nat.{ℕ, _+_, _*_, _/_, _%_, _^_, _<_}
 use native.Mathlib.Nat.{div-div-eq-div-mul, div-add-mod', mod-lt}
@@ -12,45 +13,50 @@ use Rattle.octets.specs.Number.{numberAt}
 use Rattle.octets.proofs.Tests.{and-left, and-right, and-both}
 use Rattle.octets.proofs.NumberLaws.{number-high, number-lt}
 use Rattle.uuid_spec.specs.Uuid.{version, variant, IsVersion7}
-use Rattle.uuid_spec.specs.Version7.{isVersion7}
+use Rattle.uuid_spec.specs.Version7.{versionOctet, variantOctet, isVersion7}
 use Rattle.uuid_spec.specs.Promises.{OctetsExactly, Layout, LaidOut, LayoutExactly}
 
 -- ---- which octets have the two fields
 
 module _ (b : List ℕ) (bytes : AreBytes b) where
-  -- the version is the high half of octet 6
-  pub version-octet : version b ≡ getD b 6 0 / 16
+  -- the version is the high half of its octet
+  pub version-octet : version b ≡ getD b versionOctet 0 / 16
   unfolding numberAt
   version-octet =
       let n : ℕ = numberAt b 0 16 in
       let high : n / 2 ^ 76 ≡ numberAt b 0 7 / 16 = sym (div-div-eq-div-mul n (256 ^ 9) 16) ∙ ap (λ (x : ℕ). x / 16) (number-high b 0 7 9 bytes) in
-      ap (λ (x : ℕ). x % 16) high ∙ omega (arith, bytes 6)
+      ap (λ (x : ℕ). x % 16) high ∙ omega (arith, bytes versionOctet)
 
-  -- the variant is the two high bits of octet 8
-  pub variant-octet : variant b ≡ getD b 8 0 / 64
+  -- the variant is the two high bits of its octet
+  pub variant-octet : variant b ≡ getD b variantOctet 0 / 64
   unfolding numberAt
   variant-octet =
       let n : ℕ = numberAt b 0 16 in
       let high : n / 2 ^ 62 ≡ numberAt b 0 9 / 64 = sym (div-div-eq-div-mul n (256 ^ 7) 64) ∙ ap (λ (x : ℕ). x / 64) (number-high b 0 9 7 bytes) in
-      ap (λ (x : ℕ). x % 4) high ∙ omega (arith, bytes 8)
+      ap (λ (x : ℕ). x % 4) high ∙ omega (arith, bytes variantOctet)
+
+-- what is answered is whether there are 16 octets, of version 7 and that variant
+octets-answer : (b : List ℕ) → AreBytes b → (eqb (length b) 16 && (eqb (version b) 7 && eqb (variant b) 2)) ≡ isVersion7 b
+unfolding isVersion7
+octets-answer b bytes = ap₂ (λ (m n : ℕ). eqb (length b) 16 && (eqb m 7 && eqb n 2)) (version-octet b bytes) (variant-octet b bytes)
 
 -- `OctetsExactly`
 pub octets-exactly : OctetsExactly
-unfolding isVersion7
-octets-exactly b bytes = (
-  λ e.
-      let long = and-left (eqb (length b) 16) _ e in
-      let both = and-right (eqb (length b) 16) _ e in
-      record {
-        octets = bytes;
-        size = eqb-true (length b) 16 long;
-        version = version-octet b bytes ∙ eqb-true (getD b 6 0 / 16) 7 (and-left (eqb (getD b 6 0 / 16) 7) _ both);
-        variant = variant-octet b bytes ∙ eqb-true (getD b 8 0 / 64) 2 (and-right (eqb (getD b 6 0 / 16) 7) _ both);
-      },
-  λ v. and-both (eqb (length b) 16) _ (eq-eqb (length b) 16 (v .size))
-      (and-both (eqb (getD b 6 0 / 16) 7) (eqb (getD b 8 0 / 64) 2) (eq-eqb (getD b 6 0 / 16) 7 (sym (version-octet b bytes) ∙ v .version))
-      (eq-eqb (getD b 8 0 / 64) 2 (sym (variant-octet b bytes) ∙ v .variant))),
-)
+octets-exactly b bytes =
+    let l : Bool = eqb (length b) 16 in
+    let m : Bool = eqb (version b) 7 in
+    let n : Bool = eqb (variant b) 2 in (
+      λ a.
+          let e : (l && (m && n)) ≡ true = octets-answer b bytes ∙ a in
+          record {
+            octets = bytes;
+            size = eqb-true (length b) 16 (and-left l (m && n) e);
+            version = eqb-true (version b) 7 (and-left m n (and-right l (m && n) e));
+            variant = eqb-true (variant b) 2 (and-right m n (and-right l (m && n) e));
+          },
+      λ v. sym (octets-answer b bytes) ∙ and-both l (m && n) (eq-eqb (length b) 16 (v .size))
+          (and-both m n (eq-eqb (version b) 7 (v .version)) (eq-eqb (variant b) 2 (v .variant))),
+    )
 
 -- ---- the layout
 

@@ -9,9 +9,8 @@ use lib.Dec.{eqb}
 use borrow.Author.Tests.{not-true, eqb-true, eq-eqb}
 use Rattle.octets.specs.Bytes.{AreBytes}
 use Rattle.octets.proofs.Tests.{by-cond, and-left, and-right, and-both}
-use Rattle.resource_spec.specs.Identifier.{between}
 use Rattle.uuid_spec.specs.Uuid.{IsVersion7, digit, text, lower, lowered, Spells}
-use Rattle.uuid_spec.specs.Version7.{isVersion7, noUpper, isVariantDigit, isVersion7Text}
+use Rattle.uuid_spec.specs.Version7.{versionOctet, variantOctet, isVersion7, versionPlace, variantPlace, isUpper, noUpper, isVariantDigit, isVersion7Text}
 use Rattle.uuid_spec.specs.Promises.{TextExactly, TextOfVersion7}
 use Rattle.uuid_spec.proofs.DigitLaws.{digit-seven, digit-variant}
 use Rattle.uuid_spec.proofs.OctetLaws.{octets-exactly}
@@ -19,19 +18,23 @@ use Rattle.uuid_spec.proofs.SpellLaws.{texts-spell, text-spells}
 
 -- ---- lower case
 
--- a text without a letter of A-Z is itself in lower case
+-- a character that is no letter of A-Z is itself in lower case
+none-lower : (c : ℕ) → isUpper c ≡ false → lower c ≡ c
+none-lower c e = rw e
+
+-- and so is a text without one
 none-lowered : (t : List ℕ) → noUpper t ≡ true → lowered t ≡ t
 unfolding noUpper
 none-lowered [] e = refl
 none-lowered (c ∷ t) e =
-    let low : between 65 90 c ≡ false = not-true (between 65 90 c) (and-left (not (between 65 90 c)) _ e) in
-    ap₂ (λ (x : ℕ) (u : List ℕ). x ∷ u) (rw low) (none-lowered t (and-right (not (between 65 90 c)) _ e))
+    ap₂ (λ (x : ℕ) (u : List ℕ). x ∷ u) (none-lower c (not-true (isUpper c) (and-left (not (isUpper c)) _ e)))
+    (none-lowered t (and-right (not (isUpper c)) _ e))
 
 -- a character that is itself in lower case is no letter of A-Z
-lower-none : (c : ℕ) → lower c ≡ c → not (between 65 90 c) ≡ true
-lower-none c e = go (between 65 90 c) refl
+lower-none : (c : ℕ) → lower c ≡ c → not (isUpper c) ≡ true
+lower-none c e = go (isUpper c) refl
   where
-    go : (t : Bool) → between 65 90 c ≡ t → not t ≡ true
+    go : (t : Bool) → isUpper c ≡ t → not t ≡ true
     go true k = let up : lower c ≡ c + 32 = rw k in absurd (omega (arith, up, e))
     go false k = refl
 
@@ -40,7 +43,7 @@ lowered-none : (t : List ℕ) → lowered t ≡ t → noUpper t ≡ true
 unfolding noUpper
 lowered-none [] e = refl
 lowered-none (c ∷ t) e =
-    and-both (not (between 65 90 c)) (noUpper t) (lower-none c (ap (λ (l : List ℕ). getD l 0 0) e)) (lowered-none t (ap (drop 1) e))
+    and-both (not (isUpper c)) (noUpper t) (lower-none c (ap (λ (l : List ℕ). getD l 0 0) e)) (lowered-none t (ap (drop 1) e))
 
 -- ---- where the two digits stand
 
@@ -53,11 +56,11 @@ by-four P k f (a ∷ b ∷ []) e = absurd (omega arith)
 by-four P k f (a ∷ b ∷ c ∷ []) e = absurd (omega arith)
 by-four P k f (a ∷ b ∷ c ∷ d ∷ r) e = f a b c d r (omega arith)
 
--- the text of 16 octets has 36 characters; the digit of the version is at 14, that of the variant at 19
+-- the text of 16 octets has 36 characters, and the digits of the version and of the variant at their places
 record Places (b : List ℕ) : Type 0 where
   long : length (text b) ≡ 36
-  version : getD (text b) 14 0 ≡ digit (getD b 6 0 / 16)
-  variant : getD (text b) 19 0 ≡ digit (getD b 8 0 / 16)
+  version : getD (text b) versionPlace 0 ≡ digit (getD b versionOctet 0 / 16)
+  variant : getD (text b) variantPlace 0 ≡ digit (getD b variantOctet 0 / 16)
 
 text-places : (b : List ℕ) → length b ≡ 16 → Places b
 text-places =
@@ -71,13 +74,13 @@ text-places =
 
 -- of the text of 16 octets the two tests are those of the octets
 text-tests : (b : List ℕ) → AreBytes b → length b ≡ 16
-    → (eqb (getD (text b) 14 0) 55 && isVariantDigit (getD (text b) 19 0)) ≡ (eqb (getD b 6 0 / 16) 7 && eqb (getD b 8 0 / 64) 2)
+    → (eqb (getD (text b) versionPlace 0) 55 && isVariantDigit (getD (text b) variantPlace 0)) ≡ (eqb (getD b versionOctet 0 / 16) 7 && eqb (getD b variantOctet 0 / 64) 2)
 text-tests b f l =
     let p = text-places b l in
-    let two : getD b 8 0 / 16 / 4 ≡ getD b 8 0 / 64 = omega arith in
+    let two : getD b variantOctet 0 / 16 / 4 ≡ getD b variantOctet 0 / 64 = omega arith in
     ap₂ (λ (x y : Bool). x && y)
-    (ap (λ (c : ℕ). eqb c 55) (p .version) ∙ digit-seven (getD b 6 0 / 16) (omega (arith, f 6)))
-    (ap isVariantDigit (p .variant) ∙ digit-variant (getD b 8 0 / 16) (omega (arith, f 8)) ∙ ap (λ (n : ℕ). eqb n 2) two)
+    (ap (λ (c : ℕ). eqb c 55) (p .version) ∙ digit-seven (getD b versionOctet 0 / 16) (omega (arith, f versionOctet)))
+    (ap isVariantDigit (p .variant) ∙ digit-variant (getD b variantOctet 0 / 16) (omega (arith, f variantOctet)) ∙ ap (λ (n : ℕ). eqb n 2) two)
 
 -- of a text in lower case that spells octets the answer is that of the octets
 lower-answer : (t b : List ℕ) → Spells t b → lowered t ≡ t → isVersion7Text t ≡ isVersion7 b
@@ -86,8 +89,8 @@ lower-answer t b s e =
     let same : t ≡ text b = sym e ∙ s .text in
     let p = text-places b (s .size) in
     let long : length t ≡ 36 = ap length same ∙ p .long in
-    let tests : (eqb (getD t 14 0) 55 && isVariantDigit (getD t 19 0)) ≡ (eqb (getD b 6 0 / 16) 7 && eqb (getD b 8 0 / 64) 2)
-    = ap (λ (u : List ℕ). eqb (getD u 14 0) 55 && isVariantDigit (getD u 19 0)) same ∙ text-tests b (s .octets) (s .size) in
+    let tests : (eqb (getD t versionPlace 0) 55 && isVariantDigit (getD t variantPlace 0)) ≡ (eqb (getD b versionOctet 0 / 16) 7 && eqb (getD b variantOctet 0 / 64) 2)
+    = ap (λ (u : List ℕ). eqb (getD u versionPlace 0) 55 && isVariantDigit (getD u variantPlace 0)) same ∙ text-tests b (s .octets) (s .size) in
     rw (eq-eqb (length t) 36 long, eq-eqb (length b) 16 (s .size), lowered-none t e, tests)
 
 -- a text that is accepted has no letter of A-Z

@@ -17,7 +17,7 @@ lib:
 	rt staticlib cap
 
 # the library, its header and a pkg-config file under PREFIX (and DESTDIR); folders of our own, since another library is named libcap too
-VERSION := 0.5.0
+VERSION := 0.6.0
 PREFIX ?= /usr/local
 install: lib
 	install -d $(DESTDIR)$(PREFIX)/lib/plentosk $(DESTDIR)$(PREFIX)/include/plentosk $(DESTDIR)$(PREFIX)/share/pkgconfig

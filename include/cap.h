@@ -26,7 +26,7 @@ extern "C" {
 /* The answers of the calls, by the numbers of the published table; `found` of cap_grant_at is none of them. */
 enum cap_answer {
     CAP_DONE = 0,                        /* done, granted, accepted */
-    CAP_INVALID_STRUCTURE = 1,           /* E_INVALID_STRUCTURE: not the deterministic encoding of an allowed item or descriptor */
+    CAP_INVALID_STRUCTURE = 1,           /* E_INVALID_STRUCTURE: not the deterministic encoding of an allowed item or descriptor; in a submission also an id that is no UUID of version 7 */
     CAP_VALIDITY_OUT_OF_RANGE = 2,       /* E_VALIDITY_OUT_OF_RANGE: valid for over 90 days, or beginning over a day ahead */
     CAP_UNKNOWN_ISSUER = 3,              /* E_UNKNOWN_ISSUER: the host has no such key */
     CAP_INVALID_SIGNATURE = 4,           /* E_INVALID_SIGNATURE: the host found the signature bad */
@@ -178,6 +178,9 @@ cap_written cap_image_upgrade(const uint8_t *old, size_t old_len, uint8_t *image
 
 /* Submits a descriptor to the image, which is of edition 2; one of edition 1 is answered 16. 0, or the number of the first step that fails. On 0 the image holds the
  * descriptor, and where it did not hold it before, it was last used at the moment `now`.
+ * Only ids that are UUIDs of version 7 with RFC 9562's variant enter: the descriptor id, and those of the fay id and the terminal id, whose hexadecimal digits are lower case. Any
+ * other is answered 1, before 2 and before the question whether the id is held: bytes with other ids that are held from before are answered 1 when they are submitted again, and stay
+ * held. No other call asks for this: a held descriptor with other ids is found, decided and upgraded as before.
  * Where it does not fit (1,024 rows are held, or the larger image exceeds the buffer) the submission removes expired descriptors (now >= not_after) from the image:
  * the least recently used first, the earlier row on a tie, one after the other and only until it fits. One that is not expired is never removed. Where it would not
  * fit without all expired ones either, the answer is 6 and nothing changes. After a removal bodies lie at other places than before. */

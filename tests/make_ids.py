@@ -176,6 +176,22 @@ def steps(r):
     right_ids(r, size)
 
 
+def with_other_bits(**more):
+    """The name of each id with another version or variant, but for version 4, and a descriptor with it."""
+    texts = [(f"of version {version}", with_bits(VERSION, version)) for version in (6, 8)]
+    texts += [(f"of variant {variant:02b}", with_bits(VARIANT, variant)) for variant in (0, 1, 3)]
+    return [(f"{which} {name}", with_id(which, text, **more)) for which in IDS for name, text in texts]
+
+
+def beside(r):
+    """The other versions and variants, with 16 before them and 2 after them."""
+    r.load("no image", b"\x00" * 100)
+    each(r, "no image", with_other_bits(), 16)
+    new_image(r, 1000)
+    each(r, "period of 7,776,001", with_other_bits(**LONG), 1)
+    each(r, "begins one second too far ahead", with_other_bits(**AHEAD), 1)
+
+
 def right_ids(r, size):
     """The same refusals where the ids are right."""
     right = with_id(FAY, RIGHT)
@@ -299,6 +315,7 @@ def ids(r):
         ("RFC 9562's examples", examples),
         ("What is no id", no_ids),
         ("Before and after the ids", steps),
+        ("Before and after other versions and variants", beside),
         ("Descriptors from before", before),
         ("Descriptors from before, upgraded", upgraded),
         ("Descriptors from before in a full image", full),

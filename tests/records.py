@@ -43,7 +43,7 @@ class Vectors:
 
     def save(self, folder):
         stdin, stdout = b"".join(self.into), "".join(self.out)
-        assert len(stdin) <= 1 << 21, "the program's buffer"
+        assert len(stdin) <= 3 << 20, "the program's buffer"
         with open(f"{folder}/stdin", "wb") as f:
             f.write(stdin)
         with open(f"{folder}/stdout", "w", encoding="utf-8") as f:

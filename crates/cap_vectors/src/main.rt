@@ -5,8 +5,8 @@ mod images;
 mod record;
 mod show;
 
-fn room() -> [u8; 2097152] {
-    [0; 2097152]
+fn room() -> [u8; 3145728] {
+    [0; 3145728]
 }
 
 // Room for 1,024 rows with the shortest bodies, and more.

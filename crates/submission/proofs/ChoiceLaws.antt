@@ -113,7 +113,7 @@ module _ (d b : List ℕ) (clock verdict : ℕ) (window : Window) (known : isVer
       )
       (λ early. refuses d b clock verdict window (Read f) v answers.Validity (omega arith) (rw (known, early)))
 
-  -- a verdict that is known: the image, then what reading the body answered
+  -- a verdict that is known: the image, then what is answered of the body
   known-is : (r : Reading) (v : ImageCheck) → ChoiceIs d b clock verdict window r v (chosenBy d b clock verdict window r v)
   unfolding stepsBy chosenRead chosenUnread
   known-is (Read f) (Sound n end h) = read-is n end h f

@@ -43,9 +43,9 @@ use Rattle.submission_spec.specs.Promises.{AlwaysMeets, stepsFor, Submit
 use Rattle.submission_spec.specs.Promises as promised
 use Rattle.submission_spec.proofs.IdLaws.{entering-formed, entering-structure}
 
--- ---- the number, by what reading answers and what the check finds
+-- ---- the number, by what is answered of the body and what the check finds
 
--- the number of the first failing step, by the reading r and the check v
+-- the number of the first failing step, by what is answered of the body, r, and the check v
 abbrev numberBy : List ℕ → List ℕ → ℕ → ℕ → Window → Reading → ImageCheck → ℕ
 numberBy d b clock verdict window r v = inOrder (mapped numberOf (stepsBy d b clock verdict window r v)) 0
 
@@ -61,13 +61,13 @@ number-by d b clock verdict window r v e f =
 abbrev notTooLong : Descriptor → Bool
 notTooLong c = leb (c .payload .notAfter - c .payload .notBefore) 7776000
 
--- a check that does not call the image sound, whatever reading answers
+-- a check that does not call the image sound, whatever is answered of the body
 by-unsound : (d b : List ℕ) (clock verdict : ℕ) (window : Window) (r : Reading) (x : promised.Body)
     → numberBy d b clock verdict window r Unsound ≡ inOrder (stepsFor badImage x (length d) clock verdict window) 0
 unfolding stepsBy inOrder orElse isVerdict
 by-unsound d b clock verdict window r x = refl
 
--- a body that reading answers with 1
+-- a body that is answered 1
 by-structure : (d b : List ℕ) (clock verdict : ℕ) (window : Window) (bs : List Row) (n end : ℕ) (h : Held)
     → numberBy d b clock verdict window Structure (Sound n end h)
     ≡ inOrder (stepsFor (rows bs) structure (length d) clock verdict window) 0

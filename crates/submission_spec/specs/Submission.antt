@@ -35,10 +35,11 @@ longestLead = 86400
 
 -- ---- the three ids (document 02 §6)
 
--- where the UUID text begins in a fay id, after "fay:", and in a terminal id, after "terminal:"
+-- where the UUID text begins in a fay id, after "fay:"
 abbrev pub fayText : ℕ
 fayText = 4
 
+-- where it begins in a terminal id, after "terminal:"
 abbrev pub terminalText : ℕ
 terminalText = 9
 
@@ -49,12 +50,12 @@ idsIn b f =
     && (isVersion7Text (part b (f .fay + fayText) (faySize - fayText))
     && isVersion7Text (part b (f .terminal + terminalText) (terminalSize - terminalText)))
 
--- what is answered of b, by what it is before the period is looked at: 1 for another id, and then 2 for the period
+-- what is answered of b, by what it is before the period is looked at: 1 for another id, and only then what the period says
 abbrev pub enteringBy : List ℕ → Form → Reading
 enteringBy b (Formed f) = cond (idsIn b f) (withinPeriod f) Structure
 enteringBy b Unformed = Structure
 
--- what reading answers of bytes that are submitted, with the ids looked at
+-- what is answered of bytes that are submitted: as reading answers, and 1 for an id that is not of version 7
 unfoldable pub entering : List ℕ → Reading
 entering b = enteringBy b (formOf (formedIn b))
 

@@ -2,13 +2,13 @@
 use mathlib.Core.Path.{_≡_, refl, sym, ap, ap₂, _∙_, subst}
 use mathlib.Core.Bool.{Bool, true, false, not, _&&_}
 use mathlib.Core.List.{List, [], _∷_}
-use Prim.Native.Nat.{ℕ, _+_, _/_, _<_}
+use Prim.Native.Nat.{ℕ, _+_, _/_}
 use native.Mathlib.Omega.{arith}
 use lib.ListN.{length, drop, getD}
 use lib.Dec.{eqb}
-use borrow.Author.Tests.{not-true, eqb-true, eq-eqb}
+use borrow.Author.Tests.{not-true, eq-eqb}
 use Rattle.octets.specs.Bytes.{AreBytes}
-use Rattle.octets.proofs.Tests.{by-cond, and-left, and-right, and-both}
+use Rattle.octets.proofs.Tests.{and-left, and-right, and-both}
 use Rattle.uuid_spec.specs.Uuid.{IsVersion7, digit, text, lower, lowered, Spells}
 use Rattle.uuid_spec.specs.Version7.{versionOctet, variantOctet, isVersion7, versionPlace, variantPlace, isUpper, noUpper, isVariantDigit, isVersion7Text}
 use Rattle.uuid_spec.specs.Promises.{TextExactly, TextOfVersion7}

@@ -9,23 +9,25 @@ use Rattle.resource_spec.specs.Identifier.{between}
 
 -- ---- octets
 
--- the octets that begin with the version and with the variant
+-- the octet whose high half is the version
 abbrev pub versionOctet : ℕ
 versionOctet = 6
 
+-- the octet whose two high bits are the variant
 abbrev pub variantOctet : ℕ
 variantOctet = 8
 
--- 16 octets, of which the high half of the one is 7, and the two high bits of the other are 10
+-- 16 octets, with 7 for the version and 10 for the variant
 unfoldable pub isVersion7 : List ℕ → Bool
 isVersion7 b = eqb (length b) 16 && (eqb (getD b versionOctet 0 / 16) 7 && eqb (getD b variantOctet 0 / 64) 2)
 
 -- ---- texts
 
--- the characters that stand for them: the first digit of the third group, and the first of the fourth
+-- the place of the digit that is the version, the first of the third group
 abbrev pub versionPlace : ℕ
 versionPlace = 14
 
+-- the place of the digit that begins with the variant, the first of the fourth group
 abbrev pub variantPlace : ℕ
 variantPlace = 19
 
@@ -33,7 +35,7 @@ variantPlace = 19
 abbrev pub isUpper : ℕ → Bool
 isUpper c = between 65 90 c
 
--- no character is one
+-- no character of a text is a letter of A-Z
 unfoldable pub noUpper : List ℕ → Bool
 noUpper [] = true
 noUpper (c ∷ t) = not (isUpper c) && noUpper t
@@ -42,6 +44,6 @@ noUpper (c ∷ t) = not (isUpper c) && noUpper t
 unfoldable pub isVariantDigit : ℕ → Bool
 isVariantDigit c = between 56 57 c || between 97 98 c
 
--- 36 characters, no letter of A-Z, of which the one is 7, and the other has the variant
+-- 36 characters, none of A-Z, with 7 for the version, and 8, 9, a or b for the digit of the variant
 unfoldable pub isVersion7Text : List ℕ → Bool
 isVersion7Text t = eqb (length t) 36 && (noUpper t && (eqb (getD t versionPlace 0) 55 && isVariantDigit (getD t variantPlace 0)))

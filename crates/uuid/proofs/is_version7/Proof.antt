@@ -1,5 +1,4 @@
 -- `is_version7` meets its contract. Assumes nothing.
-use mathlib.Core.Path.{sym}
 use borrow.Author.Needs.{needs}
 use Rattle.uuid.proofs.UuidCode.{octets-short, octets-tests}
 use Rattle.uuid.proofs.is_version7.Statement.{statement}

@@ -1,4 +1,6 @@
 // Reading and writing pieces of lent bytes. A piece that does not fit is not written, and no function has a requirement.
+#![tactic(auto)]
+
 mod compare;
 mod numbers;
 mod order;

@@ -1,4 +1,6 @@
 // What a submission and a request have in common: steps in a published order, the host's verdict, and the key's window.
+#![tactic(auto)]
+
 ghost use Rattle.std.specs.Prelude.{◌≡◌};
 ghost use Rattle.steps.specs.Key.{key_open};
 

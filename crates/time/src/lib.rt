@@ -1,5 +1,7 @@
 // Units of time, one struct for each, so that seconds and milliseconds cannot be passed for each other. What is promised of them is in
 // specs/Promises.antt.
+#![tactic(auto)]
+
 ghost use Rattle.std.specs.Prelude.{◌≡◌, min, ltb};
 ghost use Rattle.time.specs.Time.{whole_seconds, in_milliseconds, plus_at_most, sum_held, most_margin, margin_between};
 

@@ -24,7 +24,7 @@ use resource_spec::sizes::TERMINAL_SIZE;
 
 // Which terminal id the pattern of a grant is to have: any, or the one that stands at a place; or the pattern was read before, and nothing
 // is asked of it.
-#[derive(Drop)]
+#[derive(Clone, Copy)]
 pub(crate) enum TerminalId {
     Any,
     At { first: usize },
@@ -32,21 +32,21 @@ pub(crate) enum TerminalId {
 }
 
 // The union of masks and the number of constraint pairs.
-#[derive(Drop)]
+#[derive(Clone, Copy)]
 pub(crate) struct Sum {
     pub(crate) mask: u64,
     pub(crate) pairs: u64,
 }
 
 // A sum, and the place after the last grant.
-#[derive(Drop)]
+#[derive(Clone, Copy)]
 pub(crate) enum SumRead {
     IsSum { sum: Sum, next: usize },
     NoSum,
 }
 
 // Grants: how many, the place of the first, the place of its pattern, and the sum.
-#[derive(Drop)]
+#[derive(Clone, Copy)]
 pub(crate) struct GrantsFields {
     pub(crate) count: u64,
     pub(crate) start: usize,
@@ -54,7 +54,7 @@ pub(crate) struct GrantsFields {
     pub(crate) sum: Sum,
 }
 
-#[derive(Drop)]
+#[derive(Clone, Copy)]
 pub(crate) enum GrantsRead {
     IsGrants { grants: GrantsFields, next: usize },
     NoGrants,

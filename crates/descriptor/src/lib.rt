@@ -17,7 +17,7 @@ pub use descriptor_spec::{DescriptorNumbers, Fields, Form, GrantNumbers, Part, R
 
 // What is seen of a grant: the mask of its modes, the place of their array, the place of the constraints' map (0 where there is none) and
 // the number of its pairs, and the pattern's place and length.
-#[derive(Drop)]
+#[derive(Clone, Copy)]
 pub struct GrantFields {
     pub mask: u64,
     pub modes: usize,
@@ -28,7 +28,7 @@ pub struct GrantFields {
 }
 
 // A grant, and the place after it.
-#[derive(Drop)]
+#[derive(Clone, Copy)]
 pub enum GrantRead {
     IsGrant { fields: GrantFields, next: usize },
     NoGrant,

@@ -24,7 +24,7 @@ use entries::{keys, times};
 use octets::has_at;
 
 // metadata, issued_at, issuer_id and not_after.
-#[derive(Drop)]
+#[derive(Clone, Copy)]
 pub(crate) struct IssueFields {
     pub(crate) metadata: Optional,
     pub(crate) issued_at: u64,
@@ -33,14 +33,14 @@ pub(crate) struct IssueFields {
 }
 
 // grantor_id and not_before.
-#[derive(Drop)]
+#[derive(Clone, Copy)]
 pub(crate) struct GrantorFields {
     pub(crate) grantor: Optional,
     pub(crate) not_before: u64,
 }
 
 // The places of terminal_id, descriptor_id and subject_fay_id.
-#[derive(Drop)]
+#[derive(Clone, Copy)]
 pub(crate) struct IdsFields {
     pub(crate) terminal: usize,
     pub(crate) id: usize,
@@ -48,7 +48,7 @@ pub(crate) struct IdsFields {
 }
 
 // A payload: the number of its keys, its grants and these pieces.
-#[derive(Drop)]
+#[derive(Clone, Copy)]
 pub(crate) struct PayloadFields {
     pub(crate) keys: u64,
     pub(crate) grants: GrantsFields,
@@ -58,25 +58,25 @@ pub(crate) struct PayloadFields {
 }
 
 // Each of them, and the place after it.
-#[derive(Drop)]
+#[derive(Clone, Copy)]
 pub(crate) enum IssueRead {
     IsIssue { issue: IssueFields, next: usize },
     NoIssue,
 }
 
-#[derive(Drop)]
+#[derive(Clone, Copy)]
 pub(crate) enum GrantorRead {
     IsGrantor { grantor: GrantorFields, next: usize },
     NoGrantor,
 }
 
-#[derive(Drop)]
+#[derive(Clone, Copy)]
 pub(crate) enum IdsRead {
     AreIds { ids: IdsFields, next: usize },
     NoIds,
 }
 
-#[derive(Drop)]
+#[derive(Clone, Copy)]
 pub(crate) enum PayloadRead {
     IsPayload { payload: PayloadFields, next: usize },
     NoPayload,

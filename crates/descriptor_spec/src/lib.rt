@@ -5,7 +5,7 @@ pub mod sizes;
 use time::Seconds;
 
 // A part of the bytes: its place and its length; both 0 for what is absent.
-#[derive(Drop)]
+#[derive(Clone, Copy)]
 pub struct Part {
     pub at: usize,
     pub len: usize,
@@ -14,7 +14,7 @@ pub struct Part {
 // What is seen of a descriptor: parts and places in its bytes, and numbers. The payload is what the signature covers. `grants` counts the
 // grants, of which the first stands at `first`; `metadata` is the place of the map's head, 0 where it is absent, and `pairs` the number of
 // its pairs; `constraints` counts the constraint pairs of all grants, `mask` is the union of their modes' masks.
-#[derive(Drop)]
+#[derive(Clone, Copy)]
 pub struct Fields {
     pub payload: Part,
     pub issued_at: Seconds,
@@ -38,14 +38,14 @@ pub struct Fields {
 
 // What reading answers before it looks at the period: the fields of a descriptor that is allowed but for its period, or that there is
 // none.
-#[derive(Drop)]
+#[derive(Clone, Copy)]
 pub enum Form {
     Formed(Fields),
     Unformed,
 }
 
 // What reading answers: the fields, document 01's 1 or its 2.
-#[derive(Drop)]
+#[derive(Clone, Copy)]
 pub enum Reading {
     Read(Fields),
     Structure,
@@ -54,7 +54,7 @@ pub enum Reading {
 
 // A descriptor in document 01's numbers, as include/cap.h has them: the answer, 0, 1 or 2; and with 0 its parts, places and numbers.
 #[repr(C)]
-#[derive(Drop)]
+#[derive(Clone, Copy)]
 pub struct DescriptorNumbers {
     pub answer: u64,
     pub payload_at: u64,
@@ -83,7 +83,7 @@ pub struct DescriptorNumbers {
 
 // A grant in numbers, as include/cap.h has them: 1 and its parts, places and numbers, or zeros where there is none.
 #[repr(C)]
-#[derive(Drop)]
+#[derive(Clone, Copy)]
 pub struct GrantNumbers {
     pub found: u64,
     pub pattern_at: u64,

@@ -9,7 +9,7 @@ use cbor_item::SpanRead;
 use octets::{before, has_at};
 
 // A pair: the length of its key's encoding, and the place after it.
-#[derive(Drop)]
+#[derive(Clone, Copy)]
 pub(crate) enum PairRead {
     IsPair { len: usize, next: usize },
     NoPair,

@@ -13,7 +13,7 @@ use cbor_item::SpanRead;
 use octets::has_at;
 
 // key_id, the algorithm's number and the signature's bytes.
-#[derive(Drop)]
+#[derive(Clone, Copy)]
 pub struct SignatureFields {
     pub key: usize,
     pub len: usize,
@@ -22,7 +22,7 @@ pub struct SignatureFields {
     pub size: usize,
 }
 
-#[derive(Drop)]
+#[derive(Clone, Copy)]
 pub enum SignatureRead {
     IsSignature {
         signature: SignatureFields,

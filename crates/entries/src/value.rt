@@ -15,7 +15,7 @@ use octets::has_at;
 const LAST_TIME: u64 = 18446744073709551615;
 
 // A number, length or count, and the place after it.
-#[derive(Drop)]
+#[derive(Clone, Copy)]
 pub enum CountRead {
     IsCount { value: u64, next: usize },
     NoCount,
@@ -29,7 +29,7 @@ pub const ABSENT: Optional = Optional {
 };
 
 // An optional value, and the place after it.
-#[derive(Drop)]
+#[derive(Clone, Copy)]
 pub enum OptionalRead {
     IsOptional { value: Optional, next: usize },
     NoOptional,

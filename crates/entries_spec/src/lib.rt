@@ -3,7 +3,7 @@
 // definitions; `entries` has the functions.
 
 // What a string is: a text or a byte string of lo to hi bytes, a terminal id, a fay id, or a pattern.
-#[derive(Drop)]
+#[derive(Clone, Copy)]
 pub enum Kind {
     Text { lo: usize, hi: usize },
     Bytes { lo: usize, hi: usize },
@@ -14,7 +14,7 @@ pub enum Kind {
 
 // An optional value: whether it is there, its place, and its size, which is the length of a string's content or the number of a map's
 // pairs. Place and size are 0 where it is absent.
-#[derive(Drop)]
+#[derive(Clone, Copy)]
 pub struct Optional {
     pub there: bool,
     pub at: usize,

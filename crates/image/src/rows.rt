@@ -17,14 +17,14 @@ use image_spec::layout::{
 use octets::{number_at, same_bytes};
 
 // What was read of a row's body, and the place after it.
-#[derive(Drop)]
+#[derive(Clone, Copy)]
 pub(crate) enum RowRead {
     IsRow { fields: Fields, next: usize },
     NoRow,
 }
 
 // The place after a row's body.
-#[derive(Drop)]
+#[derive(Clone, Copy)]
 pub(crate) enum PlaceRead {
     IsPlace { next: usize },
     NoPlace,

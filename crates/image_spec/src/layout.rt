@@ -2,7 +2,7 @@
 
 // What an edition of the image fixes: its number, the most rows, where in a row the last-used moment begins, which goes up to the row's
 // end, and the bytes of a row.
-#[derive(Drop)]
+#[derive(Clone, Copy)]
 pub struct Layout {
     pub edition: u64,
     pub most_rows: u64,

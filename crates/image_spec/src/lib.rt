@@ -6,7 +6,7 @@ pub mod layout;
 use descriptor_spec::Fields;
 
 // The body with an id: which row it has, where it lies in the image, how long it is, and what was read of it; or there is none.
-#[derive(Drop)]
+#[derive(Clone, Copy)]
 pub enum Held {
     Missing,
     Body {
@@ -18,14 +18,14 @@ pub enum Held {
 }
 
 // What a check of an image answers: how many rows it has, where it ends, and the body that was looked for; or that it is not sound.
-#[derive(Drop)]
+#[derive(Clone, Copy)]
 pub enum ImageCheck {
     Sound { rows: u64, end: usize, held: Held },
     Unsound,
 }
 
 // What a lookup answers: the body's place and length; 15, the id is not 16 bytes; 16, the image is not sound; 7, the id is not held.
-#[derive(Drop)]
+#[derive(Clone, Copy)]
 pub enum Finding {
     Found { at: usize, len: usize },
     Malformed,
@@ -36,7 +36,7 @@ pub enum Finding {
 // A lookup in document 01's numbers, as include/cap.h has them: the answer, 0, 15, 16 or 7; and with 0 the place and the length of the
 // body.
 #[repr(C)]
-#[derive(Drop)]
+#[derive(Clone, Copy)]
 pub struct StoredNumbers {
     pub answer: u64,
     pub body_at: u64,
@@ -44,28 +44,28 @@ pub struct StoredNumbers {
 }
 
 // What making a new image answers: 0 or 17.
-#[derive(Drop)]
+#[derive(Clone, Copy)]
 pub enum Creation {
     Done,
     TooShort,
 }
 
 // What adding a body answers: it was added, or there is no room for it.
-#[derive(Drop)]
+#[derive(Clone, Copy)]
 pub enum Added {
     Done,
     Full,
 }
 
 // A row with its last-used moment, or none.
-#[derive(Drop)]
+#[derive(Clone, Copy)]
 pub enum Least {
     IsRow(usize, u64),
     NoRow,
 }
 
 // What making room for a row and a body answers: how many rows stay and where their bodies end; or there is no room.
-#[derive(Drop)]
+#[derive(Clone, Copy)]
 pub enum Room {
     Made { rows: u64, end: usize },
     NoRoom,
@@ -73,7 +73,7 @@ pub enum Room {
 
 // What turning an image of edition 1 into one of edition 2 answers: the length of the new image; 16, the old one is not a sound image of
 // edition 1; 17, the buffer is too short.
-#[derive(Drop)]
+#[derive(Clone, Copy)]
 pub enum Upgrade {
     Upgraded { len: usize },
     BadImage,
@@ -82,7 +82,7 @@ pub enum Upgrade {
 
 // What a call that writes a part of a buffer answers, as include/cap.h has it: the answer, and with 0 how many bytes it wrote.
 #[repr(C)]
-#[derive(Drop)]
+#[derive(Clone, Copy)]
 pub struct Written {
     pub answer: u64,
     pub len: u64,

@@ -7,7 +7,7 @@ use time::{Margin, Milliseconds, Seconds};
 // What a row of the lease table has beside the descriptor's id: whether the lease is revoked; the last sync (L); how long the lease is
 // active after it (ttl, T), and how long stale after that (grace, G); how far the last sync may lie after the clock (skew, D); and the
 // tolerance (E) with which it ends.
-#[derive(Drop)]
+#[derive(Clone, Copy)]
 pub struct Lease {
     pub revoked: bool,
     pub last_sync: Milliseconds,
@@ -19,7 +19,7 @@ pub struct Lease {
 
 // The state of a lease at a clock. Active and stale have the margin: how long it is to the last active millisecond, below zero where that
 // has passed. Outside is for a lease or a clock outside the limits.
-#[derive(Drop)]
+#[derive(Clone, Copy)]
 pub enum LeaseState {
     Revoked,
     Future,
@@ -30,14 +30,14 @@ pub enum LeaseState {
 }
 
 // What a row of 64 bytes is read as.
-#[derive(Drop)]
+#[derive(Clone, Copy)]
 pub enum LeaseRead {
     IsLease(Lease),
     NoLease,
 }
 
 // What a lease table has under an id: a lease, or no row; or it is no lease table.
-#[derive(Drop)]
+#[derive(Clone, Copy)]
 pub enum LeaseFound {
     Found(Lease),
     Missing,

@@ -3,7 +3,7 @@
 // types of what is answered; `match_lines` has the functions.
 
 // The verdict on a line.
-#[derive(Drop)]
+#[derive(Clone, Copy)]
 pub enum Verdict {
     IsYes,
     IsNo,
@@ -12,7 +12,7 @@ pub enum Verdict {
 
 // What was done with a block: how many bytes were written at the start of the output; how many of the block's last bytes are kept for
 // the next; whether the line that has begun is too long. NoRoom: the output is too short, and nothing was done.
-#[derive(Drop)]
+#[derive(Clone, Copy)]
 pub enum Progress {
     Done {
         written: usize,

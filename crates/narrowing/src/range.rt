@@ -7,7 +7,7 @@ ghost use Rattle.narrowing.specs.Range.{fresh_range, text_range, marked};
 use resource::{LevelStep, is_deep};
 
 // The numbers from lo on and below hi.
-#[derive(Drop)]
+#[derive(Clone, Copy)]
 pub(crate) struct Range {
     pub(crate) lo: usize,
     pub(crate) hi: usize,

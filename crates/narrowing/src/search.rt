@@ -18,7 +18,7 @@ use resource::is_deep;
 use resource_spec::sizes::LEVELS_PLACE;
 
 // A mode and a number of names.
-#[derive(Drop)]
+#[derive(Clone, Copy)]
 pub(crate) enum Found {
     At { mode: u64, levels: u64 },
     Nothing,

@@ -3,7 +3,7 @@
 
 // What narrowing answers: 0; 21, the parent doesn't read; 1 or 2, the child; 19, a constraint pair in either; 18, the child's period is not
 // within the parent's; 20, some path escapes, with the grant's place, the mode and the levels.
-#[derive(Drop)]
+#[derive(Clone, Copy)]
 pub enum Narrowing {
     Accepted,
     NoParent,
@@ -16,7 +16,7 @@ pub enum Narrowing {
 
 // A narrowing in document 01's numbers, as include/cap.h has them: the answer; and with 20 the grant's place, the mode and the levels.
 #[repr(C)]
-#[derive(Drop)]
+#[derive(Clone, Copy)]
 pub struct NarrowingNumbers {
     pub answer: u64,
     pub grant: u64,

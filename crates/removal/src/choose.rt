@@ -19,7 +19,7 @@ const CURRENT: u8 = 0;
 const EXPIRED: u8 = 1;
 
 // What was chosen: whether there is room then, and how many rows and bytes go.
-#[derive(Drop)]
+#[derive(Clone, Copy)]
 pub(crate) struct Choice {
     pub ok: bool,
     pub removed: u64,

@@ -18,7 +18,7 @@ use resource_spec::sizes::{FAY_SIZE, LEVELS_PLACE, TERMINAL_SIZE};
 use time::Seconds;
 
 // What the steps 9 to 13 answer: the grant that is picked, with its mask, or the refusal of the first step that fails.
-#[derive(Drop)]
+#[derive(Clone, Copy)]
 pub(crate) enum Applicability {
     Applies { grant: u64, mask: u64 },
     Refused(Decision),

@@ -8,7 +8,7 @@ use crate::{Decision, Environment};
 use image::{Held, ImageCheck};
 
 // What examining a request comes to: the decision on the body of a row; or one that no body was needed for, which is a refusal.
-#[derive(Drop)]
+#[derive(Clone, Copy)]
 pub(crate) enum Examined {
     On { row: usize, decision: Decision },
     Apart(Decision),

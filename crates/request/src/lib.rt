@@ -17,7 +17,7 @@ use time::{Milliseconds, Seconds};
 
 // What the host says beside the request itself: the clock and the session length; its verdict on the signature, and the window in which
 // the key is valid.
-#[derive(Drop)]
+#[derive(Clone, Copy)]
 pub struct Environment {
     pub clock: Milliseconds,
     pub session: Seconds,

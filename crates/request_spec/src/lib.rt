@@ -6,7 +6,7 @@ use time::{Margin, Seconds};
 // the first step that fails: 15 malformed arguments, 16 bad image, 7 id not held, 8 revoked, 9 not yet valid, 10 expired, 11 another
 // subject, 12 another terminal, 13 no grant serves, 14 the key is not valid, 4 bad signature; then of the lease 26 revoked, 23 future,
 // 24 stale, with its margin, and 25 expired.
-#[derive(Drop)]
+#[derive(Clone, Copy)]
 pub enum Decision {
     Granted {
         grant: u64,
@@ -34,7 +34,7 @@ pub enum Decision {
 // A decision in the papers' numbers, as include/cap.h has them: the answer; with 0 the grant's place, its mask and the session's end, in
 // seconds; and with 0 and 24 the lease's margin, in milliseconds, 0 where the id has no lease.
 #[repr(C)]
-#[derive(Drop)]
+#[derive(Clone, Copy)]
 pub struct DecisionNumbers {
     pub answer: u64,
     pub grant: u64,
@@ -44,7 +44,7 @@ pub struct DecisionNumbers {
 }
 
 // A grant's place, counted from 0, its mask, and how many levels of the resource it matches by equal names; or there is none.
-#[derive(Drop)]
+#[derive(Clone, Copy)]
 pub enum Matched {
     IsAt { grant: u64, mask: u64, names: u64 },
     Nothing,

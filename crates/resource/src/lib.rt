@@ -13,7 +13,7 @@ pub use resource_spec::{Matching, MatchingNumbers};
 
 // The first levels of a pattern and of a path: they do not match; they match and are the last; or they match, and "/" follows the
 // p bytes of the one and the r bytes of the other. `names` is 1 where they are equal, and 0 where "*" matched.
-#[derive(Drop)]
+#[derive(Clone, Copy)]
 pub enum LevelStep {
     Differ,
     Finish { names: u64 },

@@ -3,7 +3,7 @@
 pub mod sizes;
 
 // What matching two texts answers: yes, with the number of levels that were matched by equal names; no; Malformed is document 01's 15.
-#[derive(Drop)]
+#[derive(Clone, Copy)]
 pub enum Matching {
     Yes { names: u64 },
     No,
@@ -13,7 +13,7 @@ pub enum Matching {
 // A matching in document 01's numbers, as include/cap.h has them: the answer, 0 or 15; 1 for yes; and the number of levels that
 // were matched by equal names.
 #[repr(C)]
-#[derive(Drop)]
+#[derive(Clone, Copy)]
 pub struct MatchingNumbers {
     pub answer: u64,
     pub yes: u64,

@@ -6,7 +6,7 @@ use descriptor_spec::sizes::ID_SIZE;
 
 // A row of the revocation list: a descriptor's id, and the moment, in seconds, from which on it is revoked.
 #[repr(C)]
-#[derive(Drop)]
+#[derive(Clone, Copy)]
 pub struct Revocation {
     pub id: [u8; ID_SIZE],
     pub moment: u64,

@@ -7,7 +7,7 @@ ghost use Rattle.steps.specs.Key.{key_open};
 use time::Seconds;
 
 // The window in which a key is valid: from a moment on and, where it is bounded, up to a moment with it.
-#[derive(Drop)]
+#[derive(Clone, Copy)]
 pub struct Window {
     pub from: Seconds,
     pub bounded: bool,

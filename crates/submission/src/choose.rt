@@ -15,7 +15,7 @@ use steps::Window;
 use time::Seconds;
 
 // What is to be done: the answer alone, or the body is to be stored after so many rows, whose bodies end at `end`; its id stands at `id`.
-#[derive(Drop)]
+#[derive(Clone, Copy)]
 pub(crate) enum Choice {
     Answer(Submission),
     Store {
@@ -27,7 +27,7 @@ pub(crate) enum Choice {
 }
 
 // The steps from the beginning to the signature: the refusal, or that all pass.
-#[derive(Drop)]
+#[derive(Clone, Copy)]
 pub(crate) enum Admission {
     Refused(Submission),
     Admitted,

@@ -5,7 +5,7 @@ pub mod sizes;
 // What a submission answers: 0, or the number of the first step that fails: 15 malformed arguments, 16 bad image, 1 and 2 from reading (1
 // also for an id that is not of version 7, 2 also where it begins more than a day ahead), 3 unknown issuer, 14 the key is not valid, 4 bad signature, 5 other bytes under a held
 // id, 6 no room.
-#[derive(Drop)]
+#[derive(Clone, Copy)]
 pub enum Submission {
     Done,
     Malformed,

@@ -6,15 +6,15 @@ ghost use Rattle.std.specs.Prelude.{◌≡◌, min, ltb};
 ghost use Rattle.time.specs.Time.{whole_seconds, in_milliseconds, plus_at_most, sum_held, most_margin, margin_between};
 
 // A number of seconds: a moment, counted from 1970, or a length of time.
-#[derive(Drop)]
+#[derive(Clone, Copy)]
 pub struct Seconds(pub u64);
 
 // A number of milliseconds: a moment, counted from 1970, or a length of time.
-#[derive(Drop)]
+#[derive(Clone, Copy)]
 pub struct Milliseconds(pub u64);
 
 // A signed number of milliseconds: how long it is to a moment, below zero where the moment has passed.
-#[derive(Drop)]
+#[derive(Clone, Copy)]
 pub struct Margin(pub i64);
 
 // How many milliseconds a second has.

@@ -1,5 +1,7 @@
 // Identifiers, resource ids, patterns and matching, as document 01 has them. Nothing here knows of CBOR. What is promised is in
 // specs/Promises.antt. No function: here are the sizes, and the types of what matching answers; `resource` has the functions.
+#![tactic(auto)]
+
 pub mod sizes;
 
 // What matching two texts answers: yes, with the number of levels that were matched by equal names; no; Malformed is document 01's 15.

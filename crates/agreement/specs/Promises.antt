@@ -12,7 +12,7 @@ use Rattle.request_spec.specs.Request.{Request}
 use Rattle.request_spec.specs.Decision.{decision_of, numbers_of}
 use Rattle.request_spec.specs.Promises.{held, Under, seconds_of, steps_for}
 use Rattle.narrowing_spec.specs.Meaning.{Admits}
-use Rattle.narrowing_spec.specs.Narrow.{narrow, numbers_of as narrowNumbers}
+use Rattle.narrowing_spec.specs.Narrow.{narrow, numbers_of as narrow_numbers}
 use Rattle.narrowing_spec.specs.Promises.{NoPairs, answer_only}
 
 -- the steps of a list that have one of the numbers
@@ -51,7 +51,7 @@ pub record AcceptedUnder (parent child : Descriptor) : Type 0 where
   pub parent_allowed : Allowed parent
   pub child_bytes : AreBytes (encode child)
   pub child_allowed : Allowed child
-  pub accepted : narrowNumbers (narrow (encode parent) (encode child)) ≡ answer_only 0
+  pub accepted : narrow_numbers (narrow (encode parent) (encode child)) ≡ answer_only 0
 
 -- what is granted on an accepted child, steps 9, 10 and 13 let pass on the parent
 abbrev pub AcceptedServes : Type 0

@@ -69,11 +69,11 @@ module _ (s : List ℕ) (at value next left mask here : ℕ) (e : got value next
     (i : many (mode_at s) left mask here ≡ many (mode_at s) value 0 next)
   where
     -- one mode of those that are left is wrong
-    pub modes-no : 0 < left → refused ≡ mode_at s mask here → refused ≡ modes_at s at
+    pub modes_no : 0 < left → refused ≡ mode_at s mask here → refused ≡ modes_at s at
     unfolding modes_at
-    modes-no l f = took _ e (sym (many_refused (mode_at s) left mask here l f) ∙ i)
+    modes_no l f = took _ e (sym (many_refused (mode_at s) left mask here l f) ∙ i)
 
     -- no mode is left
-    pub modes-yes : left ≡ 0 → got mask here ≡ modes_at s at
+    pub modes_yes : left ≡ 0 → got mask here ≡ modes_at s at
     unfolding modes_at
-    modes-yes l = took _ e (sym (ap (λ (n : ℕ). many (mode_at s) n mask here) l ∙ many_zero (mode_at s) mask here) ∙ i)
+    modes_yes l = took _ e (sym (ap (λ (n : ℕ). many (mode_at s) n mask here) l ∙ many_zero (mode_at s) mask here) ∙ i)

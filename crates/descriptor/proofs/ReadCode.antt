@@ -35,8 +35,8 @@ module _ (s : List ℕ) where
     seen = rw (le-leb _ _ short) refl
 
     -- no descriptor at the start
-    pub form-refused : refused ≡ descriptor_at s 0 → Unformed ≡ form_of (formed_in s)
-    form-refused e = ap (λ (o : Got Seen). form_of (whole (length s) o)) e ∙ ap form_of (sym seen)
+    pub form_refused : refused ≡ descriptor_at s 0 → Unformed ≡ form_of (formed_in s)
+    form_refused e = ap (λ (o : Got Seen). form_of (whole (length s) o)) e ∙ ap form_of (sym seen)
 
     module _ {v : Seen} {n : ℕ} (e : got v n ≡ descriptor_at s 0) where
       -- a descriptor at the start
@@ -44,12 +44,12 @@ module _ (s : List ℕ) where
       after = ap (λ (o : Got Seen). form_of (whole (length s) o)) e ∙ ap form_of (sym seen)
 
       -- bytes after it
-      pub form-more : (n ≡ length s → ⊥) → Unformed ≡ form_of (formed_in s)
-      form-more h = (rw (ne_eqb _ _ h) refl) ∙ after
+      pub form_more : (n ≡ length s → ⊥) → Unformed ≡ form_of (formed_in s)
+      form_more h = (rw (ne_eqb _ _ h) refl) ∙ after
 
       -- none
-      pub form-all : n ≡ length s → Formed (fields_of v) ≡ form_of (formed_in s)
-      form-all h = (rw (eq-eqb _ _ h) refl) ∙ after
+      pub form_all : n ≡ length s → Formed (fields_of v) ≡ form_of (formed_in s)
+      form_all h = (rw (eq-eqb _ _ h) refl) ∙ after
 
 -- ---- the period
 

@@ -99,10 +99,10 @@ pub record Issue : Type 0 where
 unfoldable pub issue_at : List ℕ → ℕ → Got Issue
 issue_at s at =
     bind (opt_pairs_at s at k_metadata 16) (λ metadata n.
-    bind (keyed_at s n k_issued_at (time_at s)) (λ issuedAt n₁.
+    bind (keyed_at s n k_issued_at (time_at s)) (λ issued_at n₁.
     bind (keyed_at s n₁ k_issuer_id (kind_at (Text 1 128) s)) (λ issuer n₂.
-    bind (keyed_at s n₂ k_not_after (time_at s)) (λ notAfter n₃.
-    got (record { metadata = metadata; issued_at = issuedAt; issuer = issuer; not_after = not_after }) n₃))))
+    bind (keyed_at s n₂ k_not_after (time_at s)) (λ not_after n₃.
+    got (record { metadata = metadata; issued_at = issued_at; issuer = issuer; not_after = not_after }) n₃))))
 
 -- grantor_id and not_before
 pub record Grantor : Type 0 where
@@ -113,7 +113,7 @@ pub record Grantor : Type 0 where
 unfoldable pub grantor_at : List ℕ → ℕ → Got Grantor
 grantor_at s at =
     bind (opt_kind_at s at k_grantor_id (Text 1 128)) (λ grantor n.
-    bind (keyed_at s n k_not_before (time_at s)) (λ notBefore n₁.
+    bind (keyed_at s n k_not_before (time_at s)) (λ not_before n₁.
     got (record { grantor = grantor; not_before = not_before }) n₁))
 
 -- terminal_id, descriptor_id and subject_fay_id: where they start

@@ -70,15 +70,15 @@ keys_of p = 8 + (size p.metadata + size p.grantor)
 
 -- the encoding of metadata, issued_at, issuer_id and not_after
 abbrev pub enc_issue : Option (List Pair) → ℕ → List ℕ → ℕ → List ℕ
-enc_issue metadata issuedAt issuer not_after =
+enc_issue metadata issued_at issuer not_after =
     enc_opt k_metadata enc_pairs metadata
-    ++ ((k_issued_at ++ head 0 issuedAt)
+    ++ ((k_issued_at ++ head 0 issued_at)
     ++ ((k_issuer_id ++ enc_text issuer)
-    ++ (k_not_after ++ head 0 notAfter)))
+    ++ (k_not_after ++ head 0 not_after)))
 
 -- of grantor_id and not_before
 abbrev pub enc_grantor : Option (List ℕ) → ℕ → List ℕ
-enc_grantor grantor not_before = enc_opt k_grantor_id enc_text grantor ++ (k_not_before ++ head 0 notBefore)
+enc_grantor grantor not_before = enc_opt k_grantor_id enc_text grantor ++ (k_not_before ++ head 0 not_before)
 
 -- and of terminal_id, descriptor_id and subject_fay_id
 abbrev pub enc_ids : List ℕ → List ℕ → List ℕ → List ℕ
@@ -86,14 +86,14 @@ enc_ids terminal id fay = (k_terminal_id ++ enc_text terminal) ++ ((k_descriptor
 
 -- what is seen of the first of these pieces at a place
 abbrev pub issue_view : ℕ → Option (List Pair) → ℕ → List ℕ → ℕ → Issue
-issue_view at metadata issuedAt issuer not_after =
+issue_view at metadata issued_at issuer not_after =
     let n = at + length (enc_opt k_metadata enc_pairs metadata) in
-    let n₁ = n + length (k_issued_at ++ head 0 issuedAt) in
+    let n₁ = n + length (k_issued_at ++ head 0 issued_at) in
     record {
       metadata = opt_pairs_view at k_metadata metadata;
-      issued_at = issuedAt;
+      issued_at = issued_at;
       issuer = content_span (n₁ + length k_issuer_id) 3 issuer;
-      not_after = notAfter;
+      not_after = not_after;
     }
 
 -- of the second

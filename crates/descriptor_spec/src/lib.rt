@@ -1,5 +1,7 @@
 // Descriptors: the data model of source 002 in the deterministic encoding of RFC 8949, as document 01 limits it. What is promised is in
 // specs/Promises.antt. No function: here are the types of what reading answers; `descriptor` has the functions.
+#![tactic(auto)]
+
 pub mod sizes;
 
 use time::Seconds;

@@ -27,20 +27,20 @@ module _ (s : List ℕ) (last len at start n : ℕ) (r : Bool) (e : got (span_of
     order = b ∙ ap (λ (l : List ℕ). before l (take ((start + n) - at) (drop at s))) (lent_part s last len)
 
     -- the key does not stand after the last one
-    pub pair-early : not r ≡ true → refused ≡ pair_at s (span_of last len) at
+    pub pair_early : not r ≡ true → refused ≡ pair_at s (span_of last len) at
     unfolding pair_at
-    pair-early t = took _ e (failed (before (part s last len) (part s at ((start + n) - at))) _ (not_T_of r order t))
+    pair_early t = took _ e (failed (before (part s last len) (part s at ((start + n) - at))) _ (not_T_of r order t))
 
     -- the second text is wrong
-    pub pair-no : not r ≡ false → refused ≡ kind_at (Text 0 256) s (start + n) → refused ≡ pair_at s (span_of last len) at
+    pub pair_no : not r ≡ false → refused ≡ kind_at (Text 0 256) s (start + n) → refused ≡ pair_at s (span_of last len) at
     unfolding pair_at
-    pair-no t f = took _ e (passed (before (part s last len) (part s at ((start + n) - at))) (T_of_not r order t) (stopped _ f))
+    pair_no t f = took _ e (passed (before (part s last len) (part s at ((start + n) - at))) (T_of_not r order t) (stopped _ f))
 
     -- a pair
-    pub pair-yes : (from m : ℕ) → not r ≡ false → got (span_of from m) (from + m) ≡ kind_at (Text 0 256) s (start + n)
+    pub pair_yes : (from m : ℕ) → not r ≡ false → got (span_of from m) (from + m) ≡ kind_at (Text 0 256) s (start + n)
         → got (span_of at ((start + n) - at)) (from + m) ≡ pair_at s (span_of last len) at
     unfolding pair_at
-    pair-yes from m t f = took _ e (passed (before (part s last len) (part s at ((start + n) - at))) (T_of_not r order t) (took _ f refl))
+    pair_yes from m t f = took _ e (passed (before (part s last len) (part s at ((start + n) - at))) (T_of_not r order t) (took _ f refl))
 
 -- ---- a map of pairs
 
@@ -48,13 +48,13 @@ module _ (s : List ℕ) (most at value next left last len here : ℕ) (e : got v
     (i : many (pair_at s) left (span_of last len) here ≡ many (pair_at s) value (span_of 0 0) next)
   where
     -- one pair of those that are left is wrong
-    pub pairs-no : 0 < left → refused ≡ pair_at s (span_of last len) here → refused ≡ pairs_at s most at
+    pub pairs_no : 0 < left → refused ≡ pair_at s (span_of last len) here → refused ≡ pairs_at s most at
     unfolding pairs_at
-    pairs-no l f = took _ e (stopped _ (sym (many_refused (pair_at s) left (span_of last len) here l f) ∙ i))
+    pairs_no l f = took _ e (stopped _ (sym (many_refused (pair_at s) left (span_of last len) here l f) ∙ i))
 
     -- no pair is left
-    pub pairs-yes : left ≡ 0 → got value here ≡ pairs_at s most at
+    pub pairs_yes : left ≡ 0 → got value here ≡ pairs_at s most at
     unfolding pairs_at
-    pairs-yes l =
+    pairs_yes l =
         took _ e (took _ (sym (ap (λ (n : ℕ). many (pair_at s) n (span_of last len) here) l ∙ many_zero (pair_at s) (span_of last len) here)
         ∙ i) refl)

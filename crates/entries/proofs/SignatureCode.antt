@@ -56,6 +56,6 @@ module _ (s : List ℕ) (n : ℕ) (t : T (has_at s n before_value)) (l : n + 36 
       (rw (part_has s (n + 36) 64 l).1)
 
   -- so is the signature
-  pub ed25519_found : (key_id : Span) → got (record { key_id = keyId; algorithm = 0; value = span_of (n + 36) 64 }) (n + 36 + 64) ≡ signed_at s keyId n
+  pub ed25519_found : (key_id : Span) → got (record { key_id = key_id; algorithm = 0; value = span_of (n + 36) 64 }) (n + 36 + 64) ≡ signed_at s key_id n
   unfolding signed_at guard
   ed25519_found key_id = took _ algorithm_read (took _ value_read refl)

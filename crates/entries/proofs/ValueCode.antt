@@ -103,14 +103,14 @@ module _ (major : ℕ) (test : List ℕ → Bool) (s : List ℕ) (at start len :
     (e : got (span_of start len) (start + len) ≡ span_at s at major) (v : r ≡ test (take ((start + len) - start) (drop start s)))
   where
     -- a string whose content passes the test
-    pub string-yes : r ≡ true → got (span_of start len) (start + len) ≡ string_at major test s at
+    pub string_yes : r ≡ true → got (span_of start len) (start + len) ≡ string_at major test s at
     unfolding string_at
-    string-yes t = took _ e (flag_yes (test (part s start len)) r (v ∙ ap test (lent_part s start len)) t refl)
+    string_yes t = took _ e (flag_yes (test (part s start len)) r (v ∙ ap test (lent_part s start len)) t refl)
 
     -- a string whose content does not
-    pub string-no : r ≡ false → refused ≡ string_at major test s at
+    pub string_no : r ≡ false → refused ≡ string_at major test s at
     unfolding string_at
-    string-no t = took _ e (flag_no _ (test (part s start len)) r (v ∙ ap test (lent_part s start len)) t)
+    string_no t = took _ e (flag_no _ (test (part s start len)) r (v ∙ ap test (lent_part s start len)) t)
 
 -- ---- one of a table
 

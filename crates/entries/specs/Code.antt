@@ -44,7 +44,7 @@ signature_read NoSignature = refused
 
 -- the signature after key_id: its algorithm and its value
 unfoldable pub signed_at : List ℕ → Span → ℕ → Got SignatureSeen
-signed_at s keyId n =
+signed_at s key_id n =
     bind (keyed_at s n k_algorithm (algorithm_at s)) (λ algorithm n₁.
     bind (keyed_at s n₁ k_signature_value (kind_at (Bytes 1 72) s)) (λ value n₂.
-    guard (value_fits algorithm value.len) (got (record { key_id = keyId; algorithm = algorithm; value = value }) n₂)))
+    guard (value_fits algorithm value.len) (got (record { key_id = key_id; algorithm = algorithm; value = value }) n₂)))

@@ -47,7 +47,7 @@ algorithm_at s at = one_of s at 0 algorithms
 -- from the text of key_id on
 unfoldable pub signature_at : List ℕ → ℕ → Got SignatureSeen
 signature_at s at =
-    bind (kind_at (Text 1 64) s at) (λ keyId n.
+    bind (kind_at (Text 1 64) s at) (λ key_id n.
     bind (keyed_at s n k_algorithm (algorithm_at s)) (λ algorithm n₁.
     bind (keyed_at s n₁ k_signature_value (kind_at (Bytes 1 72) s)) (λ value n₂.
-    guard (value_fits algorithm value.len) (got (record { key_id = keyId; algorithm = algorithm; value = value }) n₂))))
+    guard (value_fits algorithm value.len) (got (record { key_id = key_id; algorithm = algorithm; value = value }) n₂))))

@@ -1,6 +1,7 @@
 // The entries of the maps of source 002: a key and its value, where a value is a number under a head, a string of a kind, a map of pairs,
 // or a signature; and the fixed byte strings. That each is read exactly is proved in proofs/. No function: here are the types of its
 // definitions; `entries` has the functions.
+#![tactic(auto)]
 
 // What a string is: a text or a byte string of lo to hi bytes, a terminal id, a fay id, or a pattern.
 #[derive(Clone, Copy)]

@@ -45,12 +45,12 @@ many_stop step a at n i h e = sym (many_refused step (n - i) a at (omega arith) 
 pub many_done : {A : Type 0} (step : A → ℕ → Got A) (n i : ℕ) (a : A) (at : ℕ) → n ≤ i → got a at ≡ many step (n - i) a at
 many_done step n i a at h = let e : 0 ≡ n - i = omega arith in sym (many_zero step a at) ∙ ap (λ (k : ℕ). many step k a at) e
 
-module _ {X A G : Type 0} (s : List ℕ) (enc : X → List ℕ) (ok : G → X → Type 0) (stepG : G → X → G) (inv : A → G → Type 0)
+module _ {X A G : Type 0} (s : List ℕ) (enc : X → List ℕ) (ok : G → X → Type 0) (step_g : G → X → G) (inv : A → G → Type 0)
     (view : A → X → ℕ → A) (step : A → ℕ → Got A)
     (each : (a : A) (g : G) (at : ℕ) → inv a g → Reads s at (ok g) enc (λ (x : X). view a x at) (step a at))
-    (keep : (a : A) (g : G) (at : ℕ) (x : X) → inv a g → ok g x → Has s at (enc x) → inv (view a x at) (stepG g x)) where
+    (keep : (a : A) (g : G) (at : ℕ) (x : X) → inv a g → ok g x → Has s at (enc x) → inv (view a x at) (step_g g x)) where
   pub counted : (n : ℕ) (a : A) (g : G) (at : ℕ) → inv a g
-      → Reads s at (λ (xs : List X). (length xs ≡ n) × AllFrom ok stepG g xs) (enc_all enc) (view_all enc view a at) (many step n a at)
+      → Reads s at (λ (xs : List X). (length xs ≡ n) × AllFrom ok step_g g xs) (enc_all enc) (view_all enc view a at) (many step n a at)
   unfolding many
   counted zero a g at i =
       found {n = at} (record {
@@ -64,11 +64,11 @@ module _ {X A G : Type 0} (s : List ℕ) (enc : X → List ℕ) (ok : G → X �
   counted (suc n) a g at i =
       recast
       (seq (λ a' at'. many step n a' at') (each a g at i)
-      (λ x p h. counted n (view a x at) (stepG g x) (at + length (enc x)) (keep a g at x i p h)))
-      (λ xs. (length xs ≡ suc n) × AllFrom ok stepG g xs) (enc_all enc) (view_all enc view a at) (λ v. v.0 ∷ v.1)
+      (λ x p h. counted n (view a x at) (step_g g x) (at + length (enc x)) (keep a g at x i p h)))
+      (λ xs. (length xs ≡ suc n) × AllFrom ok step_g g xs) (enc_all enc) (view_all enc view a at) (λ v. v.0 ∷ v.1)
       (λ v p h. ((ap suc p.1.0, (p.0, p.1.1)), refl, refl))
-      (λ w. elim w as (λ z. (length z ≡ suc n) × AllFrom ok stepG g z → Has s at (enc_all enc z) → (v : X × List X)
-      × (ok g v.0 × ((length v.1 ≡ n) × AllFrom ok stepG (stepG g v.0) v.1))
+      (λ w. elim w as (λ z. (length z ≡ suc n) × AllFrom ok step_g g z → Has s at (enc_all enc z) → (v : X × List X)
+      × (ok g v.0 × ((length v.1 ≡ n) × AllFrom ok step_g (step_g g v.0) v.1))
       × (enc v.0 ++ enc_all enc v.1 ≡ enc_all enc z) × (v.0 ∷ v.1 ≡ z)) [
         | [] ↦ λ p h. absurd (omega (arith, p.0))
         | x ∷ xs ↦ λ p h. ((x, xs), (p.1.0, (omega arith, p.1.1)), refl, refl)

@@ -56,19 +56,19 @@ optional {X} {Y} {R} {Q} {s} {at} {P} {enc} {view} {o} {P₂} {enc₂} {view₂}
     view' : Option X × Y → Q
     view' v = view₂ v.0 v.1
 
-    from-absent : ((h : Has s at b) → ⊥) → (v : Option X × Y) → P' v → Has s at (enc' v)
+    from_absent : ((h : Has s at b) → ⊥) → (v : Option X × Y) → P' v → Has s at (enc' v)
         → (y : Y) × P₂ none y × (enc₂ none y ≡ enc' v) × (◌≡◌ {A = Option X × Y} (none, y) v)
-    from-absent no_key v =
+    from_absent no_key v =
         elim v.0 as (λ x. P' (x, v.1) → Has s at (enc' (x, v.1)) → (y : Y) × P₂ none y × (enc₂ none y ≡ enc' (x, v.1))
         × (◌≡◌ {A = Option X × Y} (none, y) (x, v.1))) [
           | none ↦ λ p h. (v.1, p.1, refl, refl)
           | some x ↦ λ p h. absurd (no_key (has_left s at b (enc x) (has_left s at (b ++ enc x) (enc₂ (some x) v.1) h)))
         ]
 
-    from-present : Has s at b → (v : Option X × Y) → P' v → Has s at (enc' v)
+    from_present : Has s at b → (v : Option X × Y) → P' v → Has s at (enc' v)
         → (z : X × Y) × (P z.0 × P₂ (some z.0) z.1) × (b ++ (enc z.0 ++ enc₂ (some z.0) z.1) ≡ enc' v)
         × (◌≡◌ {A = Option X × Y} (some z.0, z.1) v)
-    from-present key v =
+    from_present key v =
         elim v.0 as (λ x. P' (x, v.1) → Has s at (enc' (x, v.1)) → (z : X × Y) × (P z.0 × P₂ (some z.0) z.1)
         × (b ++ (enc z.0 ++ enc₂ (some z.0) z.1) ≡ enc' (x, v.1)) × (◌≡◌ {A = Option X × Y} (some z.0, z.1) (x, v.1))) [
           | none ↦ λ p h. absurd (apart v.1 p.1 h key)
@@ -88,9 +88,9 @@ optional {X} {Y} {R} {Q} {s} {at} {P} {enc} {view} {o} {P₂} {enc₂} {view₂}
         (f (some x) p (has_join s at b (enc x) key h)))))
         P' enc' view' (λ z. (some z.0, z.1))
         (λ z p h. (p, append_assoc b (enc z.0) (enc₂ (some z.0) z.1), refl))
-        (from-present key))
+        (from_present key))
     go false yes' no' =
         recast (rw add-zero at (f none tt (has_nil s at)))
         P' enc' view' (λ y. (none, y))
         (λ y p h. ((tt, p), refl, refl))
-        (from-absent no')
+        (from_absent no')

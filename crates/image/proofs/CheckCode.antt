@@ -219,12 +219,12 @@ module _ (l : Layout) where
 
   module _ (s : List ℕ) (i r at id mask : ℕ) (b : Bool) (p : FitsAs l s r at id mask b) where
     -- a row that does not fit is not sound
-    pub sound-not : not b ≡ true → SoundAs l s i r at id mask false
-    sound-not t f ei em = rw (sym (p f ei em) ∙ not-true b t)
+    pub sound_not : not b ≡ true → SoundAs l s i r at id mask false
+    sound_not t f ei em = rw (sym (p f ei em) ∙ not-true b t)
 
     -- one that fits is where none of the rows before has its id
-    pub sound-is : not b ≡ false → (c : Bool) → c ≡ id_among l s (row_id s r) i → SoundAs l s i r at id mask (not c)
-    sound-is t c q f ei em = rw (sym (p f ei em) ∙ not-false b t) (ap not q)
+    pub sound_is : not b ≡ false → (c : Bool) → c ≡ id_among l s (row_id s r) i → SoundAs l s i r at id mask (not c)
+    sound_is t c q f ei em = rw (sym (p f ei em) ∙ not-false b t) (ap not q)
 
   -- the code compares the id of row i with the id
   pub id_is : (s id : List ℕ) (i r : ℕ) (b : Bool) → r ≡ row_place l i → b ≡ same (take (r + id_size - r) (drop r s)) id
@@ -279,8 +279,8 @@ module _ (l : Layout) where
     row_other t = goes ∙ guard_no b _ (not_T_of b refl t)
 
     -- another row is answered with what was read of its body, and the place after the body
-    pub row-good : not b ≡ false → on_read o (after_read s i at n) ≡ got f (at + n)
-    row-good t = goes ∙ guard_yes b _ (T_of_not b refl t)
+    pub row_good : not b ≡ false → on_read o (after_read s i at n) ≡ got f (at + n)
+    row_good t = goes ∙ guard_yes b _ (T_of_not b refl t)
 
   -- ---- all rows
 
@@ -297,16 +297,16 @@ module _ (l : Layout) where
   module _ (s id : List ℕ) (n i r at : ℕ) (h : Held) (next : ℕ) (hit : Bool) (m : i < n) (place : r ≡ row_place l i)
       (p : hit ≡ same (take (r + id_size - r) (drop r s)) id) where
     -- the body of a row with the id is held
-    pub rows-hit : (f : Fields) → hit ≡ true → got f next ≡ row_at l s i at
+    pub rows_hit : (f : Fields) → hit ≡ true → got f next ≡ row_at l s i at
         → rows_from l s id (n - i) i at h ≡ rows_from l s id (n - (i + 1)) (i + 1) next (Body i at (next - at) f)
-    rows-hit f t e =
+    rows_hit f t e =
         rows_kept s id n i r at h f next hit m e place p
         ∙ ap (λ (b : Bool). rows_from l s id (n - (i + 1)) (i + 1) next (held_with b h i at (next - at) f)) t
 
     -- that of another row is not
-    pub rows-missed : hit ≡ false → (f : Fields) × (got f next ≡ row_at l s i at)
+    pub rows_missed : hit ≡ false → (f : Fields) × (got f next ≡ row_at l s i at)
         → rows_from l s id (n - i) i at h ≡ rows_from l s id (n - (i + 1)) (i + 1) next h
-    rows-missed t (f, e) =
+    rows_missed t (f, e) =
         rows_kept s id n i r at h f next hit m e place p
         ∙ ap (λ (b : Bool). rows_from l s id (n - (i + 1)) (i + 1) next (held_with b h i at (next - at) f)) t
 
@@ -340,22 +340,22 @@ module _ (l : Layout) where
 
   module _ (s id : List ℕ) (h : header_size ≤ length s) (b : Bool) (p : b ≡ header_fits l s) where
     -- another header is not sound
-    pub check-header : not b ≡ true → Unsound ≡ check_of l s id
+    pub check_header : not b ≡ true → Unsound ≡ check_of l s id
     unfolding checked
-    check-header t = unsound s id (passed_leb header_size (length s) h (failed (header_fits l s) _ (not_T_of b p t)))
+    check_header t = unsound s id (passed_leb header_size (length s) h (failed (header_fits l s) _ (not_T_of b p t)))
 
     -- rows that would end after the bytes are not sound
-    pub check-long : not b ≡ false → (n : ℕ) → n ≡ number_in s count_place header_width → length s < row_place l n → Unsound ≡ check_of l s id
+    pub check_long : not b ≡ false → (n : ℕ) → n ≡ number_in s count_place header_width → length s < row_place l n → Unsound ≡ check_of l s id
     unfolding checked
-    check-long t n e m =
+    check_long t n e m =
         unsound s id (passed_leb header_size (length s) h (passed (header_fits l s) (T_of_not b p t)
         (failed_leb (row_place l (row_count s)) (length s) _ (omega (arith, ap (row_place l) (count_is s n h e))))))
 
     -- else the rows tell
-    pub check-rows : not b ≡ false → (n : ℕ) → n ≡ number_in s count_place header_width → row_place l n ≤ length s → (r : ImageCheck)
+    pub check_rows : not b ≡ false → (n : ℕ) → n ≡ number_in s count_place header_width → row_place l n ≤ length s → (r : ImageCheck)
         → r ≡ check_answer n (rows_from l s id n 0 (row_place l n) Missing) → r ≡ check_of l s id
     unfolding checked check_of
-    check-rows t n e k r q =
+    check_rows t n e k r q =
         q
         ∙ ap (λ (m : ℕ). check_answer m (rows_from l s id m 0 (row_place l m) Missing)) (count_is s n h e)
         ∙ ap (check_answer (row_count s)) (passed_leb header_size (length s) h (passed (header_fits l s) (T_of_not b p t)

@@ -95,8 +95,8 @@ module _ (l : Layout) (ok : LayoutOk l) where
 
   -- d' has the row at r and its body at the place, and is d but for these
   pub record Lowered (d d' : List ℕ) (r at : ℕ) (b : Row) : Type 0 where
-    pub row-there : Has d' r (row l at b)
-    pub body-there : Has d' at b.body
+    pub row_there : Has d' r (row l at b)
+    pub body_there : Has d' at b.body
     pub frame : KeptTwo d d' r (r + row_size l) at (at + length b.body)
 
   -- a body is moved down, and its row's offset follows
@@ -125,8 +125,8 @@ module _ (l : Layout) (ok : LayoutOk l) where
       ≡ d₂
       = ap₂ (λ (m n : ℕ). put_at (moved_down d m at n) (r + offset_place) new) v w ∙ ap (λ (y : List ℕ). put_at y (r + offset_place) new) e₁ in
       subst (λ (y : List ℕ). Lowered d y r at e) (sym eq) (record {
-        row-there = x.0;
-        body-there = kept_has d₁ d₂ r (r + row_size l) at b x.1 h (over_has d at b f₁);
+        row_there = x.0;
+        body_there = kept_has d₁ d₂ r (r + row_size l) at b x.1 h (over_has d at b f₁);
         frame = two_writes d d₁ d₂ r (r + row_size l) at (at + length b) k₁ x.1 (omega arith) h (omega arith);
       })
 
@@ -174,8 +174,8 @@ module _ (l : Layout) (ok : LayoutOk l) where
       let y : Closed d' d'' (i + 1) (at + length b) ps
       = bodies_closed d' ps (i + 1) (at + length b) (p.from + length b) (omega arith) (omega arith) rest apart in
       let m : length (b ++ joined es) ≡ length b + length (joined es) = length-append b (joined es) in
-      let row' : Has d'' r (row l at e) = y.frame.before r (row l at e) (omega (arith, row_length_lem l ok at e)) x.row-there in
-      let body' : Has d'' at b = y.frame.between at b (omega arith) (omega arith) x.body-there in
+      let row' : Has d'' r (row l at e) = y.frame.before r (row l at e) (omega (arith, row_length_lem l ok at e)) x.row_there in
+      let body' : Has d'' at b = y.frame.between at b (omega arith) (omega arith) x.body_there in
       let whole : Closed d d'' i at (p ∷ ps) = record {
         rows = has_both d'' r n next (row l at e) (rows_of l (at + length b) es) (row_length_lem l ok at e) step row' y.rows;
         bodies = has_join d'' at b (joined es) body' y.bodies;

@@ -137,9 +137,9 @@ module _ (l : Layout) (ok : LayoutOk l) where
 
   module _ (d : List ℕ) (rs : List Row) (h : Holds l d rs) (clock : ℕ) where
     -- it is the choice among the rows that the buffer holds
-    pub choice-alike : (more : ℕ) → choice_at l d (length rs) (length (image_of l rs)) clock more ≡ choice_of l (length d) clock rs more
+    pub choice_alike : (more : ℕ) → choice_at l d (length rs) (length (image_of l rs)) clock more ≡ choice_of l (length d) clock rs more
     unfolding choice_at choice_of
-    choice-alike more =
+    choice_alike more =
         let n : ℕ = length rs in
         let few : n ≤ most_rows l = h.rows.few in
         let small : row_place l n + 32768 * n < 4294967296 = place_small l ok n few in
@@ -161,31 +161,31 @@ module _ (l : Layout) (ok : LayoutOk l) where
         × (length c.marks ≡ length rs)
 
     -- so many rows and bytes are left
-    room_by : (c : Chosen) (k e : ℕ) → k + c.removed ≡ length rs → e + c.freed ≡ length (image_of l rs)
+    room_by_lem : (c : Chosen) (k e : ℕ) → k + c.removed ≡ length rs → e + c.freed ≡ length (image_of l rs)
         → room_by (length rs) (length (image_of l rs)) c ≡ cond c.ok (Made k e) NoRoom
-    room_by c k e p q =
+    room_by_lem c k e p q =
         let end : ℕ = length (image_of l rs) in
         let rows : length rs - c.removed ≡ k = omega arith in
         let bytes : end - c.freed ≡ e = omega arith in
         rw (le-leb c.freed end (omega arith), rows, bytes, and-true c.ok)
 
     -- it is so of every new row
-    room-new : (new : Row) → length new.body ≤ longest → RoomFor (length new.body)
+    room_new : (new : Row) → length new.body ≤ longest → RoomFor (length new.body)
     unfolding room_of after_room staying_of
-    room-new new short =
+    room_new new short =
         let more : ℕ = length new.body in
         let end : ℕ = length (image_of l rs) in
         let c : Chosen = choice_of l (length d) clock rs more in
         let k : List Row = kept c.marks rs in
         let x : Ended l ok d clock rs new c = choice_ended l ok d clock rs new in
-        let e : choice_at l d (length rs) end clock more ≡ c = choice-alike more in
+        let e : choice_at l d (length rs) end clock more ≡ c = choice_alike more in
         let made : Room = cond c.ok (Made (length k) (length (image_of l k))) NoRoom in
         let guards : (leb (length rs) (most_rows l) && (leb end (length d) && leb more longest)) ≡ true
         = ap₂ (λ (a b : Bool). a && b) (le-leb (length rs) (most_rows l) h.rows.few)
         (ap₂ (λ (a b : Bool). a && b) (le-leb end (length d) (holds_room l ok d rs h)) (le-leb more longest short)) in
         let says : room_of l d (length rs) end clock more ≡ made
         = ap (λ (t : Bool). cond t (room_by (length rs) end (choice_at l d (length rs) end clock more)) NoRoom) guards
-        ∙ ap (room_by (length rs) end) e ∙ room_by c (length k) (length (image_of l k)) x.going.rows x.going.bytes in (
+        ∙ ap (room_by (length rs) end) e ∙ room_by_lem c (length k) (length (image_of l k)) x.going.rows x.going.bytes in (
           says,
           ap (after_by l d (length rs) end clock more) says
               ∙ go c.ok (length k) (length (image_of l k)) more (ap (λ (y : Chosen). y.marks) e),
@@ -198,7 +198,7 @@ module _ (l : Layout) (ok : LayoutOk l) where
         go false n m more e = refl
 
     -- and so of every length
-    pub room-made : (more : ℕ) → more ≤ longest → RoomFor more
-    room-made more short =
+    pub room_made : (more : ℕ) → more ≤ longest → RoomFor more
+    room_made more short =
         let e : length (replicate {A = ℕ} more 0) ≡ more = length-replicate {A = ℕ} more 0 in
-        subst RoomFor e (room-new (row_of (replicate {A = ℕ} more 0)) (omega arith))
+        subst RoomFor e (room_new (row_of (replicate {A = ℕ} more 0)) (omega arith))

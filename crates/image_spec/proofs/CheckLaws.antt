@@ -97,7 +97,7 @@ module _ (l : Layout) (ok : LayoutOk l) where
     pub reads : reading b.body ≡ Read f
     pub new : has_id (id_of b.body) seen ≡ false
     pub dated : MomentOk l b
-    pub has-row : Has s (row_place l i) (row l at b)
+    pub has_row : Has s (row_place l i) (row l at b)
     pub has_body : Has s at b.body
 
   -- a row that passes the check stands with its body
@@ -119,7 +119,7 @@ module _ (l : Layout) (ok : LayoutOk l) where
           reads = k.reads;
           new = ap (λ (x : List ℕ). has_id x seen) (sym d) ∙ sym (p.ids (row_id s r)) ∙ k.new;
           dated = record { fits = number_below s (r + moment_place l) (moment_size l) bytes };
-          has-row = says_row l ok s r at b bytes (record {
+          has_row = says_row l ok s r at b bytes (record {
             inside = room;
             id = d;
             offset = q.offset;
@@ -137,7 +137,7 @@ module _ (l : Layout) (ok : LayoutOk l) where
   pub stands_says : (s : List ℕ) (seen : List Row) (i at : ℕ) (b : Row) (f : Fields) → at < 4294967296 → Stands s seen i at b f
       → RowSays l ok s (row_place l i) at b
   stands_says s seen i at b f small h = row_says l ok s (row_place l i) at b small (omega (arith, (read_in b.body f h.reads).short))
-      h.dated h.has-row
+      h.dated h.has_row
 
   -- a body that stands with its row passes the check
   pub row_complete : (s : List ℕ) (seen : List Row) (i at : ℕ) (b : Row) (f : Fields) → at < 4294967296 → Past s seen i

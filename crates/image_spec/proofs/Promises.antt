@@ -10,7 +10,7 @@ use Rattle.image_spec.proofs.LayoutLaws as layout
 use Rattle.image_spec.proofs.FindLaws as found
 use Rattle.image_spec.proofs.NamedLaws as named
 use Rattle.image_spec.proofs.LookupLaws as lookup
-use Rattle.image_spec.proofs.NewImageLaws as newBytes
+use Rattle.image_spec.proofs.NewImageLaws as new_bytes
 use Rattle.image_spec.specs.Promises.{UpgradeExactly, UpgradeFinds}
 use Rattle.image_spec.proofs.UpgradeLaws as upgrade
 
@@ -68,7 +68,7 @@ body_handed = lookup.body_handed
 -- ---- a new image
 
 pub new_image : NewImage
-new_image = newBytes.new_image
+new_image = new_bytes.new_image
 
 -- ---- an image of edition 1 turned into one of edition 2
 

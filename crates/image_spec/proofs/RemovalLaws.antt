@@ -71,15 +71,15 @@ module _ (l : Layout) (ok : LayoutOk l) where
     staying = staying_of l (length d) clock rs (length new.body)
 
     -- the answer says whether there is room beside the rows that stay
-    pub choice-room : choice.ok ≡ has_room l d staying new
+    pub choice_room : choice.ok ≡ has_room l d staying new
     unfolding staying_of
-    choice-room = (choice_ended l ok d clock rs new).answer
+    choice_room = (choice_ended l ok d clock rs new).answer
 
     -- where the answer is yes the chosen rows are those that go
-    pub choice-removal : choice.ok ≡ true
+    pub choice_removal : choice.ok ≡ true
         → Removal l d clock rs new (goes_of choice.marks) × (left (goes_of choice.marks) rs ≡ staying)
     unfolding staying_of
-    choice-removal yes' =
+    choice_removal yes' =
         let e : Ended l ok d clock rs new choice = choice_ended l ok d clock rs new in
         let gs : List ℕ = choice.marks in
         let m : Marks clock gs rs = e.going.marks in (
@@ -100,8 +100,8 @@ module _ (l : Layout) (ok : LayoutOk l) where
         )
 
     -- the answer is yes exactly where there is room beside the rows that are not expired
-    pub choice-exactly : choice.ok ≡ has_room l d (unexpired clock rs) new
-    choice-exactly = go choice.ok refl
+    pub choice_exactly : choice.ok ≡ has_room l d (unexpired clock rs) new
+    choice_exactly = go choice.ok refl
       where
         e : Ended l ok d clock rs new choice
         e = choice_ended l ok d clock rs new
@@ -120,9 +120,9 @@ module _ (l : Layout) (ok : LayoutOk l) where
             (kept_unexpired clock choice.marks rs e.going.marks (e.all q))
 
     -- where the new row fits none goes
-    pub fits-none-goes : has_room l d rs new ≡ true → (staying ≡ rs) × (choice.ok ≡ true)
+    pub fits_none_goes : has_room l d rs new ≡ true → (staying ≡ rs) × (choice.ok ≡ true)
     unfolding staying_of choice_of
-    fits-none-goes e =
+    fits_none_goes e =
         let f : fits_in l (asked l ok d clock rs new) 0 0 ≡ true
         = fits_room l ok d clock rs new (marked clock rs) 0 0 (going_first l ok d clock rs new)
         ∙ ap (λ (x : List Row). has_room l d x new) (kept_first clock rs) ∙ e in
@@ -131,6 +131,6 @@ module _ (l : Layout) (ok : LayoutOk l) where
         (ap (λ (x : Chosen). kept x.marks rs) c ∙ kept_first clock rs, ap (λ (x : Chosen). x.ok) c)
 
     -- no row that is not expired is lost
-    pub unexpired-stay : unexpired clock staying ≡ unexpired clock rs
+    pub unexpired_stay : unexpired clock staying ≡ unexpired clock rs
     unfolding staying_of
-    unexpired-stay = unexpired_kept clock choice.marks rs (choice_ended l ok d clock rs new).going.marks
+    unexpired_stay = unexpired_kept clock choice.marks rs (choice_ended l ok d clock rs new).going.marks

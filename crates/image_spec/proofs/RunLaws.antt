@@ -38,13 +38,13 @@ module _ (l : Layout) (ok : LayoutOk l) where
   pub record Run (s : List ℕ) (seen : List Row) (i at : ℕ) (bs : List Row) : Type 0 where
     pub each : AllFrom BodyOk seen_with seen bs
     pub moments : Every (MomentOk l) bs
-    pub has-rows : Has s (row_place l i) (rows_of l at bs)
-    pub has-bodies : Has s at (joined bs)
+    pub has_rows : Has s (row_place l i) (rows_of l at bs)
+    pub has_bodies : Has s at (joined bs)
 
   -- no body stands everywhere
   pub run_none : (s : List ℕ) (seen : List Row) (i at : ℕ) → Run s seen i at []
   unfolding rows_of joined
-  run_none s seen i at = record { each = tt; moments = tt; has-rows = has_nil s (row_place l i); has-bodies = has_nil s at }
+  run_none s seen i at = record { each = tt; moments = tt; has_rows = has_nil s (row_place l i); has_bodies = has_nil s at }
 
   -- the first body stands with its row
   pub run_first : (s : List ℕ) (seen : List Row) (i at : ℕ) (b : Row) (bs : List Row) → Run s seen i at (b ∷ bs)
@@ -57,8 +57,8 @@ module _ (l : Layout) (ok : LayoutOk l) where
           reads = r.1;
           new = g.each.0.new;
           dated = g.moments.0;
-          has-row = has_left s (row_place l i) (row l at b) (rows_of l (at + length b.body) bs) g.has-rows;
-          has_body = has_left s at b.body (joined bs) g.has-bodies;
+          has-row = has_left s (row_place l i) (row l at b) (rows_of l (at + length b.body) bs) g.has_rows;
+          has_body = has_left s at b.body (joined bs) g.has_bodies;
         },
       )
 
@@ -69,10 +69,10 @@ module _ (l : Layout) (ok : LayoutOk l) where
   run_rest s seen i at b bs g = record {
     each = g.each.1;
     moments = g.moments.1;
-    has-rows = has_after s (row_place l i) (row_size l) (row_place l (i + 1)) (row l at b) (rows_of l (at + length b.body) bs)
+    has_rows = has_after s (row_place l i) (row_size l) (row_place l (i + 1)) (row l at b) (rows_of l (at + length b.body) bs)
         (row_length_lem l ok at b) (sym (place_next l i))
-        g.has-rows;
-    has-bodies = has_right s at b.body (joined bs) g.has-bodies;
+        g.has_rows;
+    has_bodies = has_right s at b.body (joined bs) g.has_bodies;
   }
 
   -- a body that stands with its row, and others after it
@@ -82,10 +82,10 @@ module _ (l : Layout) (ok : LayoutOk l) where
   run_more s seen i at b f bs h g = record {
     each = (record { reads = is_read_lem b.body f h.reads; new = h.new }, g.each);
     moments = (h.dated, g.moments);
-    has-rows = has_both s (row_place l i) (row_size l) (row_place l (i + 1)) (row l at b) (rows_of l (at + length b.body) bs)
+    has_rows = has_both s (row_place l i) (row_size l) (row_place l (i + 1)) (row l at b) (rows_of l (at + length b.body) bs)
         (row_length_lem l ok at b) (sym (place_next l i))
-        h.has-row g.has-rows;
-    has-bodies = has_join s at b.body (joined bs) h.has_body g.has-bodies;
+        h.has-row g.has_rows;
+    has_bodies = has_join s at b.body (joined bs) h.has_body g.has_bodies;
   }
 
   -- ---- from the check to the bodies

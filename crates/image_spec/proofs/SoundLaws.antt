@@ -109,9 +109,9 @@ module _ (l : Layout) (ok : LayoutOk l) where
 
   -- the header, the rows and the bodies of an image stand one after the other
   pub record ImageParts (s : List ℕ) (bs : List Row) : Type 0 where
-    pub has-header : Has s 0 (header l (length bs))
-    pub has-rows : Has s (row_place l 0) (rows_of l (row_place l (length bs)) bs)
-    pub has-bodies : Has s (row_place l (length bs)) (joined bs)
+    pub has_header : Has s 0 (header l (length bs))
+    pub has_rows : Has s (row_place l 0) (rows_of l (row_place l (length bs)) bs)
+    pub has_bodies : Has s (row_place l (length bs)) (joined bs)
 
   -- they do so in a buffer that holds the bodies
   pub image_stands : (s : List ℕ) (bs : List Row) → Holds l s bs → ImageParts s bs
@@ -123,9 +123,9 @@ module _ (l : Layout) (ok : LayoutOk l) where
       let r : Has s (row_place l 0) (rows ++ joined bs)
       = has_after s 0 header_size (row_place l 0) (header l n) (rows ++ joined bs) (header_length l n) (sym (place_first l)) w in
       record {
-        has-header = has_left s 0 (header l n) (rows ++ joined bs) w;
-        has-rows = has_left s (row_place l 0) rows (joined bs) r;
-        has-bodies = has_after s (row_place l 0) (length rows) (row_place l n) rows (joined bs) refl (rows_end l ok (row_place l n) bs) r;
+        has_header = has_left s 0 (header l n) (rows ++ joined bs) w;
+        has_rows = has_left s (row_place l 0) rows (joined bs) r;
+        has_bodies = has_after s (row_place l 0) (length rows) (row_place l n) rows (joined bs) refl (rows_end l ok (row_place l n) bs) r;
       }
 
   -- where the header, the rows and the bodies of an image stand one after the other, it stands
@@ -134,13 +134,13 @@ module _ (l : Layout) (ok : LayoutOk l) where
   run_whole s bs w =
       let n : ℕ = length bs in
       let rows : List ℕ = rows_of l (row_place l n) bs in
-      has_both s 0 header_size (row_place l 0) (header l n) (rows ++ joined bs) (header_length l n) (sym (place_first l)) w.has-header
-      (has_both s (row_place l 0) (length rows) (row_place l n) rows (joined bs) refl (rows_end l ok (row_place l n) bs) w.has-rows
-      w.has-bodies)
+      has_both s 0 header_size (row_place l 0) (header l n) (rows ++ joined bs) (header_length l n) (sym (place_first l)) w.has_header
+      (has_both s (row_place l 0) (length rows) (row_place l n) rows (joined bs) refl (rows_end l ok (row_place l n) bs) w.has_rows
+      w.has_bodies)
 
   -- the rows and the bodies of an image that s begins with stand
   pub holds_run : (s : List ℕ) (bs : List Row) → Holds l s bs → Run l ok s [] 0 (row_place l (length bs)) bs
-  holds_run s bs h = let w = image_stands s bs h in record { each = h.rows.each; moments = h.rows.moments; has-rows = w.has-rows; has-bodies = w.has-bodies }
+  holds_run s bs h = let w = image_stands s bs h in record { each = h.rows.each; moments = h.rows.moments; has_rows = w.has_rows; has_bodies = w.has_bodies }
 
   -- an image that s begins with lies within s
   pub holds_room : (s : List ℕ) (bs : List Row) → Holds l s bs → length (image_of l bs) ≤ length s
@@ -149,7 +149,7 @@ module _ (l : Layout) (ok : LayoutOk l) where
 
   -- its header says how many bodies it has
   pub holds_says : (s : List ℕ) (bs : List Row) → Holds l s bs → HeaderSays s (length bs)
-  holds_says s bs h = header_says s (length bs) (omega (arith, h.rows.few, ok.few)) (image_stands s bs h).has-header
+  holds_says s bs h = header_says s (length bs) (omega (arith, h.rows.few, ok.few)) (image_stands s bs h).has_header
 
   -- the row count is the number of bodies
   pub count_of : (s : List ℕ) (bs : List Row) → Holds l s bs → row_count s ≡ length bs
@@ -203,9 +203,9 @@ module _ (l : Layout) (ok : LayoutOk l) where
       let c : length bs ≡ n = y.1 in
       let g : Run l ok s [] 0 (row_place l (length bs)) bs = subst (λ (m : ℕ). Run l ok s [] 0 (row_place l m) bs) (sym c) y.2 in
       let w : ImageParts s bs = record {
-        has-header = subst (λ (m : ℕ). Has s 0 (header l m)) (sym c) (says_header s n bytes q.0);
-        has-rows = g.has-rows;
-        has-bodies = g.has-bodies;
+        has_header = subst (λ (m : ℕ). Has s 0 (header l m)) (sym c) (says_header s n bytes q.0);
+        has_rows = g.has_rows;
+        has_bodies = g.has_bodies;
       } in (
         bs,
         has_holds s bs (record { few = omega (arith, c, q.1); each = g.each; moments = g.moments }) (run_whole s bs w),

@@ -102,30 +102,30 @@ module _ (l : Layout) (ok : LayoutOk l) where
     gs = (choice_of l (length d) clock rs (length new.body)).marks
 
     module _ (short : length new.body ≤ 32768) where
-      marks-long : length gs ≡ length rs
-      marks-long = (room_made l ok d rs h clock (length new.body) short).2
+      marks_long : length gs ≡ length rs
+      marks_long = (room_made l ok d rs h clock (length new.body) short).2
 
       -- the buffer comes to hold them
       closed : closed_up l d gs ≡ with_rows l d ks
       unfolding staying_of
-      closed = closed_up_lem l ok d rs gs h marks-long
+      closed = closed_up_lem l ok d rs gs h marks_long
 
       holds_kept : Holds l (with_rows l d ks) ks
       unfolding staying_of
-      holds_kept = kept_holds l ok d rs gs h marks-long
+      holds_kept = kept_holds l ok d rs gs h marks_long
 
-      fits-buffer : length (image_of l ks) ≤ length d
+      fits_buffer : length (image_of l ks) ≤ length d
       unfolding staying_of
-      fits-buffer = omega (arith, image_kept gs rs, holds_room l ok d rs h)
+      fits_buffer = omega (arith, image_kept gs rs, holds_room l ok d rs h)
 
       -- the buffer after room was made
-      after-room : (choice_of l (length d) clock rs (length new.body)).ok ≡ true
+      after_room_lem : (choice_of l (length d) clock rs (length new.body)).ok ≡ true
           → after_room l d (length rs) (length (image_of l rs)) clock (length new.body) ≡ with_rows l d ks
-      after-room e = (room_made l ok d rs h clock (length new.body) short).1 ∙ ap (λ (t : Bool). cond t (closed_up l d gs) d) e ∙ closed
+      after_room_lem e = (room_made l ok d rs h clock (length new.body) short).1 ∙ ap (λ (t : Bool). cond t (closed_up l d gs) d) e ∙ closed
 
       -- there is room beside them
-      room-kept : (choice_of l (length d) clock rs (length new.body)).ok ≡ true → has_room l (with_rows l d ks) ks new ≡ true
-      room-kept e = room_over d ks new fits-buffer ∙ sym (choice_room l ok d clock rs new) ∙ e
+      room_kept : (choice_of l (length d) clock rs (length new.body)).ok ≡ true → has_room l (with_rows l d ks) ks new ≡ true
+      room_kept e = room_over d ks new fits_buffer ∙ sym (choice_room l ok d clock rs new) ∙ e
 
   -- `StoredAfterFor`
   pub stored_after : StoredAfterFor l
@@ -133,8 +133,8 @@ module _ (l : Layout) (ok : LayoutOk l) where
       let short : length new.body ≤ 32768 = (read_in new.body f reads).short in
       let k : List Row = ks d clock rs new h in
       let w : List ℕ = with_rows l d k in
-      let after = after-room d clock rs new h short e in
-      let room : has_room l w k new ≡ true = room-kept d clock rs new h short e in
+      let after = after_room_lem d clock rs new h short e in
+      let room : has_room l w k new ≡ true = room_kept d clock rs new h short e in
       let a = body_added l ok w k new f (holds_kept d clock rs new h short) reads in (
         ap (λ (x : List ℕ). added_of l x (length k) (length (image_of l k)) new.body f.id) after
             ∙ a.0 ∙ ap (λ (t : Bool). cond t Done Full) room,
@@ -223,5 +223,5 @@ module _ (l : Layout) (ok : LayoutOk l) where
       let short : length new.body ≤ 32768 = (read_in new.body f.0 f.1).short in
       let k : List Row = staying_of l (length d) clock rs (length new.body) in
       subst (λ (x : List ℕ). Holds l x (k ++ (new ∷ []))) (body_over l ok d k new)
-      ((one_more l ok).holds (with_rows l d k) k new (holds_kept l ok d clock rs new h short) (room-kept l ok d clock rs new h short e) reads
+      ((one_more l ok).holds (with_rows l d k) k new (holds_kept l ok d clock rs new h short) (room_kept l ok d clock rs new h short e) reads
       (kept_new d clock rs new (id_of new.body) h e n) dated)

@@ -7,7 +7,7 @@ use Rattle.image_spec.specs.Layout.{edition2}
 use Rattle.image_spec.specs.Image.{Row}
 use Rattle.image_spec.specs.Image as image
 use Rattle.image_spec.specs.Check as check
-use Rattle.image_spec.specs.NewImage as newBytes
+use Rattle.image_spec.specs.NewImage as new_bytes
 use Rattle.image_spec.specs.Grow as grow
 
 -- ---- the image of a list of rows
@@ -39,7 +39,7 @@ abbrev pub rows_held : List ℕ → List Row
 rows_held = check.rows_held edition2
 
 abbrev pub after_new : List ℕ → List ℕ
-after_new = newBytes.after_new edition2
+after_new = new_bytes.after_new edition2
 
 abbrev pub added_of : List ℕ → ℕ → ℕ → List ℕ → ℕ → Added
 added_of = grow.added_of edition2

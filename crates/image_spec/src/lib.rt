@@ -1,6 +1,8 @@
 // The stored image of document 01, as document 02 §5 amends it: a table of contents, then the bodies. What is promised is in
 // specs/Promises.antt. No function: here are the layout and the types of what is answered; `image`, `image_write` and `removal` have the
 // functions.
+#![tactic(auto)]
+
 pub mod layout;
 
 use descriptor_spec::Fields;

@@ -82,15 +82,15 @@ module _ (from to : Layout) (old : List ℕ) where
 
   module _ (d : List ℕ) (v : ImageCheck) (e : v ≡ check_of from old []) where
     -- the old image is not sound
-    pub upgrade-bad : v ≡ Unsound
+    pub upgrade_bad : v ≡ Unsound
         → (BadImage ≡ upgrade_by from to d (check_of from old [])) × (d ≡ after_by from to old d (check_of from old []))
-    upgrade-bad f = (sym (ap (upgrade_by from to d) (sym e ∙ f)), sym (ap (after_by from to old d) (sym e ∙ f)))
+    upgrade_bad f = (sym (ap (upgrade_by from to d) (sym e ∙ f)), sym (ap (after_by from to old d) (sym e ∙ f)))
 
     module _ (n end x y : ℕ) (h : Held) (f : v ≡ Sound n end h) (ex : x ≡ row_place to n) (ey : y ≡ row_place from n) where
       -- it is, and the new one exceeds the buffer
-      pub upgrade-short : length d < end + (x - y)
+      pub upgrade_short : length d < end + (x - y)
           → (TooShort ≡ upgrade_by from to d (check_of from old [])) × (d ≡ after_by from to old d (check_of from old []))
-      upgrade-short s =
+      upgrade_short s =
           let no_room : leb (new_length from to n end) (length d) ≡ false
           = lt-leb (new_length from to n end) (length d) (omega (arith, ex, ey)) in (
             sym (ap (upgrade_by from to d) (sym e ∙ f) ∙ rw no_room),
@@ -98,13 +98,13 @@ module _ (from to : Layout) (old : List ℕ) where
           )
 
       -- it does not
-      pub upgrade-room : end + (x - y) ≤ length d → new_length from to n end ≤ length d
-      upgrade-room r = omega (arith, ex, ey)
+      pub upgrade_room : end + (x - y) ≤ length d → new_length from to n end ≤ length d
+      upgrade_room r = omega (arith, ex, ey)
 
-      pub upgrade-done : (d' : List ℕ) → end + (x - y) ≤ length d → d' ≡ copied from to old d n end
+      pub upgrade_done : (d' : List ℕ) → end + (x - y) ≤ length d → d' ≡ copied from to old d n end
           → (Upgraded (end + (x - y)) ≡ upgrade_by from to d (check_of from old [])) × (d' ≡ after_by from to old d (check_of from old []))
-      upgrade-done d' r w =
-          let fits : leb (new_length from to n end) (length d) ≡ true = le-leb (new_length from to n end) (length d) (upgrade-room r) in
+      upgrade_done d' r w =
+          let fits : leb (new_length from to n end) (length d) ≡ true = le-leb (new_length from to n end) (length d) (upgrade_room r) in
           let same_length : end + (x - y) ≡ new_length from to n end = omega (arith, ex, ey) in (
             ap Upgraded same_length ∙ sym (ap (upgrade_by from to d) (sym e ∙ f) ∙ rw fits),
             w ∙ sym (ap (after_by from to old d) (sym e ∙ f) ∙ rw fits),

@@ -111,9 +111,9 @@ module _ (l : Layout) where
 
   module _ (d : List ℕ) (n end : ℕ) (b : List ℕ) (id mask used : ℕ) (t : Bool) (e : t ≡ fits l d n end b id) where
     -- what does not fit is not added
-    pub add-full : not t ≡ true → (Full ≡ added_of l d n end b id) × (d ≡ after_add l d n end b id mask used)
+    pub add_full : not t ≡ true → (Full ≡ added_of l d n end b id) × (d ≡ after_add l d n end b id mask used)
     unfolding added_of after_add
-    add-full f = let k = sym e ∙ not-true t f in (rw k, rw k)
+    add_full f = let k = sym e ∙ not-true t f in (rw k, rw k)
 
     -- what fits is added
     pub add_done : not t ≡ false → (d' : List ℕ) → d' ≡ grown l d n end b id mask used

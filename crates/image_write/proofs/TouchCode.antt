@@ -23,23 +23,23 @@ module _ (l : Layout) (d : List ℕ) where
     is_later = f ∙ ap (λ (u : Seconds). ltb u.0 t.0) e
 
     -- the moment is not later
-    pub raise-not : not b ≡ true → d ≡ raised_at l d r t.0
+    pub raise_not : not b ≡ true → d ≡ raised_at l d r t.0
     unfolding raised_at
-    raise-not g = rw (sym is_later ∙ not-true b g)
+    raise_not g = rw (sym is_later ∙ not-true b g)
 
     -- it is, and is written
-    pub raise-done : (d' : List ℕ) → not b ≡ false → d' ≡ put_at d (r + moment_place l) (big_endian (moment_size l) t.0)
+    pub raise_done : (d' : List ℕ) → not b ≡ false → d' ≡ put_at d (r + moment_place l) (big_endian (moment_size l) t.0)
         → d' ≡ raised_at l d r t.0
     unfolding raised_at
-    raise-done d' g w = rw (sym is_later ∙ not-false b g) w
+    raise_done d' g w = rw (sym is_later ∙ not-false b g) w
 
   module _ (i r t : ℕ) (e : r ≡ place_within l i) where
     -- the row does not lie in the bytes
-    pub touch-not : length d < r + row_size l → d ≡ touched_at l d i t
+    pub touch_not : length d < r + row_size l → d ≡ touched_at l d i t
     unfolding touched_at
-    touch-not h = rw (← e, lt-leb (r + row_size l) (length d) h)
+    touch_not h = rw (← e, lt-leb (r + row_size l) (length d) h)
 
     -- it does
-    pub touch-done : (d' : List ℕ) → r + row_size l ≤ length d → d' ≡ raised_at l d r t → d' ≡ touched_at l d i t
+    pub touch_done : (d' : List ℕ) → r + row_size l ≤ length d → d' ≡ raised_at l d r t → d' ≡ touched_at l d i t
     unfolding touched_at
-    touch-done d' h w = rw (← e, le-leb (r + row_size l) (length d) h) w
+    touch_done d' h w = rw (← e, le-leb (r + row_size l) (length d) h) w

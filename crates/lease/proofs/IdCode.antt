@@ -275,8 +275,8 @@ module _ (s : List ℕ) (n i : ℕ) (seen : List Bool) (room : lease_size * n �
         ∙ sym et
 
     -- an id that is found there is in two rows
-    pub marked-twice : t ≡ true → false ≡ ids_differ (rows_from s 0 n)
-    marked-twice g =
+    pub marked_twice : t ≡ true → false ≡ ids_differ (rows_from s 0 n)
+    marked_twice g =
         sym (differ_back s n (i - 1) (omega (arith, d.inside)) (differ_more s n i pos d.inside d.differ true (searched ∙ g)))
 
     -- another one is not

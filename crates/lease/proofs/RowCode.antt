@@ -52,12 +52,12 @@ module _ (s : List ℕ) (at : ℕ) where
     read_is place width h k e = e ∙ number_in_lem s (at + place) width h (omega arith)
 
     -- the numbers that are read are those of the lease
-    pub lease-is : {f a b c d t : ℕ} → f ≡ number_in s (at + flag_place) flag_width → a ≡ number_in s (at + last_sync_place) number_width
+    pub lease_is : {f a b c d t : ℕ} → f ≡ number_in s (at + flag_place) flag_width → a ≡ number_in s (at + last_sync_place) number_width
         → b ≡ number_in s (at + ttl_place) number_width → c ≡ number_in s (at + grace_place) number_width
         → d ≡ number_in s (at + skew_place) number_width → t ≡ number_in s (at + tolerance_place) number_width
         → lease_with f a b c d t ≡ lease_at s at
     unfolding lease_at
-    lease-is ef ea eb ec ed et =
+    lease_is ef ea eb ec ed et =
         rw (
           read_is flag_place flag_width (omega arith) (omega arith) ef,
           read_is last_sync_place number_width (omega arith) (omega arith) ea,
@@ -68,48 +68,48 @@ module _ (s : List ℕ) (at : ℕ) where
         )
 
     -- where it may not stand there is no row
-    row-not : row_ok s at ≡ false → NoLease ≡ lease_read s at
+    row_not : row_ok s at ≡ false → NoLease ≡ lease_read s at
     unfolding lease_read
-    row-not h = rw (h, and_false (leb (at + lease_size) (length s)))
+    row_not h = rw (h, and_false (leb (at + lease_size) (length s)))
 
     module _ {f : ℕ} (ef : f ≡ number_in s (at + flag_place) flag_width) where
       -- a row with a flag above 1 may not stand
-      pub flag-bad : 1 < f → NoLease ≡ lease_read s at
+      pub flag_bad : 1 < f → NoLease ≡ lease_read s at
       unfolding row_ok
-      flag-bad h =
+      flag_bad h =
           let e = read_is flag_place flag_width (omega arith) (omega arith) ef in
-          row-not (rw (lt-leb (number_at s (at + flag_place) flag_width) 1 (omega arith)))
+          row_not (rw (lt-leb (number_at s (at + flag_place) flag_width) 1 (omega arith)))
 
       module _ (hf : f ≤ 1) {z : ℕ} (ez : z ≡ number_in s (at + zero_place) zero_width) where
         -- what the flag says of a row that goes on
-        flag-good : leb (number_at s (at + flag_place) flag_width) 1 ≡ true
-        flag-good =
+        flag_good : leb (number_at s (at + flag_place) flag_width) 1 ≡ true
+        flag_good =
             let e = read_is flag_place flag_width (omega arith) (omega arith) ef in
             le-leb (number_at s (at + flag_place) flag_width) 1 (omega arith)
 
         -- nor may one whose seven bytes are not zero
-        pub zero-bad : (z ≡ 0 → ⊥) → NoLease ≡ lease_read s at
+        pub zero_bad : (z ≡ 0 → ⊥) → NoLease ≡ lease_read s at
         unfolding row_ok
-        zero-bad h =
+        zero_bad h =
             let e = read_is zero_place zero_width (omega arith) (omega arith) ez in
-            row-not (rw (flag-good, ne_eqb (number_at s (at + zero_place) zero_width) 0 (λ o. h (e ∙ o))))
+            row_not (rw (flag_good, ne_eqb (number_at s (at + zero_place) zero_width) 0 (λ o. h (e ∙ o))))
 
         module _ (hz : z ≡ 0) {l : Lease} (el : l ≡ lease_at s at) {b : Bool} (eb : b ≡ lease_ok l) where
           -- of another one the limits tell
-          limits-tell : row_ok s at ≡ b
+          limits_tell : row_ok s at ≡ b
           unfolding row_ok
-          limits-tell =
+          limits_tell =
               let e = read_is zero_place zero_width (omega arith) (omega arith) ez in
-              rw (flag-good, eq-eqb (number_at s (at + zero_place) zero_width) 0 (sym e ∙ hz)) (sym (eb ∙ ap lease_ok el))
+              rw (flag_good, eq-eqb (number_at s (at + zero_place) zero_width) 0 (sym e ∙ hz)) (sym (eb ∙ ap lease_ok el))
 
           -- a lease outside the limits may not stand
-          pub lease-bad : not b ≡ true → NoLease ≡ lease_read s at
-          lease-bad h = row-not (limits-tell ∙ not-true b h)
+          pub lease_bad : not b ≡ true → NoLease ≡ lease_read s at
+          lease_bad h = row_not (limits_tell ∙ not-true b h)
 
           -- another one is the row's
-          pub row-good : not b ≡ false → IsLease l ≡ lease_read s at
+          pub row_good : not b ≡ false → IsLease l ≡ lease_read s at
           unfolding lease_read
-          row-good h = ap IsLease el ∙ rw (le-leb (at + lease_size) (length s) room, limits-tell ∙ not-false b h)
+          row_good h = ap IsLease el ∙ rw (le-leb (at + lease_size) (length s) room, limits_tell ∙ not-false b h)
 
 -- ---- the rows
 
@@ -144,19 +144,19 @@ lent_id s id at e = ap (λ (x : List ℕ). same x id) (sym (lent_part s at id_si
 module _ (s id : List ℕ) (i n : ℕ) where
   module _ (h : i < n) {b : Bool} (e : b ≡ same (take (lease_size * i + id_size - lease_size * i) (drop (lease_size * i) s)) id) where
     -- one of the rows from row i on has the id where row i has it, or one after it
-    id-turn : has_id (rows_from s i (n - i)) id ≡ (b || has_id (rows_from s (i + 1) (n - (i + 1))) id)
+    id_turn : has_id (rows_from s i (n - i)) id ≡ (b || has_id (rows_from s (i + 1) (n - (i + 1))) id)
     unfolding has_id
-    id-turn =
+    id_turn =
         ap (λ (rs : List Row). has_id rs id) (rows_first s i n h)
         ∙ ap (λ (t : Bool). t || has_id (rows_from s (i + 1) (n - (i + 1))) id) (lent_id s id (lease_size * i) e)
 
     -- where row i has it, one has
-    pub id-hit : b ≡ true → has_id (rows_from s i (n - i)) id ≡ true
-    id-hit f = id-turn ∙ rw f
+    pub id_hit : b ≡ true → has_id (rows_from s i (n - i)) id ≡ true
+    id_hit f = id_turn ∙ rw f
 
     -- else the rows after it tell
     pub id_next : b ≡ false → has_id (rows_from s i (n - i)) id ≡ has_id (rows_from s (i + 1) (n - (i + 1))) id
-    id_next f = id-turn ∙ rw f
+    id_next f = id_turn ∙ rw f
 
   -- no row has it where none is left
   pub id_none : n ≤ i → has_id (rows_from s i (n - i)) id ≡ false
@@ -245,28 +245,28 @@ module _ (s id : List ℕ) (n i : ℕ) (found : LeaseFound) (room : lease_size *
   module _ {o : LeaseRead} (eo : o ≡ lease_read s (lease_size * (i - 1))) {l : Lease} (fo : o ≡ IsLease l) {b : Bool}
       (eb : b ≡ same (take (lease_size * (i - 1) + id_size - lease_size * (i - 1)) (drop (lease_size * (i - 1)) s)) id) where
     -- what was read is the lease of row i - 1
-    lease-told : (row_ok s (lease_size * (i - 1)) ≡ true) × (l ≡ lease_at s (lease_size * (i - 1)))
-    lease-told = row_told s (lease_size * (i - 1)) l (sym fo ∙ eo)
+    lease_told : (row_ok s (lease_size * (i - 1)) ≡ true) × (l ≡ lease_at s (lease_size * (i - 1)))
+    lease_told = row_told s (lease_size * (i - 1)) l (sym fo ∙ eo)
 
     -- the lease under the id is that of row i - 1 where this has the id, else the one under it in the rows after it
-    under-turn : lease_under (rows_from s (i - 1) (n - (i - 1))) id ≡ cond b (some l) (lease_under (rows_from s i (n - i)) id)
+    under_turn : lease_under (rows_from s (i - 1) (n - (i - 1))) id ≡ cond b (some l) (lease_under (rows_from s i (n - i)) id)
     unfolding lease_under row_at
-    under-turn =
+    under_turn =
         ap (λ (rs : List Row). lease_under rs id) (rows_turn s i n pos d.inside)
         ∙ ap₂ (λ (t : Bool) (x : Lease). cond t (some x) (lease_under (rows_from s i (n - i)) id))
-        (lent_id s id (lease_size * (i - 1)) eb) (sym lease-told.1)
+        (lent_id s id (lease_size * (i - 1)) eb) (sym lease_told.1)
 
     -- where row i - 1 has the id, its lease is found
-    pub sought-hit : b ≡ true → Sought s id n (i - 1) (Found l)
-    sought-hit f =
-        let e : lease_under (rows_from s (i - 1) (n - (i - 1))) id ≡ some l = under-turn ∙ rw f in
-        record { inside = omega (arith, d.inside); good = ok_turn ∙ lease-told.0; has = sym (ap found_of e) }
+    pub sought_hit : b ≡ true → Sought s id n (i - 1) (Found l)
+    sought_hit f =
+        let e : lease_under (rows_from s (i - 1) (n - (i - 1))) id ≡ some l = under_turn ∙ rw f in
+        record { inside = omega (arith, d.inside); good = ok_turn ∙ lease_told.0; has = sym (ap found_of e) }
 
     -- else what was found stays
-    pub sought-miss : b ≡ false → Sought s id n (i - 1) found
-    sought-miss f =
-        let e : lease_under (rows_from s (i - 1) (n - (i - 1))) id ≡ lease_under (rows_from s i (n - i)) id = under-turn ∙ rw f in
-        record { inside = omega (arith, d.inside); good = ok_turn ∙ lease-told.0; has = d.has ∙ sym (ap found_of e) }
+    pub sought_miss : b ≡ false → Sought s id n (i - 1) found
+    sought_miss f =
+        let e : lease_under (rows_from s (i - 1) (n - (i - 1))) id ≡ lease_under (rows_from s i (n - i)) id = under_turn ∙ rw f in
+        record { inside = omega (arith, d.inside); good = ok_turn ∙ lease_told.0; has = d.has ∙ sym (ap found_of e) }
 
 -- ---- the whole table
 
@@ -278,14 +278,14 @@ module _ (s id : List ℕ) where
 
   module _ (h : length s % lease_size ≡ 0) {b : Bool} (e : b ≡ ids_differ (rows_from s 0 (length s / lease_size))) where
     -- rows of which two have one id are none
-    pub table-twice : not b ≡ true → Malformed ≡ find_in s id
+    pub table_twice : not b ≡ true → Malformed ≡ find_in s id
     unfolding find_in table_ok rows_of
-    table-twice f = rw (eq-eqb (length s % lease_size) 0 h, sym e ∙ not-true b f, and_false (rows_ok s 0 (length s / lease_size)))
+    table_twice f = rw (eq-eqb (length s % lease_size) 0 h, sym e ∙ not-true b f, and_false (rows_ok s 0 (length s / lease_size)))
 
     -- of other ones the search tells
-    pub table-search : not b ≡ false → {r : LeaseFound}
+    pub table_search : not b ≡ false → {r : LeaseFound}
         → r ≡ cond (rows_ok s 0 (length s / lease_size)) (found_of (lease_under (rows_from s 0 (length s / lease_size)) id)) Malformed
         → r ≡ find_in s id
     unfolding find_in table_ok rows_of
-    table-search f g =
+    table_search f g =
         g ∙ rw (eq-eqb (length s % lease_size) 0 h, sym e ∙ not-false b f, and-true (rows_ok s 0 (length s / lease_size)))

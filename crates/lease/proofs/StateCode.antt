@@ -38,21 +38,21 @@ module _ (l : Lease) {a : Bool} (ea : a ≡ ltb latest l.last_sync.0) where
 
   module _ (fa : a ≡ false) {b : Bool} (eb : b ≡ ltb l.ttl.0 length_end) where
     -- so is one with too long a ttl
-    pub long-ttl : not b ≡ true → false ≡ lease_ok l
+    pub long_ttl : not b ≡ true → false ≡ lease_ok l
     unfolding lease_ok
-    long-ttl h = rw (not_before_leb latest l.last_sync.0 ea fa, sym eb ∙ not-true b h)
+    long_ttl h = rw (not_before_leb latest l.last_sync.0 ea fa, sym eb ∙ not-true b h)
 
     module _ (fb : not b ≡ false) {c : Bool} (ec : c ≡ ltb l.grace.0 length_end) where
       -- and one with too long a grace
-      pub long-grace : not c ≡ true → false ≡ lease_ok l
+      pub long_grace : not c ≡ true → false ≡ lease_ok l
       unfolding lease_ok
-      long-grace h = rw (not_before_leb latest l.last_sync.0 ea fa, sym eb ∙ not-false b fb, sym ec ∙ not-true c h)
+      long_grace h = rw (not_before_leb latest l.last_sync.0 ea fa, sym eb ∙ not-false b fb, sym ec ∙ not-true c h)
 
       module _ (fc : not c ≡ false) {d : Bool} (ed : d ≡ ltb longest_skew l.skew.0) where
         -- and one with too long a skew
-        pub long-skew : d ≡ true → false ≡ lease_ok l
+        pub long_skew : d ≡ true → false ≡ lease_ok l
         unfolding lease_ok
-        long-skew h =
+        long_skew h =
             rw (
               not_before_leb latest l.last_sync.0 ea fa,
               sym eb ∙ not-false b fb,
@@ -61,9 +61,9 @@ module _ (l : Lease) {a : Bool} (ea : a ≡ ltb latest l.last_sync.0) where
             )
 
         -- of another one the tolerance tells
-        pub tolerance-tells : d ≡ false → {t : Bool} → t ≡ ltb longest_skew l.tolerance.0 → not t ≡ lease_ok l
+        pub tolerance_tells : d ≡ false → {t : Bool} → t ≡ ltb longest_skew l.tolerance.0 → not t ≡ lease_ok l
         unfolding lease_ok
-        tolerance-tells fd {t} et =
+        tolerance_tells fd {t} et =
             rw (
               not_before_leb latest l.last_sync.0 ea fa,
               sym eb ∙ not-false b fb,
@@ -116,18 +116,18 @@ module _ (l : Lease) (ok : lease_ok l ≡ true) {t : Milliseconds} (et : t ≡ i
 
   module _ {g : Milliseconds} (eg : g ≡ in_milliseconds l.grace) {q : Milliseconds} (eq : q ≡ sum_held p g) where
     -- the grace is added to them
-    grace-sum : q.0 ≡ l.last_sync.0 + l.ttl.0 * per_second + l.grace.0 * per_second
-    grace-sum =
+    grace_sum : q.0 ≡ l.last_sync.0 + l.ttl.0 * per_second + l.grace.0 * per_second
+    grace_sum =
         let f = scaled l.grace g (tests_within l ok).grace eg in
         let h = added p g eq (omega (arith, tests_within l ok, sync_sum, f)) in
         omega (arith, sync_sum, f, h)
 
     -- with the tolerance these three are the last stale millisecond
-    pub stale-is : {r : Milliseconds} → r ≡ sum_held q l.tolerance → r ≡ milliseconds (last_stale l)
+    pub stale_is : {r : Milliseconds} → r ≡ sum_held q l.tolerance → r ≡ milliseconds (last_stale l)
     unfolding last_stale
-    stale-is er =
-        let f = added q l.tolerance er (omega (arith, tests_within l ok, grace-sum)) in
-        ap milliseconds (omega (arith, grace-sum, f))
+    stale_is er =
+        let f = added q l.tolerance er (omega (arith, tests_within l ok, grace_sum)) in
+        ap milliseconds (omega (arith, grace_sum, f))
 
 -- ---- the margin
 
@@ -156,67 +156,67 @@ module _ (l : Lease) (n : ℕ) where
 
   module _ (fr : l.revoked ≡ false) {a : Bool} (ea : a ≡ is_future l n) where
     -- one whose last sync lies too far after the clock is future
-    pub state-future : a ≡ true → states.Future ≡ state_within l n
+    pub state_future : a ≡ true → states.Future ≡ state_within l n
     unfolding state_within is_future
-    state-future h = rw (fr, sym ea ∙ h)
+    state_future h = rw (fr, sym ea ∙ h)
 
     module _ (fa : a ≡ false) {end : Milliseconds} (ee : end ≡ milliseconds (last_active l)) {b : Bool} (eb : b ≡ ltb end.0 n) where
       -- what was answered for the last active millisecond
-      active-test : b ≡ ltb (last_active l) n
-      active-test = eb ∙ ap (λ (x : Milliseconds). ltb x.0 n) ee
+      active_test : b ≡ ltb (last_active l) n
+      active_test = eb ∙ ap (λ (x : Milliseconds). ltb x.0 n) ee
 
       -- one is active up to the last active millisecond
-      pub state-active : not b ≡ true → {m : Margin} → m ≡ margin_of l n → states.Active m ≡ state_within l n
+      pub state_active : not b ≡ true → {m : Margin} → m ≡ margin_of l n → states.Active m ≡ state_within l n
       unfolding state_within margin_of is_future last_active
-      state-active h e = ap states.Active e ∙ rw (fr, sym ea ∙ fa, not_before_leb (last_active l) n active-test (not-true b h))
+      state_active h e = ap states.Active e ∙ rw (fr, sym ea ∙ fa, not_before_leb (last_active l) n active_test (not-true b h))
 
       module _ (fb : not b ≡ false) {last : Milliseconds} (el : last ≡ milliseconds (last_stale l)) {c : Bool}
           (ec : c ≡ ltb last.0 n) where
         -- what was answered for the last stale millisecond
-        stale-test : c ≡ ltb (last_stale l) n
-        stale-test = ec ∙ ap (λ (x : Milliseconds). ltb x.0 n) el
+        stale_test : c ≡ ltb (last_stale l) n
+        stale_test = ec ∙ ap (λ (x : Milliseconds). ltb x.0 n) el
 
         -- it is stale up to the last stale millisecond
-        pub state-stale : not c ≡ true → {m : Margin} → m ≡ margin_of l n → states.Stale m ≡ state_within l n
+        pub state_stale : not c ≡ true → {m : Margin} → m ≡ margin_of l n → states.Stale m ≡ state_within l n
         unfolding state_within margin_of is_future last_active last_stale
-        state-stale h e =
+        state_stale h e =
             ap states.Stale e
             ∙ rw (
               fr,
               sym ea ∙ fa,
-              before_leb (last_active l) n active-test (not-false b fb),
-              not_before_leb (last_stale l) n stale-test (not-true c h),
+              before_leb (last_active l) n active_test (not-false b fb),
+              not_before_leb (last_stale l) n stale_test (not-true c h),
             )
 
         -- and expired after that
-        pub state-expired : not c ≡ false → states.Expired ≡ state_within l n
+        pub state_expired : not c ≡ false → states.Expired ≡ state_within l n
         unfolding state_within is_future last_active last_stale
-        state-expired h =
+        state_expired h =
             rw (
               fr,
               sym ea ∙ fa,
-              before_leb (last_active l) n active-test (not-false b fb),
-              before_leb (last_stale l) n stale-test (not-false c h),
+              before_leb (last_active l) n active_test (not-false b fb),
+              before_leb (last_stale l) n stale_test (not-false c h),
             )
 
   module _ {a : Bool} (ea : a ≡ lease_ok l) where
     -- a lease outside the limits
-    pub lease-outside : not a ≡ true → states.Outside ≡ state_of l n
+    pub lease_outside : not a ≡ true → states.Outside ≡ state_of l n
     unfolding state_of
-    lease-outside h = rw (sym ea ∙ not-true a h)
+    lease_outside h = rw (sym ea ∙ not-true a h)
 
     module _ (fa : not a ≡ false) {b : Bool} (eb : b ≡ ltb latest n) where
       -- a clock outside its limit
-      pub clock-outside : b ≡ true → states.Outside ≡ state_of l n
+      pub clock_outside : b ≡ true → states.Outside ≡ state_of l n
       unfolding state_of clock_ok
-      clock-outside h = rw (sym ea ∙ not-false a fa, before_leb latest n eb h)
+      clock_outside h = rw (sym ea ∙ not-false a fa, before_leb latest n eb h)
 
       -- both are within the limits
-      pub both-within : b ≡ false → (lease_ok l ≡ true) × (clock_ok n ≡ true)
+      pub both_within : b ≡ false → (lease_ok l ≡ true) × (clock_ok n ≡ true)
       unfolding clock_ok
-      both-within h = (sym ea ∙ not-false a fa, not_before_leb latest n eb h)
+      both_within h = (sym ea ∙ not-false a fa, not_before_leb latest n eb h)
 
       -- then the state within the limits is the state
-      pub state-is : b ≡ false → {s : LeaseState} → s ≡ state_within l n → s ≡ state_of l n
+      pub state_is : b ≡ false → {s : LeaseState} → s ≡ state_within l n → s ≡ state_of l n
       unfolding state_of
-      state-is h e = e ∙ rw ((both-within h).0, (both-within h).1)
+      state_is h e = e ∙ rw ((both_within h).0, (both_within h).1)

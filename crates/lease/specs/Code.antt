@@ -3,4 +3,4 @@ use Rattle.std.specs.Prelude.{Bool, ◌&&◌, ◌||◌, ℕ, ltb, eqb}
 
 -- an id, as two numbers of 8 bytes, is below another one
 unfoldable pub below : ℕ → ℕ → ℕ → ℕ → Bool
-below high low otherHigh otherLow = ltb high otherHigh || (eqb high otherHigh && ltb low otherLow)
+below high low other_high other_low = ltb high other_high || (eqb high other_high && ltb low other_low)

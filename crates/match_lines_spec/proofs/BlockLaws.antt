@@ -51,10 +51,10 @@ module _ (P : Bool → List ℕ → List ℕ → Fed → Type 0)
     (at_byte : (long : Bool) (begun : List ℕ) (b : ℕ) (bs : List ℕ) (f : Fed) → eqb b 10 ≡ false → P long (begun ++ (b ∷ [])) bs f
     → P long begun (b ∷ bs) f)
   where
-    by-fed : (long : Bool) (begun s : List ℕ) → P long begun s (fed_from long begun s)
+    by_fed : (long : Bool) (begun s : List ℕ) → P long begun s (fed_from long begun s)
     unfolding fed_from
-    by-fed long begun [] = at-end long begun
-    by-fed long begun (b ∷ bs) = go (eqb b 10) refl (by-fed false [] bs) (by-fed long (begun ++ (b ∷ [])) bs)
+    by_fed long begun [] = at-end long begun
+    by_fed long begun (b ∷ bs) = go (eqb b 10) refl (by_fed false [] bs) (by_fed long (begun ++ (b ∷ [])) bs)
       where
         go : (t : Bool) → eqb b 10 ≡ t → P false [] bs (fed_from false [] bs)
             → P long (begun ++ (b ∷ [])) bs (fed_from long (begun ++ (b ∷ [])) bs)
@@ -87,7 +87,7 @@ kept_ends false begun =
 -- what is kept of a block ends the line that has begun and the block after it
 pub fed_ends : FedEnds
 fed_ends =
-    by-fed (λ long begun s f. Ends f.kept (begun ++ s)) (λ long begun. rw append-nil (kept_ends long begun))
+    by_fed (λ long begun s f. Ends f.kept (begun ++ s)) (λ long begun. rw append-nil (kept_ends long begun))
     (λ long begun b bs f e r. (begun ++ (b ∷ r.0), append_assoc begun (b ∷ r.0) f.kept ∙ rw r.1, r.2))
     (λ long begun b bs f e r. (r.0, r.1 ∙ append_snoc begun b bs, r.2))
 
@@ -114,7 +114,7 @@ kept_out long begun = by_cond (λ (f : Fed). f.out ≡ []) (long || ltb longest_
 -- a block's answers are at most four bytes for each of its bytes
 pub out_four : (long : Bool) (begun s : List ℕ) → length (fed_from long begun s).out ≤ 4 * length s
 out_four =
-    by-fed (λ long begun s f. length f.out ≤ 4 * length s) (λ long begun. rw kept_out (omega arith))
+    by_fed (λ long begun s f. length f.out ≤ 4 * length s) (λ long begun. rw kept_out (omega arith))
     (λ long begun b bs f e r. omega (arith, length-append (verdict_line (verdict_if long begun)) f.out, word_le (verdict_if long begun)))
     (λ long begun b bs f e r. omega arith)
 
@@ -184,7 +184,7 @@ Carries line s f =
 fed_carries : (long : Bool) (part s line : List ℕ) → Stands long part line → Carries line s (fed_from long part s)
 unfolding without
 fed_carries =
-    by-fed (λ long part s f. (line : List ℕ) → Stands long part line → Carries line s f)
+    by_fed (λ long part s f. (line : List ℕ) → Stands long part line → Carries line s f)
     (λ long part line h. (line, stands_kept h, λ more. rw kept_out))
     (λ long part b bs f e r line h.
     let q = r [] (whole [] refl) in

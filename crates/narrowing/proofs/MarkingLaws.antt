@@ -131,11 +131,11 @@ module _ (s t p d : List ℕ) (mask : ℕ) (deep : Bool) (x : List ℕ) (done i 
 
   -- the row i adds no mode
   pub marking_skip : bit_or (bit_and (row_mask t i) mask) done ≡ done → Noting s t p d mask deep x done (i + 1)
-  marking_skip e = record { whole = n.whole; size = n.size; agree = agree-next; have = n.have }
+  marking_skip e = record { whole = n.whole; size = n.size; agree = agree_next; have = n.have }
     where
-      agree-next : (m k : ℕ) → has_mode mask m ≡ true → low deep ≤ k → k < high deep
+      agree_next : (m k : ℕ) → has_mode mask m ≡ true → low deep ≤ k → k < high deep
           → has_mode (get_or x k 0) m ≡ has_mode (get_or (marked_rows s t p d (i + 1)) k 0) m
-      agree-next m k h a b =
+      agree_next m k h a b =
           n.agree m k h a b ∙ go (has_mode (row_mask t i) m) refl
           ∙ sym (ap (λ (z : List ℕ). has_mode (get_or z k 0) m) (rows_more s t p d i)
           ∙ row_marked_lem s t p i (marked_rows s t p d i) m k (room k b).1)
@@ -158,18 +158,18 @@ module _ (s t p d : List ℕ) (mask : ℕ) (deep : Bool) (x : List ℕ) (done i 
   pub marking_next : (y : List ℕ) (r : ℕ) → y ≡ row_marked s t i p x → r ≡ full_modes s t i p deep
       → Noting s t p d mask deep y (bit_or done r) (i + 1)
   marking_next y r e f =
-      record { whole = n.whole; size = ap length e ∙ row_length_lem s t p i x ∙ n.size; agree = agree-next; have = have-next }
+      record { whole = n.whole; size = ap length e ∙ row_length_lem s t p i x ∙ n.size; agree = agree_next; have = have_next }
     where
-      agree-next : (m k : ℕ) → has_mode mask m ≡ true → low deep ≤ k → k < high deep
+      agree_next : (m k : ℕ) → has_mode mask m ≡ true → low deep ≤ k → k < high deep
           → has_mode (get_or y k 0) m ≡ has_mode (get_or (marked_rows s t p d (i + 1)) k 0) m
-      agree-next m k h a b =
+      agree_next m k h a b =
           ap (λ (z : List ℕ). has_mode (get_or z k 0) m) e ∙ row_marked_lem s t p i x m k (room k b).0
           ∙ ap (λ (u : Bool). u || (has_mode (row_mask t i) m && in_range (text_range (row_levels s t i) p) k)) (n.agree m k h a b)
           ∙ sym (ap (λ (z : List ℕ). has_mode (get_or z k 0) m) (rows_more s t p d i)
           ∙ row_marked_lem s t p i (marked_rows s t p d i) m k (room k b).1)
 
-      have-next : (m k : ℕ) → has_mode (bit_or done r) m ≡ true → low deep ≤ k → k < high deep → has_mode (get_or y k 0) m ≡ true
-      have-next m k h a b = ap (λ (z : List ℕ). has_mode (get_or z k 0) m) e ∙ go (has_mode done m) refl
+      have_next : (m k : ℕ) → has_mode (bit_or done r) m ≡ true → low deep ≤ k → k < high deep → has_mode (get_or y k 0) m ≡ true
+      have_next m k h a b = ap (λ (z : List ℕ). has_mode (get_or z k 0) m) e ∙ go (has_mode done m) refl
         where
           go : (c : Bool) → has_mode done m ≡ c → has_mode (get_or (row_marked s t i p x) k 0) m ≡ true
           go true g =

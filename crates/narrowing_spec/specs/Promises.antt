@@ -9,7 +9,7 @@ use Rattle.descriptor_spec.specs.Model.{Grant, Descriptor, encode}
 use Rattle.descriptor_spec.specs.Allowed.{Allowed}
 use Rattle.descriptor_spec.specs.Reader.{read_of}
 use Rattle.descriptor_spec.specs.Code.{reading_of}
-use Rattle.descriptor_spec.specs.Numbers.{numbers_of as readNumbers}
+use Rattle.descriptor_spec.specs.Numbers.{numbers_of as read_numbers}
 use Rattle.narrowing_spec.specs.declared.NarrowingNumbers.{NarrowingNumbers}
 use Rattle.narrowing_spec.specs.Meaning.{Admits, Escapes, taken_by}
 use Rattle.narrowing_spec.specs.Narrow.{narrow, numbers_of}
@@ -20,7 +20,7 @@ answer_only n = record { answer = n; grant = 0; mode = 0; levels = 0 }
 
 -- the answer of reading a byte string
 abbrev pub read_answer : List ℕ → ℕ
-read_answer s = (readNumbers (reading_of (read_of s))).answer
+read_answer s = (read_numbers (reading_of (read_of s))).answer
 
 -- ---- 21, 1 and 2: the parent, then the child
 

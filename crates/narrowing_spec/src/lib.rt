@@ -1,5 +1,6 @@
 // Narrowing a child under a parent, as document 01 has it. What is promised is in specs/Promises.antt. No function: here are the types of
 // what narrowing answers; `narrowing` has the functions.
+#![tactic(auto)]
 
 // What narrowing answers: 0; 21, the parent doesn't read; 1 or 2, the child; 19, a constraint pair in either; 18, the child's period is not
 // within the parent's; 20, some path escapes, with the grant's place, the mode and the levels.

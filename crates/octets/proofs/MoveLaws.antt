@@ -22,11 +22,11 @@ down_fits d from to n h l = rw (le-leb to from h, le-leb (from + n) (length d) l
 -- bytes that are not there are not moved
 pub down_short : (d : List ℕ) (from to n : ℕ) → length d < from + n → moved_down d from to n ≡ d
 unfolding moved_down
-down_short d from to n h = rw (lt-leb (from + n) (length d) h) (cond-and-false (leb to from))
+down_short d from to n h = rw (lt-leb (from + n) (length d) h) (cond_and_false (leb to from))
   where
-    cond-and-false : (t : Bool) → cond (t && false) (lowered d from to n) d ≡ d
-    cond-and-false true = refl
-    cond-and-false false = refl
+    cond_and_false : (t : Bool) → cond (t && false) (lowered d from to n) d ≡ d
+    cond_and_false true = refl
+    cond_and_false false = refl
 
 -- bytes that are moved to their own place change nothing
 lowered_same : (d : List ℕ) (at n : ℕ) → at + n ≤ length d → lowered d at at n ≡ d

@@ -86,11 +86,11 @@ number_wide s at w h = rw (lt-leb w 8 h)
 -- bytes that are not all there are answered with 0
 pub number_short : (s : List ℕ) (at w : ℕ) → length s < at + w → number_in s at w ≡ 0
 unfolding number_in
-number_short s at w h = rw (lt-leb (at + w) (length s) h) (cond-and-false (leb w 8))
+number_short s at w h = rw (lt-leb (at + w) (length s) h) (cond_and_false (leb w 8))
   where
-    cond-and-false : (t : Bool) → cond (t && false) (number_at s at w) 0 ≡ 0
-    cond-and-false true = refl
-    cond-and-false false = refl
+    cond_and_false : (t : Bool) → cond (t && false) (number_at s at w) 0 ≡ 0
+    cond_and_false true = refl
+    cond_and_false false = refl
 
 -- the number that the encoding of n holds is n
 pub number_of_has : (s : List ℕ) (at w n : ℕ) → n < 256 ^ w → at + w ≤ length s → Has s at (big_endian w n) → number_at s at w ≡ n

@@ -219,11 +219,11 @@ moved_no_bytes d from to by h = rw (lt-leb from to h)
 -- where there is no room nothing is moved
 pub moved_no_room : (d : List ℕ) (from to by : ℕ) → length d < to + by → moved_up d from to by ≡ d
 unfolding moved_up
-moved_no_room d from to by h = rw (lt-leb (to + by) (length d) h) (cond-and-false (leb from to))
+moved_no_room d from to by h = rw (lt-leb (to + by) (length d) h) (cond_and_false (leb from to))
   where
-    cond-and-false : (t : Bool) → cond (t && false) (moved d from to by) d ≡ d
-    cond-and-false true = refl
-    cond-and-false false = refl
+    cond_and_false : (t : Bool) → cond (t && false) (moved d from to by) d ≡ d
+    cond_and_false true = refl
+    cond_and_false false = refl
 
 -- a move keeps the length
 pub moved_length : (d : List ℕ) (from to by : ℕ) → from ≤ to → to + by ≤ length d → length (moved d from to by) ≡ length d

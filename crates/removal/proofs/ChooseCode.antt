@@ -188,10 +188,10 @@ module _ (l : Layout) (a : Ask) where
     step h = let e : n - removed ≡ suc (n - (removed + 1)) = omega arith in ap (λ (m : ℕ). chosen l a m gs removed freed) e
 
     -- there is room
-    pub choose-fits : removed < n → fits_in l a removed freed ≡ true
+    pub choose_fits : removed < n → fits_in l a removed freed ≡ true
         → chosen l a (n - removed) gs removed freed ≡ chosen_of true gs removed freed
     unfolding chosen
-    choose-fits h f = step h ∙ ap (λ (t : Bool). one_step t (least_of a gs) gs removed freed next) f
+    choose_fits h f = step h ∙ ap (λ (t : Bool). one_step t (least_of a gs) gs removed freed next) f
 
     module _ (h : removed < n) (f : fits_in l a removed freed ≡ false) where
       -- there is none
@@ -202,21 +202,21 @@ module _ (l : Layout) (a : Ask) where
           ∙ ap (λ (x : Least). one_step false x gs removed freed next) g
 
       -- and no row may go
-      pub choose-none : least_of a gs ≡ NoRow → chosen l a (n - removed) gs removed freed ≡ chosen_of false gs removed freed
-      choose-none g = turn NoRow g
+      pub choose_none : least_of a gs ≡ NoRow → chosen l a (n - removed) gs removed freed ≡ chosen_of false gs removed freed
+      choose_none g = turn NoRow g
 
       -- and row j goes
-      pub choose-next : (j v s : ℕ) → least_of a gs ≡ IsRow j v → s ≡ a.size j
+      pub choose_next : (j v s : ℕ) → least_of a gs ≡ IsRow j v → s ≡ a.size j
           → chosen l a (n - removed) gs removed freed
           ≡ chosen l a (n - (removed + 1)) (set gs j gone) (removed + 1) (freed + (row_size l + s))
-      choose-next j v s g e =
+      choose_next j v s g e =
           turn (IsRow j v) g
           ∙ ap (λ (x : ℕ). chosen l a (n - (removed + 1)) (set gs j gone) (removed + 1) (freed + (row_size l + x))) (sym e)
 
     -- after the last turn
-    pub choose-last : (t : Bool) → n ≤ removed → t ≡ fits_in l a removed freed
+    pub choose_last : (t : Bool) → n ≤ removed → t ≡ fits_in l a removed freed
         → chosen l a (n - removed) gs removed freed ≡ chosen_of t gs removed freed
     unfolding chosen
-    choose-last t h e =
+    choose_last t h e =
         let m : n - removed ≡ 0 = omega arith in
         ap (λ (m : ℕ). chosen l a m gs removed freed) m ∙ ap (λ (x : Bool). chosen_of x gs removed freed) (sym e)

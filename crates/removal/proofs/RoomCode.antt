@@ -91,38 +91,38 @@ module _ (l : Layout) (d : List ℕ) (rows end clock more : ℕ) (few : rows ≤
       (lacks : short ≡ short_of l end more (length d))
       (chose : chosen_of t gs removed freed ≡ chosen l (ask_at l d (length ms) short) (length ms) ms 0 0) where
     -- the code's choice is that of the definition
-    choice-is : chosen_of t gs removed freed ≡ choice_at l d rows end clock more
+    choice_is : chosen_of t gs removed freed ≡ choice_at l d rows end clock more
     unfolding choice_at
-    choice-is =
+    choice_is =
         let n : length ms ≡ rows = ap length marks ∙ marks_many l d clock rows 0 in
         chose ∙ ap (λ (k : ℕ). chosen l (ask_at l d k short) k ms 0 0) n
         ∙ ap₂ (λ (s : ℕ) (xs : List ℕ). chosen l (ask_at l d rows s) rows xs 0 0) lacks marks
 
     -- there is no room
-    pub room-no : not t ≡ true → NoneMade l d rows end clock more
-    room-no e =
+    pub room_no : not t ≡ true → NoneMade l d rows end clock more
+    room_no e =
         none_made l d rows end clock more
-        (by_choice (chosen_of t gs removed freed) choice-is
+        (by_choice (chosen_of t gs removed freed) choice_is
         ∙ ap (λ (x : Bool). cond (x && leb freed end) (Made (rows - removed) (end - freed)) NoRoom) (not-true t e))
 
     -- more is freed than there is
-    pub room-beyond : end < freed → NoneMade l d rows end clock more
-    room-beyond h =
+    pub room_beyond : end < freed → NoneMade l d rows end clock more
+    room_beyond h =
         none_made l d rows end clock more
-        (by_choice (chosen_of t gs removed freed) choice-is
+        (by_choice (chosen_of t gs removed freed) choice_is
         ∙ ap (λ (x : Bool). cond (t && x) (Made (rows - removed) (end - freed)) NoRoom) (lt-leb freed end h)
         ∙ ap (λ (x : Bool). cond x (Made (rows - removed) (end - freed)) NoRoom) (and-false t))
 
     -- there is room
-    pub room-yes : (n : ℕ) (d' : List ℕ) → not t ≡ false → freed ≤ end → n ≡ rows → d' ≡ closed_up l d gs
+    pub room_yes : (n : ℕ) (d' : List ℕ) → not t ≡ false → freed ≤ end → n ≡ rows → d' ≡ closed_up l d gs
         → (Made (n - removed) (end - freed) ≡ room_of l d rows end clock more) × (d' ≡ after_room l d rows end clock more)
     unfolding after_room
-    room-yes n d' e h m k =
+    room_yes n d' e h m k =
         let says : room_of l d rows end clock more ≡ Made (rows - removed) (end - freed)
-        = by_choice (chosen_of t gs removed freed) choice-is
+        = by_choice (chosen_of t gs removed freed) choice_is
         ∙ ap₂ (λ (x y : Bool). cond (x && y) (Made (rows - removed) (end - freed)) NoRoom) (not-false t e) (le-leb freed end h) in (
           ap (λ (x : ℕ). Made (x - removed) (end - freed)) m ∙ sym says,
-          k ∙ ap (λ (x : Chosen). closed_up l d x.marks) choice-is ∙ ap (after_by l d rows end clock more) (sym says),
+          k ∙ ap (λ (x : Chosen). closed_up l d x.marks) choice_is ∙ ap (after_by l d rows end clock more) (sym says),
         )
 
 -- ---- the lent marks

@@ -44,28 +44,28 @@ module _ (q : Request) where
 
   module _ (h : q.verdict ≤ 2) (k : q.mode ≤ highest_mode) (l : length q.id ≡ id_size) where
     -- else the identifiers tell, and the length of the list
-    texts-left : arguments_ok q
+    texts_left : arguments_ok q
         ≡ (is_fay q.fay && (is_terminal q.terminal && (resource_ok q.resource && eqb (length q.revoked % revocation_size) 0)))
     unfolding arguments_ok is_verdict
-    texts-left = rw (le-leb q.verdict 2 h, le-leb q.mode highest_mode k, eq-eqb (length q.id) id_size l)
+    texts_left = rw (le-leb q.verdict 2 h, le-leb q.mode highest_mode k, eq-eqb (length q.id) id_size l)
 
     -- a text that is no fay id is malformed
-    pub no-fay : is_fay q.fay ≡ false → false ≡ arguments_ok q
-    no-fay e = sym (texts-left ∙ rw e)
+    pub no_fay : is_fay q.fay ≡ false → false ≡ arguments_ok q
+    no_fay e = sym (texts_left ∙ rw e)
 
     module _ (e : is_fay q.fay ≡ true) where
       -- so is one that is no terminal id
-      pub no-terminal : is_terminal q.terminal ≡ false → false ≡ arguments_ok q
-      no-terminal f = sym (texts-left ∙ rw (e, f))
+      pub no_terminal : is_terminal q.terminal ≡ false → false ≡ arguments_ok q
+      no_terminal f = sym (texts_left ∙ rw (e, f))
 
       -- so is one that is no resource id
-      pub no-resource : is_terminal q.terminal ≡ true → resource_ok q.resource ≡ false → false ≡ arguments_ok q
-      no-resource f g = sym (texts-left ∙ rw (e, f, g))
+      pub no_resource : is_terminal q.terminal ≡ true → resource_ok q.resource ≡ false → false ≡ arguments_ok q
+      no_resource f g = sym (texts_left ∙ rw (e, f, g))
 
       -- else the length of the list tells
       pub list_left : is_terminal q.terminal ≡ true → resource_ok q.resource ≡ true → eqb (length q.revoked % revocation_size) 0
           ≡ arguments_ok q
-      list_left f g = sym (texts-left ∙ rw (e, f, g))
+      list_left f g = sym (texts_left ∙ rw (e, f, g))
 
 -- ---- the lease table
 
@@ -117,30 +117,30 @@ module _ (q : Request) where
 
   module _ {x : LeaseFound} (h : x ≡ checked_of q) where
     -- where it is malformed they are not well formed
-    pub malformed-not : is_malformed x ≡ true → well_formed q ≡ false
-    malformed-not e = not-true (well_formed q) (sym malformed_tells ∙ ap is_malformed (sym h) ∙ e)
+    pub malformed_not : is_malformed x ≡ true → well_formed q ≡ false
+    malformed_not e = not-true (well_formed q) (sym malformed_tells ∙ ap is_malformed (sym h) ∙ e)
 
     module _ (e : is_malformed x ≡ false) where
       -- where it is not they are
-      pub formed-is : well_formed q ≡ true
-      formed-is = not-false (well_formed q) (sym malformed_tells ∙ ap is_malformed (sym h) ∙ e)
+      pub formed_is : well_formed q ≡ true
+      formed_is = not-false (well_formed q) (sym malformed_tells ∙ ap is_malformed (sym h) ∙ e)
 
       -- and the clock is within its limit
-      pub formed-clock : clock_ok q.clock.0 ≡ true
+      pub formed_clock : clock_ok q.clock.0 ≡ true
       unfolding well_formed
-      formed-clock = and_left (clock_ok q.clock.0) _ (and_right (arguments_ok q) _ formed-is)
+      formed_clock = and_left (clock_ok q.clock.0) _ (and_right (arguments_ok q) _ formed_is)
 
       -- then what is found is the lease of the id
-      pub lease-found : lease_in x ≡ lease_for q
+      pub lease_found : lease_in x ≡ lease_for q
       unfolding checked_of well_formed find_in
-      lease-found = ap lease_in h
-          ∙ tells_lease (arguments_ok q) (clock_ok q.clock.0) (table_ok q.leases) (lease_for q) formed-is
+      lease_found = ap lease_in h
+          ∙ tells_lease (arguments_ok q) (clock_ok q.clock.0) (table_ok q.leases) (lease_for q) formed_is
 
       -- and it fits
-      pub lease-fits : FoundFits x
+      pub lease_fits : FoundFits x
       unfolding checked_of well_formed
-      lease-fits =
-          let a = and_left (arguments_ok q) _ formed-is in
-          let t = and_right (clock_ok q.clock.0) (table_ok q.leases) (and_right (arguments_ok q) _ formed-is) in
-          let same : find_in q.leases q.id ≡ x = sym (h ∙ rw (a, formed-clock)) in
+      lease_fits =
+          let a = and_left (arguments_ok q) _ formed_is in
+          let t = and_right (clock_ok q.clock.0) (table_ok q.leases) (and_right (arguments_ok q) _ formed_is) in
+          let same : find_in q.leases q.id ≡ x = sym (h ∙ rw (a, formed_clock)) in
           fits q.leases q.id t x same

@@ -132,15 +132,15 @@ module _ (q : Request) (found : LeaseFound) (b : List ℕ) (f : Fields) where
 
   module _ (e : revoked_now q ≡ false) where
     -- where a grant serves, what the key, the signature and the lease come to is decided
-    pub on-applies : (grant mask : ℕ) {x : Decision} → Applies grant mask
+    pub on_applies : (grant mask : ℕ) {x : Decision} → Applies grant mask
         ≡ applicability_of b f q.fay q.terminal q.resource q.mode (seconds_of q)
         → x ≡ signed_with grant mask → x ≡ decided_on q (lease_in found) b f
-    on-applies grant mask a h = h ∙ ap (after_stage signed_with) a ∙ on_stage e
+    on_applies grant mask a h = h ∙ ap (after_stage signed_with) a ∙ on_stage e
 
     -- else the refusal is
-    pub on-refused : (x : Decision) → Refused x ≡ applicability_of b f q.fay q.terminal q.resource q.mode (seconds_of q) → x
+    pub on_refused : (x : Decision) → Refused x ≡ applicability_of b f q.fay q.terminal q.resource q.mode (seconds_of q) → x
         ≡ decided_on q (lease_in found) b f
-    on-refused x a = ap (after_stage signed_with) a ∙ on_stage e
+    on_refused x a = ap (after_stage signed_with) a ∙ on_stage e
 
   -- what is decided on a body that is revoked
   pub on_revoked : revoked_now q ≡ true → answers.Revoked ≡ decided_on q (lease_in found) b f
@@ -161,21 +161,21 @@ module _ (grant mask : ℕ) (after : Seconds) (found : LeaseFound) (e : Environm
     open_at k = ap (λ (c : Seconds). key_open e.window c.0) (sym i) ∙ k
 
     -- the clock is not in it
-    pub signed-shut : key_open e.window clock.0 ≡ false → answers.KeyInvalid ≡ signed_by grant mask after found e
+    pub signed_shut : key_open e.window clock.0 ≡ false → answers.KeyInvalid ≡ signed_by grant mask after found e
     unfolding signed_by key_steps is_that in_order or_else
-    signed-shut k = sym (rw (ne_eqb e.verdict no_key h, open_at k))
+    signed_shut k = sym (rw (ne_eqb e.verdict no_key h, open_at k))
 
     module _ (k : key_open e.window clock.0 ≡ true) where
       -- the signature is bad
-      pub signed-bad : e.verdict ≡ bad → answers.BadSignature ≡ signed_by grant mask after found e
+      pub signed_bad : e.verdict ≡ bad → answers.BadSignature ≡ signed_by grant mask after found e
       unfolding signed_by key_steps is_that in_order or_else
-      signed-bad l = sym (rw (ne_eqb e.verdict no_key h, open_at k, eq-eqb e.verdict bad l))
+      signed_bad l = sym (rw (ne_eqb e.verdict no_key h, open_at k, eq-eqb e.verdict bad l))
 
       -- it is good: the lease decides, up to an end
-      pub signed-good : (e.verdict ≡ bad → ⊥) → {end : Seconds} {x : Decision} → end ≡ plus_at_most clock e.session after
+      pub signed_good : (e.verdict ≡ bad → ⊥) → {end : Seconds} {x : Decision} → end ≡ plus_at_most clock e.session after
           → x ≡ leased_by grant mask end found e.clock.0 → x ≡ signed_by grant mask after found e
       unfolding signed_by key_steps is_that in_order or_else
-      signed-good l j g =
+      signed_good l j g =
           g ∙ ap (λ (t : Seconds). leased_by grant mask t found e.clock.0) (j ∙ ap (λ (c : Seconds). plus_at_most c e.session after) i)
           ∙ sym (rw (ne_eqb e.verdict no_key h, open_at k, ne_eqb e.verdict bad l))
 
@@ -217,14 +217,14 @@ module _ (s : List ℕ) (q : Request) where
 
   module _ (w : well_formed q ≡ true) where
     -- then an image that is not sound
-    pub decide-unsound : Unsound ≡ check_of s q.id → answers.BadImage ≡ decision_of s q
+    pub decide_unsound : Unsound ≡ check_of s q.id → answers.BadImage ≡ decision_of s q
     unfolding steps_by
-    decide-unsound e = decided (passes w (fails refl)) ∙ by_check e
+    decide_unsound e = decided (passes w (fails refl)) ∙ by_check e
 
     -- then an id that is not held
-    pub decide-missing : {n end : ℕ} → Sound n end Missing ≡ check_of s q.id → answers.NotFound ≡ decision_of s q
+    pub decide_missing : {n end : ℕ} → Sound n end Missing ≡ check_of s q.id → answers.NotFound ≡ decision_of s q
     unfolding steps_by
-    decide-missing e = decided (passes w (passes refl (fails refl))) ∙ by_check e
+    decide_missing e = decided (passes w (passes refl (fails refl))) ∙ by_check e
 
     -- where the id is held, the steps on its body are left
     held_steps : (n end row at len : ℕ) (f : Fields) → decision_by (Sound n end (Body row at len f))
@@ -233,10 +233,10 @@ module _ (s : List ℕ) (q : Request) where
     held_steps n end row at len f = rw w
 
     -- they decide, with the lease that was found
-    pub decide-body : {n end row at len : ℕ} {f : Fields} {x : Decision} {lease : Option Lease}
+    pub decide_body : {n end row at len : ℕ} {f : Fields} {x : Decision} {lease : Option Lease}
         → Sound n end (Body row at len f) ≡ check_of s q.id → lease ≡ lease_for q
         → x ≡ decided_on (with_leases q []) lease (take (at + len - at) (drop at s)) f → x ≡ decision_of s q
-    decide-body {n} {end} {row} {at} {len} {f} {x} {lease} e l h =
+    decide_body {n} {end} {row} {at} {len} {f} {x} {lease} e l h =
         h ∙ decided_apart q [] lease (take (at + len - at) (drop at s)) f
         ∙ ap (λ (y : Option Lease). decided_on q y (take (at + len - at) (drop at s)) f) l
         ∙ ap (λ (b : List ℕ). decided_on q (lease_for q) b f) (lent_part s at len) ∙ sym (held_steps n end row at len f) ∙ by_check e

@@ -102,24 +102,24 @@ module _ (s r : List ℕ) (mode count at i : ℕ) (best : Matched) where
 
   module _ {g : GrantSeen} {next : ℕ} (h : i < count) (e : got g next ≡ grant_at s at) where
     -- it is asked whether the grant that was read serves, and how many levels it matches by equal names
-    pick-read : (t : Bool) → serves s r mode g ≡ t → pick_from s r mode (count - i) at i best
+    pick_read : (t : Bool) → serves s r mode g ≡ t → pick_from s r mode (count - i) at i best
         ≡ pick_from s r mode (count - (i + 1)) next (i + 1) (picked_with t best i g.mask (names_of s r g))
     unfolding pick_from
-    pick-read t f = one_left h ∙ rw (← e, f, pick_from)
+    pick_read t f = one_left h ∙ rw (← e, f, pick_from)
 
     module _ {b : Bool} (f : b ≡ eligible g.mask g.pairs mode) where
       -- a grant that is not eligible leaves what was picked before
-      pub pick-not : b ≡ false → pick_from s r mode (count - i) at i best ≡ pick_from s r mode (count - (i + 1)) next (i + 1) best
-      pick-not k = pick-read false (serves_both s r mode g b _ f refl ∙ rw k)
+      pub pick_not : b ≡ false → pick_from s r mode (count - i) at i best ≡ pick_from s r mode (count - (i + 1)) next (i + 1) best
+      pick_not k = pick_read false (serves_both s r mode g b _ f refl ∙ rw k)
 
       -- of one that is, its levels tell
-      pub pick-found : b ≡ true → {found picked : Matched}
+      pub pick_found : b ≡ true → {found picked : Matched}
           → found ≡ found_of (lent_levels s g.pattern.start g.pattern.len) r i g.mask
           → picked ≡ picked_of best found
           → pick_from s r mode (count - i) at i best ≡ pick_from s r mode (count - (i + 1)) next (i + 1) picked
-      pick-found k {found} {picked} m n =
+      pick_found k {found} {picked} m n =
           let p : List ℕ = lent_levels s g.pattern.start g.pattern.len in
-          pick-read (levels_match p r) (serves_both s r mode g b (levels_match p r) f refl ∙ rw k)
+          pick_read (levels_match p r) (serves_both s r mode g b (levels_match p r) f refl ∙ rw k)
           ∙ ap (pick_from s r mode (count - (i + 1)) next (i + 1))
           (ap (picked_with (levels_match p r) best i g.mask) (lent_names s r g)
           ∙ found_picked best i g.mask (levels_named p r) (levels_match p r) ∙ sym (n ∙ ap (picked_of best) m))

@@ -98,10 +98,10 @@ leased_by grant mask end found n = in_order (lease_steps (lease_in found) n) (an
 
 -- the steps 14 and 4, where a grant serves, and those of the lease
 unfoldable pub signed_by : ℕ → ℕ → Seconds → LeaseFound → Environment → Decision
-signed_by grant mask notAfter found e =
+signed_by grant mask not_after found e =
     let clock = whole_seconds e.clock in
     in_order (key_steps e.verdict e.window clock.0)
-    (leased_by grant mask (plus_at_most clock e.session notAfter) found e.clock.0)
+    (leased_by grant mask (plus_at_most clock e.session not_after) found e.clock.0)
 
 -- ---- the image
 

@@ -253,10 +253,10 @@ pub moments_decide_nothing : MomentsDecideNothing
 moments_decide_nothing s q p bytes =
     by_grant (λ (x : List ℕ). numbers_of (decision_of x p) ≡ numbers_of (decision_of s p)) s q refl (λ z. go z (check_of s q.id) refl)
   where
-    same-answers : (numbers_of (decision_of s q)).answer ≡ 0 → (row at len n end : ℕ) (f : Fields)
+    same_answers : (numbers_of (decision_of s q)).answer ≡ 0 → (row at len n end : ℕ) (f : Fields)
         → check_of s q.id ≡ Sound n end (Body row at len f)
         → numbers_of (decision_of (after_touch s row (seconds_of q)) p) ≡ numbers_of (decision_of s p)
-    same-answers z row at len n end f e =
+    same_answers z row at len n end f e =
         let w = check_says (layout_of s) (named_ok s) s q.id bytes n end (Body row at len f) e in
         let rs : List Row = rows_held s in
         let after : List ℕ = after_touch s row (seconds_of q) in
@@ -271,7 +271,7 @@ moments_decide_nothing s q p bytes =
 
     go : (numbers_of (decision_of s q)).answer ≡ 0 → (v : ImageCheck) → check_of s q.id ≡ v
         → numbers_of (decision_of (used_by s (seconds_of q) v) p) ≡ numbers_of (decision_of s p)
-    go z (Sound n end (Body row at len f)) e = same-answers z row at len n end f e
+    go z (Sound n end (Body row at len f)) e = same_answers z row at len n end f e
     go z (Sound n end Missing) e = refl
     go z Unsound e = refl
 

@@ -38,12 +38,12 @@ module _ (s : List ℕ) (q : Request) (d : Descriptor) (u : Under s q.id (held d
 
   module _ (w : formed q ≡ true) (l : revoked_now q ≡ false) where
     -- before not_before the answer is 9, where the steps before pass
-    too-early : seconds_of q < d.payload.not_before → numbers_of (decision_of s q) ≡ refusal 9
-    too-early h = answered 9 (λ e. omega arith) (λ e. omega arith) (rw (w, l, lt-leb d.payload.not_before (seconds_of q) h))
+    too_early : seconds_of q < d.payload.not_before → numbers_of (decision_of s q) ≡ refusal 9
+    too_early h = answered 9 (λ e. omega arith) (λ e. omega arith) (rw (w, l, lt-leb d.payload.not_before (seconds_of q) h))
 
     -- from not_after on it is 10
-    too-late : d.payload.not_after ≤ seconds_of q → numbers_of (decision_of s q) ≡ refusal 10
-    too-late h =
+    too_late : d.payload.not_after ≤ seconds_of q → numbers_of (decision_of s q) ≡ refusal 10
+    too_late h =
         let b : d.payload.not_before < d.payload.not_after = u.2.allowed.formed.payload.lasts in
         answered 10 (λ e. omega arith) (λ e. omega arith)
         (rw (w, l, le-leb d.payload.not_before (seconds_of q) (omega arith), le-ltb (seconds_of q) d.payload.not_after h))
@@ -53,7 +53,7 @@ pub begin_boundary : BeginBoundary
 begin_boundary s q d u =
     let b : d.payload.not_before < d.payload.not_after = u.2.allowed.formed.payload.lasts in (
       λ e. inside_period s q d u (omega arith) (omega arith),
-      λ e w l. too-early s q d u w l (omega arith),
+      λ e w l. too_early s q d u w l (omega arith),
     )
 
 -- `EndBoundary`
@@ -61,5 +61,5 @@ pub end_boundary : EndBoundary
 end_boundary s q d u =
     let b : d.payload.not_before < d.payload.not_after = u.2.allowed.formed.payload.lasts in (
       λ e. inside_period s q d u (omega arith) (omega arith),
-      λ e w l. too-late s q d u w l (omega arith),
+      λ e w l. too_late s q d u w l (omega arith),
     )

@@ -199,9 +199,9 @@ stale_margin s q b z = go (all_stored s q.id b).0 (all_stored s q.id b).1
     Stale : DecisionNumbers → Type 0
     Stale r = (l : Lease) × (lease_for q ≡ some l) × (r ≡ stale_with (pos (active_end l) -ℤ pos q.clock.0)) × (r.margin <ℤ pos 0)
 
-    of-lease : (d : Descriptor) (lease : Option Lease) → lease_for q ≡ lease → (behind q d lease).answer ≡ 24 → Stale (behind q d lease)
-    of-lease d none e f = absurd (false≢true (sym (four_stale true true true true (pos 0) (granted_with (pos 0) q (held d)) refl f).3))
-    of-lease d (some l) e f =
+    of_lease : (d : Descriptor) (lease : Option Lease) → lease_for q ≡ lease → (behind q d lease).answer ≡ 24 → Stale (behind q d lease)
+    of_lease d none e f = absurd (false≢true (sym (four_stale true true true true (pos 0) (granted_with (pos 0) q (held d)) refl f).3))
+    of_lease d (some l) e f =
         let n : ℕ = q.clock.0 in
         let w = four_stale (live (some l)) (synced (some l) n) (fresh (some l) n) (lasting (some l) n) (margin_at (some l) n)
         (granted_with (margin_at (some l) n) q (held d)) refl f in
@@ -215,4 +215,4 @@ stale_margin s q b z = go (all_stored s q.id b).0 (all_stored s q.id b).1
     go (held d) u =
         let a = answer_with_lem s q (held d) u in
         let w = behind_signature q d (formed q) (lease_for q) 24 refl (sym (ap answer_of a) ∙ z) in
-        subst Stale (sym (a ∙ w.1)) (of-lease d (lease_for q) refl (sym (ap answer_of (a ∙ w.1)) ∙ z))
+        subst Stale (sym (a ∙ w.1)) (of_lease d (lease_for q) refl (sym (ap answer_of (a ∙ w.1)) ∙ z))

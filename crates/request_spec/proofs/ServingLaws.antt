@@ -143,7 +143,7 @@ picked gs m x e = (
   g,
   record {
     serves = record { place = w.place; there = w.there; serves = and_left (grant_serves g m x) (eqb (grant_names g x) n) w.passes };
-    most = λ j h s. omega (arith, most_bounds gs m x j h s, its-most);
+    most = λ j h s. omega (arith, most_bounds gs m x j h s, its_most);
     first = fewer;
   },
   w.mine,
@@ -158,13 +158,13 @@ picked gs m x e = (
     g : Grant
     g = w.grant
 
-    its-most : grant_names g x ≡ n
-    its-most = eqb-true (grant_names g x) n (and_right (grant_serves g m x) (eqb (grant_names g x) n) w.passes)
+    its_most : grant_names g x ≡ n
+    its_most = eqb-true (grant_names g x) n (and_right (grant_serves g m x) (eqb (grant_names g x) n) w.passes)
 
     fewer : (j : ℕ) (h : Grant) → ServesAt gs m x j h → j < first_place (is_picked gs m x) gs → grant_names h x < grant_names g x
     fewer j h s l =
         let other = ap (λ (b : Bool). b && eqb (grant_names h x) n) (sym s.serves) ∙ w.first j h l s.there in
-        omega (arith, most_bounds gs m x j h s, its-most, eqb-false (grant_names h x) n other)
+        omega (arith, most_bounds gs m x j h s, its_most, eqb-false (grant_names h x) n other)
 
 -- `PickedOnce`
 pub picked_one_place : PickedOnce

@@ -29,9 +29,9 @@ FirstStar = (s : List ℕ) → (l : List ℕ) × (ls : List (List ℕ)) × (leve
 pub record Firsts (p r : List ℕ) (ls ks : List (List ℕ)) (fits : Bool) : Type 0 where
   pub first_p : List ℕ
   pub first_r : List ℕ
-  pub of_p : levels p ≡ first-p ∷ ls
+  pub of_p : levels p ≡ first_p ∷ ls
   pub of_r : levels r ≡ first_r ∷ ks
-  pub fit : (is_star first-p || same first-p first_r) ≡ fits
+  pub fit : (is_star first_p || same first_p first_r) ≡ fits
 
 -- there are levels in both, or in none
 abbrev pub alike : List (List ℕ) → List (List ℕ) → Bool

@@ -1,4 +1,6 @@
 // The functions over identifiers, resource ids and patterns. What they are and what is promised of them is in `resource_spec`.
+#![tactic(auto)]
+
 mod ids;
 mod levels;
 mod matcher;

@@ -65,12 +65,12 @@ module _ (c : ℕ) (n : is_name_char c ≡ false) where
 
   module _ (other : eqb 42 c ≡ false) where
     -- levels as they are spelled have no c
-    pub spelled-without : (p : Levels) → NamesIn p → AllWithout c (spelled p)
+    pub spelled_without : (p : Levels) → NamesIn p → AllWithout c (spelled p)
     unfolding without
-    spelled-without done h = tt
-    spelled-without deep h = (rw other, tt)
-    spelled-without (name l p) h = (name_without l h.0, spelled-without p h.1)
-    spelled-without (star p) h = (rw other, spelled-without p h)
+    spelled_without done h = tt
+    spelled_without deep h = (rw other, tt)
+    spelled_without (name l p) h = (name_without l h.0, spelled_without p h.1)
+    spelled_without (star p) h = (rw other, spelled_without p h)
 
 -- joined levels without c have none
 pub joined_without : (c : ℕ) (l : List ℕ) (ls : List (List ℕ)) → eqb 47 c ≡ false → AllWithout c (l ∷ ls)
@@ -83,4 +83,4 @@ joined_without c l (k ∷ ls) s f =
 pub pattern_without : PatternSpaceless
 unfolding terminal_form uuid_form is_hex is_name_char
 pattern_without p h = joined_without 32 p.terminal (spelled p.below) refl
-    (terminal_without 32 p.terminal refl h.terminal, spelled-without 32 refl refl p.below h.names)
+    (terminal_without 32 p.terminal refl h.terminal, spelled_without 32 refl refl p.below h.names)

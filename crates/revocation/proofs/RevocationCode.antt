@@ -43,22 +43,22 @@ module _ (list id : List ℕ) (at clock : ℕ) {b : Bool} (e : b ≡ same (take 
 module _ (list id : List ℕ) (clock i : ℕ) where
   module _ (h : i < length list / revocation_size) {t : Bool} (e : t ≡ revokes (revocation_at list (revocation_size * i)) id clock) where
     -- the rows from row i on, by the test of row i
-    in-turn : (t ≡ true → is_revoked (drop i (revocations_of list)) id clock ≡ true)
+    in_turn : (t ≡ true → is_revoked (drop i (revocations_of list)) id clock ≡ true)
         × (t ≡ false → is_revoked (drop i (revocations_of list)) id clock ≡ is_revoked (drop (i + 1) (revocations_of list)) id clock)
     unfolding revocation_at
-    in-turn =
+    in_turn =
         let r = revocation_at list (revocation_size * i) in
         let here = ap (λ (x : Revocation). revokes x id clock) ((rows_of_bytes list).1 i r h) ∙ sym e in
         let turn = laws.rows_in_turn (revocations_of list) id clock i r (omega (arith, (rows_of_bytes list).0)) in
         (λ f. turn.0 (here ∙ f), λ f. turn.1 (here ∙ f))
 
     -- where row i revokes the id they do
-    pub row-hit : t ≡ true → is_revoked (drop i (revocations_of list)) id clock ≡ true
-    row-hit f = in-turn.0 f
+    pub row_hit : t ≡ true → is_revoked (drop i (revocations_of list)) id clock ≡ true
+    row_hit f = in_turn.0 f
 
     -- else the rows after it tell
     pub row_next : t ≡ false → is_revoked (drop i (revocations_of list)) id clock ≡ is_revoked (drop (i + 1) (revocations_of list)) id clock
-    row_next f = in-turn.1 f
+    row_next f = in_turn.1 f
 
   -- no row is left after the last
   pub row_none : length list / revocation_size ≤ i → is_revoked (drop i (revocations_of list)) id clock ≡ false

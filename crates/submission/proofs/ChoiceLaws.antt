@@ -75,14 +75,14 @@ module _ (d b : List ℕ) (clock verdict : ℕ) (window : Window) (known : is_ve
   module _ (n end : ℕ) (f : Fields) (early : leb f.not_before.0 (clock + longest_lead) ≡ true) (issuer : is_that verdict no_key ≡ false)
       (key : key_open window clock ≡ true) (signed : is_that verdict bad ≡ false) where
     -- where the steps before it pass, the place of the body is what the last two steps come to
-    placed-is : (h : Held) → ChoiceIs d b clock verdict window (Read f) (Sound n end h) (placed d b n end h f)
+    placed_is : (h : Held) → ChoiceIs d b clock verdict window (Read f) (Sound n end h) (placed d b n end h f)
     unfolding steps_by placed
-    placed-is (Body row at len g) =
+    placed_is (Body row at len g) =
         let v : ImageCheck = Sound n end (Body row at len g) in
         by_cond (ChoiceIs d b clock verdict window (Read f) v) (same (part d at len) b)
         (λ e. (all_done d b clock verdict window (Read f) v (rw (known, early, issuer, key, signed, e)), refl))
         (λ e. refuses d b clock verdict window (Read f) v answers.Duplicate (omega arith) (rw (known, early, issuer, key, signed, e)))
-    placed-is Missing =
+    placed_is Missing =
         let v : ImageCheck = Sound n end Missing in
         record {
           done = λ e. all_done d b clock verdict window (Read f) v (rw (known, early, issuer, key, signed, e));
@@ -108,7 +108,7 @@ module _ (d b : List ℕ) (clock verdict : ℕ) (window : Window) (known : is_ve
       (λ issuer. by_cond P (key_open window clock)
       (λ key. by_cond P (is_that verdict bad)
       (λ signed. refuses d b clock verdict window (Read f) v answers.BadSignature (omega arith) (rw (known, early, issuer, key, signed)))
-      (λ signed. placed-is n end f early issuer key signed h))
+      (λ signed. placed_is n end f early issuer key signed h))
       (λ key. refuses d b clock verdict window (Read f) v answers.KeyInvalid (omega arith) (rw (known, early, issuer, key))))
       )
       (λ early. refuses d b clock verdict window (Read f) v answers.Validity (omega arith) (rw (known, early)))

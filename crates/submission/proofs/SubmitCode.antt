@@ -80,19 +80,19 @@ module _ (before clock verdict : ℕ) (window : Window) (h : before ≤ clock + 
 
   module _ (n : verdict ≡ 2 → ⊥) (opens : Bool) (k : opens ≡ key_open window clock) where
     -- a key whose window the clock is not in is refused
-    pub admit-key : not opens ≡ true → Refused answers.KeyInvalid ≡ admitted before clock verdict window
+    pub admit_key : not opens ≡ true → Refused answers.KeyInvalid ≡ admitted before clock verdict window
     unfolding admitted is_that
-    admit-key t = rw (le-leb before (clock + longest_lead) h, ne_eqb verdict 2 n, sym k ∙ not-true opens t)
+    admit_key t = rw (le-leb before (clock + longest_lead) h, ne_eqb verdict 2 n, sym k ∙ not-true opens t)
 
     -- a bad signature is refused
-    pub admit-bad : not opens ≡ false → verdict ≡ 1 → Refused answers.BadSignature ≡ admitted before clock verdict window
+    pub admit_bad : not opens ≡ false → verdict ≡ 1 → Refused answers.BadSignature ≡ admitted before clock verdict window
     unfolding admitted is_that
-    admit-bad t e = rw (le-leb before (clock + longest_lead) h, ne_eqb verdict 2 n, sym k ∙ not-false opens t, eq-eqb verdict 1 e)
+    admit_bad t e = rw (le-leb before (clock + longest_lead) h, ne_eqb verdict 2 n, sym k ∙ not-false opens t, eq-eqb verdict 1 e)
 
     -- else all pass
-    pub admit-all : not opens ≡ false → (verdict ≡ 1 → ⊥) → Admitted ≡ admitted before clock verdict window
+    pub admit_all : not opens ≡ false → (verdict ≡ 1 → ⊥) → Admitted ≡ admitted before clock verdict window
     unfolding admitted is_that
-    admit-all t e = rw (le-leb before (clock + longest_lead) h, ne_eqb verdict 2 n, sym k ∙ not-false opens t, ne_eqb verdict 1 e)
+    admit_all t e = rw (le-leb before (clock + longest_lead) h, ne_eqb verdict 2 n, sym k ∙ not-false opens t, ne_eqb verdict 1 e)
 
 -- ---- a body that is held, and one that is not
 
@@ -131,19 +131,19 @@ module _ (d b : List ℕ) (clock verdict : ℕ) (window : Window) (f : Fields) (
 
   module _ (n end : ℕ) (h : Held) (e : v ≡ Sound n end h) (a : Admission) (k : a ≡ admitted f.not_before.0 clock verdict window) where
     -- in a sound image it is placed, if it is admitted
-    read-sound : chosen_read d b clock verdict window f v ≡ when_admitted a (placed d b n end h f)
+    read_sound : chosen_read d b clock verdict window f v ≡ when_admitted a (placed d b n end h f)
     unfolding chosen_read
-    read-sound =
+    read_sound =
         ap (chosen_read d b clock verdict window f) e
         ∙ ap (λ (x : Admission). when_admitted x (placed d b n end h f)) (sym k)
 
     -- a refusal is the answer
-    pub read-refused : (x : Submission) → a ≡ Refused x → Answer x ≡ chosen_read d b clock verdict window f v
-    read-refused x u = sym (read-sound ∙ ap (λ (y : Admission). when_admitted y (placed d b n end h f)) u)
+    pub read_refused : (x : Submission) → a ≡ Refused x → Answer x ≡ chosen_read d b clock verdict window f v
+    read_refused x u = sym (read_sound ∙ ap (λ (y : Admission). when_admitted y (placed d b n end h f)) u)
 
     -- what is admitted is placed
-    pub read-placed : (r : Choice) → a ≡ Admitted → r ≡ placed d b n end h f → r ≡ chosen_read d b clock verdict window f v
-    read-placed r u p = p ∙ sym (read-sound ∙ ap (λ (y : Admission). when_admitted y (placed d b n end h f)) u)
+    pub read_placed : (r : Choice) → a ≡ Admitted → r ≡ placed d b n end h f → r ≡ chosen_read d b clock verdict window f v
+    read_placed r u p = p ∙ sym (read_sound ∙ ap (λ (y : Admission). when_admitted y (placed d b n end h f)) u)
 
 module _ (d id : List ℕ) (a : Submission) (v : ImageCheck) (e : v ≡ check_of d id) where
   -- what is answered of a body that does not read, in a sound image
@@ -162,13 +162,13 @@ module _ (d id : List ℕ) (a : Submission) (v : ImageCheck) (e : v ≡ check_of
 pub ids_room : (b : List ℕ) (o : Form) (f : Fields) → o ≡ form_of (formed_in b) → o ≡ Formed f → IdsFit b f
 ids_room b o f k e = go (formed_in b) refl (sym k ∙ e)
   where
-    same-fields : (x y : Fields) → Formed x ≡ Formed y → x ≡ y
-    same-fields x y g = cc
+    same_fields : (x y : Fields) → Formed x ≡ Formed y → x ≡ y
+    same_fields x y g = cc
 
     go : (x : Option Seen) → formed_in b ≡ x → form_of x ≡ Formed f → IdsFit b f
     go (some v) g = λ t.
         let p = (formed_bounds b v g).1 in
-        subst (IdsFit b) (same-fields (fields_of v) f t) (record { id = p.id; fay = p.fay; terminal = p.terminal })
+        subst (IdsFit b) (same_fields (fields_of v) f t) (record { id = p.id; fay = p.fay; terminal = p.terminal })
     go none g = λ t. absurd (let z : ◌≡◌ {A = ℕ} 0 1 = cc in omega arith)
 
 -- the answers of the three tests are that of the ids
@@ -191,17 +191,17 @@ module _ (b : List ℕ) (o : Form) (k : o ≡ form_of (formed_in b)) where
 
   module _ (f : Fields) (e : o ≡ Formed f) (t : Bool) (ids : t ≡ ids_in b f) where
     -- what is answered, by the test of the ids
-    by-ids : entering b ≡ cond t (within_period f) Structure
+    by_ids : entering b ≡ cond t (within_period f) Structure
     unfolding entering
-    by-ids = sym (ap (entering_by b) (sym e ∙ k)) ∙ ap (λ (x : Bool). cond x (within_period f) Structure) (sym ids)
+    by_ids = sym (ap (entering_by b) (sym e ∙ k)) ∙ ap (λ (x : Bool). cond x (within_period f) Structure) (sym ids)
 
     -- an id is not of version 7
-    pub entering-refused : not t ≡ true → Structure ≡ entering b
-    entering-refused n = sym (by-ids ∙ rw (not-true t n))
+    pub entering_refused : not t ≡ true → Structure ≡ entering b
+    entering_refused n = sym (by_ids ∙ rw (not-true t n))
 
     -- all are: the period decides
-    pub entering-passed : not t ≡ false → (r : Reading) → r ≡ within_period f → r ≡ entering b
-    entering-passed n r p = p ∙ sym (by-ids ∙ rw (not-false t n))
+    pub entering_passed : not t ≡ false → (r : Reading) → r ≡ within_period f → r ≡ entering b
+    entering_passed n r p = p ∙ sym (by_ids ∙ rw (not-false t n))
 
 -- ---- what is to be done
 
@@ -264,19 +264,19 @@ module _ (d b : List ℕ) (n end id mask clock : ℕ) where
   module _ (o : Room) (d₁ : List ℕ)
       (e : (o ≡ room_of edition2 d n end clock (length b)) × (d₁ ≡ after_room edition2 d n end clock (length b))) where
     -- room was made: the body is added after the rows that stay
-    pub removal-made : (m at : ℕ) → o ≡ Made m at → (a : Added) (d₂ : List ℕ)
+    pub removal_made : (m at : ℕ) → o ≡ Made m at → (a : Added) (d₂ : List ℕ)
         → (a ≡ added_of d₁ m at b id) × (d₂ ≡ after_add d₁ m at b id mask clock) → (r : Submission) → r ≡ stored_as a
         → (r ≡ stored_after_removal d n end b id clock) × (d₂ ≡ after_removal d n end b id mask clock)
     unfolding stored_after_removal after_removal
-    removal-made m at u a d₂ k r g = (
+    removal_made m at u a d₂ k r g = (
       g ∙ ap stored_as k.0 ∙ ap₂ (λ (x : List ℕ) (y : Room). stored_in x b id y) e.1 (sym u ∙ e.0),
       k.1 ∙ ap₂ (λ (x : List ℕ) (y : Room). after_in x b id mask clock y) e.1 (sym u ∙ e.0),
     )
 
     -- no room was made
-    pub removal-none : o ≡ NoRoom → (answers.Full ≡ stored_after_removal d n end b id clock) × (d₁ ≡ after_removal d n end b id mask clock)
+    pub removal_none : o ≡ NoRoom → (answers.Full ≡ stored_after_removal d n end b id clock) × (d₁ ≡ after_removal d n end b id mask clock)
     unfolding stored_after_removal after_removal
-    removal-none u = (
+    removal_none u = (
       ap₂ (λ (x : List ℕ) (y : Room). stored_in x b id y) e.1 (sym u ∙ e.0),
       ap₂ (λ (x : List ℕ) (y : Room). after_in x b id mask clock y) e.1 (sym u ∙ e.0),
     )
@@ -292,19 +292,19 @@ module _ (d b : List ℕ) (n end id mask clock : ℕ) where
 
   module _ (a : Added) (d₁ : List ℕ) (e : (a ≡ added_of d n end b id) × (d₁ ≡ after_add d n end b id mask clock)) where
     -- the body was added as it is
-    pub store-fits : a ≡ Done → (answers.Done ≡ stored_of d n end b id clock) × (d₁ ≡ after_store d n end b id mask clock)
+    pub store_fits : a ≡ Done → (answers.Done ≡ stored_of d n end b id clock) × (d₁ ≡ after_store d n end b id mask clock)
     unfolding stored_of after_store
-    store-fits u = (
+    store_fits u = (
       ap (stored_or (stored_after_removal d n end b id clock)) (sym u ∙ e.0),
       e.1 ∙ ap (after_or (after_add d n end b id mask clock) (after_removal d n end b id mask clock)) (sym u ∙ e.0),
     )
 
     -- it was not: expired rows are removed first
-    pub store-removes : a ≡ Full → (r : Submission) (d₂ : List ℕ)
+    pub store_removes : a ≡ Full → (r : Submission) (d₂ : List ℕ)
         → (r ≡ stored_after_removal d₁ n end b id clock) × (d₂ ≡ after_removal d₁ n end b id mask clock)
         → (r ≡ stored_of d n end b id clock) × (d₂ ≡ after_store d n end b id mask clock)
     unfolding stored_of after_store
-    store-removes u r d₂ k =
+    store_removes u r d₂ k =
         let full : Full ≡ added_of d n end b id = sym u ∙ e.0 in
         let same-buffer : d₁ ≡ d = e.1 ∙ full_keeps (sym full) in (
           k.0 ∙ ap (λ (x : List ℕ). stored_after_removal x n end b id clock) same-buffer

@@ -17,7 +17,7 @@ use Rattle.image_spec.specs.Layout.{edition2}
 use Rattle.image_spec.specs.Image.{Row, reading, id_of}
 use Rattle.image_spec.specs.Check.{is_held}
 use Rattle.image_spec.specs.Close.{closed_up}
-use Rattle.image_spec.specs.Choose.{Chosen, unexpired, choice_of as choiceAmong, staying_of, room_of, after_room}
+use Rattle.image_spec.specs.Choose.{Chosen, unexpired, choice_of as choice_among, staying_of, room_of, after_room}
 use Rattle.image_spec.specs.Edition2.{image_of, Holds, check_of, rows_held, added_of, after_add, has_room, with_body}
 use Rattle.image_spec.proofs.Laws.{edition2_ok, read_in, check_says, body_added, room_made, stored_after, choice_exactly, fits_none_goes}
 use Rattle.submission_spec.specs.declared.Submission.{Submission}
@@ -45,7 +45,7 @@ choice_answer d b clock verdict window a e =
 module _ (d b : List ℕ) (clock : ℕ) (rs : List Row) (f : Fields) (h : Holds d rs) (reads : reading b ≡ Read f) where
   -- the choice of the rows that go
   abbrev choice : Chosen
-  choice = choiceAmong edition2 (length d) clock rs (length b)
+  choice = choice_among edition2 (length d) clock rs (length b)
 
   -- the rows that stay
   abbrev stays : List Row

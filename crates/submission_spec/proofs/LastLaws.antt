@@ -89,13 +89,13 @@ module _ (d : List ℕ) (bs : List Row) (c : Descriptor) (clock : ℕ) (window :
     early = le-leb c.payload.not_before (clock + 86400) l
 
     -- so does that of the key
-    open-key : (leb window.from.0 clock && (not window.bounded || leb clock window.until.0)) ≡ true
-    open-key = key_opens window clock r.opened r.lasts
+    open_key : (leb window.from.0 clock && (not window.bounded || leb clock window.until.0)) ≡ true
+    open_key = key_opens window clock r.opened r.lasts
 
     -- the same bytes are held
     same_held : body_with c.payload.id bs ≡ some (encode c) → Gives d (encode c) clock 0 window 0 d
     same-held e = (
-      all_passed (rw (real, short, early, open-key, e, equal_same (encode c) (encode c) refl)),
+      all_passed (rw (real, short, early, open_key, e, equal_same (encode c) (encode c) refl)),
       repeat_keeps d (encode c) clock 0 window bs (encode c) r.holds (ap (λ (id : List ℕ). body_with id bs) id_of_lem ∙ e),
     )
 
@@ -103,20 +103,20 @@ module _ (d : List ℕ) (bs : List Row) (c : Descriptor) (clock : ℕ) (window :
     other_held : (b : List ℕ) → body_with c.payload.id bs ≡ some b → (b ≡ encode c → ⊥) → Gives d (encode c) clock 0 window 5 d
     other-held b e o =
         let q : number_of (submitted d (encode c) clock 0 window) ≡ 5
-        = fails_with 5 (rw (real, short, early, open-key, e, not_same b (encode c) o)) in
+        = fails_with 5 (rw (real, short, early, open_key, e, not_same b (encode c) o)) in
         (q, refusal_keeps d (encode c) clock 0 window (λ z. omega arith))
 
     module _ (e : body_with c.payload.id bs ≡ none) where
       -- there is no room beside the rows that are not expired
       no_room : room_for (length d) (unexpired clock bs) (row_now (encode c) clock) ≡ false → Gives d (encode c) clock 0 window 6 d
       no_room f =
-          let q : number_of (submitted d (encode c) clock 0 window) ≡ 6 = fails_with 6 (rw (real, short, early, open-key, e, f)) in
+          let q : number_of (submitted d (encode c) clock 0 window) ≡ 6 = fails_with 6 (rw (real, short, early, open_key, e, f)) in
           (q, refusal_keeps d (encode c) clock 0 window (λ z. omega arith))
 
       module _ (room : room_for (length d) (unexpired clock bs) (row_now (encode c) clock) ≡ true) where
         -- every step passes
         stored : number_of (submitted d (encode c) clock 0 window) ≡ 0
-        stored = all_passed (rw (real, short, early, open-key, e, room))
+        stored = all_passed (rw (real, short, early, open_key, e, room))
 
         -- the id of the body is new
         new : body_with (id_of (encode c)) bs ≡ none

@@ -10,7 +10,7 @@ use lib.Dec.{leb, eqb}
 use borrow.Author.Tests.{leb-true, eqb-true, eq-eqb}
 use Rattle.octets.specs.Bytes.{AreBytes}
 use Rattle.octets.proofs.Tests.{by_cond, and_left, and_right, and_both, no_flag}
-use Rattle.resource_spec.specs.Identifier.{between, is_hex, Slot, digit as aDigit, char, has_form, uuid_form}
+use Rattle.resource_spec.specs.Identifier.{between, is_hex, Slot, digit as a_digit, char, has_form, uuid_form}
 use Rattle.uuid_spec.specs.Uuid.{digit, hex, grouped, text, lower, lowered, Spells}
 use Rattle.uuid_spec.specs.Promises.{TextsSpell, SpelledOnce}
 use Rattle.uuid_spec.proofs.DigitLaws.{digit_lower, value, octet_value, hex_digit, digit_hex}
@@ -48,7 +48,7 @@ pair x u = digit (x / 16) ∷ digit (x % 16) ∷ u
 -- two digits for each of n octets, before other slots
 abbrev digits : ℕ → List Slot → List Slot
 digits zero fs = fs
-digits (suc n) fs = aDigit ∷ aDigit ∷ digits n fs
+digits (suc n) fs = a_digit ∷ a_digit ∷ digits n fs
 
 -- the slots of groups of so many octets
 abbrev slots : List ℕ → List Slot
@@ -69,7 +69,7 @@ uuid_slots = refl
 -- ---- from the form to the octets
 
 -- two digits spell an octet
-two_read : (fs : List Slot) (t : List ℕ) → has_form (aDigit ∷ aDigit ∷ fs) t ≡ true
+two_read : (fs : List Slot) (t : List ℕ) → has_form (a_digit ∷ a_digit ∷ fs) t ≡ true
     → (x : ℕ) × (x < 256) × ((r : List ℕ) × (has_form fs r ≡ true) × (lowered t ≡ pair x (lowered r)))
 unfolding has_form
 two_read fs [] e = no_flag e
@@ -165,7 +165,7 @@ groups_read (n ∷ m ∷ ns) t e =
 
 -- the two digits of an octet
 two_back : (fs : List Slot) (x : ℕ) (u t : List ℕ) → x < 256 → lowered t ≡ pair x u
-    → ((r : List ℕ) → lowered r ≡ u → has_form fs r ≡ true) → has_form (aDigit ∷ aDigit ∷ fs) t ≡ true
+    → ((r : List ℕ) → lowered r ≡ u → has_form fs r ≡ true) → has_form (a_digit ∷ a_digit ∷ fs) t ≡ true
 unfolding has_form
 two_back fs x u [] h e f = absurd (omega (arith, ap length e))
 two_back fs x u (c ∷ []) h e f = absurd (omega (arith, ap length e))

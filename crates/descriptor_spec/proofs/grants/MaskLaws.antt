@@ -7,6 +7,7 @@ use native.Mathlib.Omega.{arith}
 use lib.Bits.{bit_or, or_lt}
 use lib.Dec.{T, eqb, eqb→eq}
 use Rattle.octets.proofs.BitLaws.{or_bit}
+use Rattle.entries_spec.specs.Model.{pair_count}
 use Rattle.descriptor_spec.specs.Model.{Grant}
 use Rattle.descriptor_spec.specs.Allowed.{is_in, GrantOk, All}
 use Rattle.descriptor_spec.specs.Modes.{any_has, bit, union_of}
@@ -29,13 +30,17 @@ or_has = or_bit
 
 -- ---- the mask of all grants
 
+-- the sum with one more grant
+abbrev with_grant : Sum → Grant → Sum
+with_grant sum g = record { mask = bit_or sum.mask (mask_of g.modes); pairs = sum.pairs + pair_count g.constraints }
+
 -- the union of a mask and the masks of allowed grants has a mode exactly where the mask has it or a grant names it
 sum_has : (sum : Sum) (gs : List Grant) (m : ℕ) → m < 4 → sum.mask < 16 → All GrantOk gs
     → has_mode (sum_from sum gs).mask m ≡ (has_mode sum.mask m || any_has m gs)
 sum_has sum [] m h s a = sym (or-false (has_mode sum.mask m))
 sum_has sum (g ∷ gs) m h s a =
     let q = mask_exact g.modes a.0.modes in
-    sum_has _ gs m h (or_lt 4 sum.mask (mask_of g.modes) s q.0) a.1
+    sum_has (with_grant sum g) gs m h (or_lt 4 sum.mask (mask_of g.modes) s q.0) a.1
     ∙ ap (λ (t : Bool). t || any_has m gs)
     (or_has sum.mask (mask_of g.modes) m ∙ ap (λ (t : Bool). has_mode sum.mask m || t) (q.1 m h))
     ∙ sym (or_assoc (has_mode sum.mask m) (is_in m g.modes) (any_has m gs))
@@ -43,7 +48,7 @@ sum_has sum (g ∷ gs) m h s a =
 -- the union has no other bit
 sum_small : (sum : Sum) (gs : List Grant) → sum.mask < 16 → All GrantOk gs → (sum_from sum gs).mask < 16
 sum_small sum [] s a = s
-sum_small sum (g ∷ gs) s a = sum_small _ gs (or_lt 4 sum.mask (mask_of g.modes) s (mask_exact g.modes a.0.modes).0) a.1
+sum_small sum (g ∷ gs) s a = sum_small (with_grant sum g) gs (or_lt 4 sum.mask (mask_of g.modes) s (mask_exact g.modes a.0.modes).0) a.1
 
 -- the mask that is seen of allowed grants has a mode exactly where one of them names it, and no other bit
 pub grants_has : (at : ℕ) (gs : List Grant) → All GrantOk gs

@@ -1,5 +1,5 @@
 -- `room_by_lem` meets its contract. Assumes nothing.
-use Rattle.removal.proofs.RoomCode.{room-no, room-beyond, room-yes}
+use Rattle.removal.proofs.RoomCode.{room_no, room_beyond, room_yes}
 use borrow.Author.Rules.{rules}
 use Rattle.removal.proofs.room_by.Statement.{statement}
 use Rattle.removal.proofs.room_by.Tie as tie
@@ -14,7 +14,7 @@ returns c =
     let s = h.before.before.before in
     let m = s.before.before.before in
     let b = start h in
-    room-no _ _ _ _ _ _ b.pre.1 b.pre.2 b.pre.3 _ _ _ _ _ _ m.mark-all.ensures s.short-of.ensures
+    room_no _ _ _ _ _ _ b.pre.1 b.pre.2 b.pre.3 _ _ _ _ _ _ m.mark-all.ensures s.short-of.ensures
     h.choose.ensures.0 c.if1.true
 
 returns-2 : tie.Need-returns-2
@@ -23,7 +23,7 @@ returns-2 c =
     let s = h.before.before.before in
     let m = s.before.before.before in
     let b = start h in
-    room-beyond _ _ _ _ _ _ b.pre.1 b.pre.2 b.pre.3 _ _ _ _ _ _ m.mark-all.ensures s.short-of.ensures
+    room_beyond _ _ _ _ _ _ b.pre.1 b.pre.2 b.pre.3 _ _ _ _ _ _ m.mark-all.ensures s.short-of.ensures
     h.choose.ensures.0 c.if2.true
 
 same-length-6 : tie.Need-same-length-6
@@ -38,7 +38,7 @@ returns-3 c =
     let s = h.before.before.before in
     let m = s.before.before.before in
     let b = start h in
-    room-yes _ _ _ _ _ _ b.pre.1 b.pre.2 b.pre.3 _ _ _ _ _ _ m.mark-all.ensures s.short-of.ensures
+    room_yes _ _ _ _ _ _ b.pre.1 b.pre.2 b.pre.3 _ _ _ _ _ _ m.mark-all.ensures s.short-of.ensures
     h.choose.ensures.0 _ _ e.if1.false f.if2.false (same-length-6 c) k.close.ensures
 
 pub room_by_spec : {M : Type 1} → statement M

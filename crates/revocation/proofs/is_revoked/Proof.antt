@@ -6,7 +6,7 @@ use native.Mathlib.Omega.{arith}
 use lib.ListN.{length, drop}
 use borrow.Author.Rules.{rules}
 use Rattle.revocation_spec.specs.Revocation.{revocation_size, is_revoked, revocations_of}
-use Rattle.revocation.proofs.RevocationCode.{row-hit, row_next, row_none}
+use Rattle.revocation.proofs.RevocationCode.{row_hit, row_next, row_none}
 use Rattle.revocation.proofs.is_revoked.Statement.{statement}
 use Rattle.revocation.proofs.is_revoked.Tie as tie
 
@@ -24,7 +24,7 @@ returns : tie.Need-returns invariant-loop decreases-loop
 returns c =
     let t = c.before.before in
     let l = t.before.loop in
-    sym (l.invariant.2 ∙ row-hit _ _ _ l.i (omega (arith, l.invariant.1)) c.before.revokes-at.ensures c.if1.true)
+    sym (l.invariant.2 ∙ row_hit _ _ _ l.i (omega (arith, l.invariant.1)) c.before.revokes-at.ensures c.if1.true)
 
 loop-again : tie.Need-loop-preserved invariant-loop decreases-loop
 loop-again c =

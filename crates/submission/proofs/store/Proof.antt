@@ -1,5 +1,5 @@
 -- `store` meets its contract. Assumes nothing.
-use Rattle.submission.proofs.SubmitCode.{store-fits, store-removes}
+use Rattle.submission.proofs.SubmitCode.{store_fits, store_removes}
 use borrow.Author.Rules.{rules}
 use Rattle.submission.proofs.store.Statement.{statement}
 use Rattle.submission.proofs.store.Tie as tie
@@ -8,7 +8,7 @@ returns : tie.Need-returns
 returns c =
     let a = c.before.before.before.before in
     let x = a.before.before.before.before.args in
-    store-fits x.image.now x.body.now x.rows x.end x.id x.mask x.clock.0 _ _ a.add_body.ensures
+    store_fits x.image.now x.body.now x.rows x.end x.id x.mask x.clock.0 _ _ a.add_body.ensures
     c.enum_told.given.1
 
 returns-2 : tie.Need-returns-2
@@ -17,7 +17,7 @@ returns-2 c =
     let t = k.before.before in
     let a = t.before.before.before.before in
     let x = a.before.before.before.before.args in
-    store-removes x.image.now x.body.now x.rows x.end x.id x.mask x.clock.0 _ _ a.add_body.ensures
+    store_removes x.image.now x.body.now x.rows x.end x.id x.mask x.clock.0 _ _ a.add_body.ensures
     t.enum-told2.given.1 _ _ k.store-after-removal.ensures
 
 pub store_spec : {M : Type 1} → statement M

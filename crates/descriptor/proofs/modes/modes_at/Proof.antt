@@ -12,7 +12,7 @@ use Rattle.entries_spec.specs.Value.{count_at, keyed_at}
 use Rattle.entries.specs.Code.{count_read}
 use Rattle.descriptor_spec.specs.Reader.{mode_at, modes_at}
 use Rattle.descriptor.proofs.RoomCode.{mode_small}
-use Rattle.descriptor.proofs.ModeCode.{modes-no, modes-yes}
+use Rattle.descriptor.proofs.ModeCode.{modes_no, modes_yes}
 use Rattle.descriptor.proofs.modes.modes_at.Statement.{statement}
 use Rattle.descriptor.proofs.modes.modes_at.Tie as tie
 
@@ -45,7 +45,7 @@ loop-holds c = (omega arith, refl)
 returns-2 : tie.Need-returns-2 invariant-loop decreases-loop
 returns-2 c =
     let l = c.before.before.before.before in
-    modes-no _ _ _ _ _ _ _ (counted l.before.before) l.loop.invariant.1 (omega arith)
+    modes_no _ _ _ _ _ _ _ (counted l.before.before) l.loop.invariant.1 (omega arith)
     (sym (ap count_read c.enum-told2.given.1) ∙ c.before.before.mode-at.ensures)
 
 loop-again : tie.Need-loop-preserved invariant-loop decreases-loop
@@ -61,7 +61,7 @@ loop-again c =
 returns-3 : tie.Need-returns-3 invariant-loop decreases-loop
 returns-3 c =
     let l = c.before in
-    modes-yes _ _ _ _ _ _ _ (counted l.before.before) l.loop.invariant.1 (omega arith)
+    modes_yes _ _ _ _ _ _ _ (counted l.before.before) l.loop.invariant.1 (omega arith)
 
 pub modes_at_spec : {M : Type 1} → statement M
 modes_at_spec =

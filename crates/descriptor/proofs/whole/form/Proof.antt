@@ -15,7 +15,7 @@ use Rattle.entries_spec.proofs.ValueBounds.{key_room}
 use Rattle.descriptor_spec.specs.Reader.{payload_at, before_payload, before_key_id, descriptor_at}
 use Rattle.descriptor.specs.Code.{payload_of, payload_read, seen_of}
 use Rattle.descriptor.proofs.RoomCode.{payload_room}
-use Rattle.descriptor.proofs.ReadCode.{form_long, form-refused, form-more, form_all}
+use Rattle.descriptor.proofs.ReadCode.{form_long, form_refused, form_more, form_all}
 use borrow.Author.Rules.{rules}
 use Rattle.descriptor.proofs.whole.form.Statement.{statement}
 use Rattle.descriptor.proofs.whole.form.Tie as tie
@@ -59,14 +59,14 @@ returns c = form_long _ c.if1.true
 
 returns-2 : tie.Need-returns-2
 unfolding descriptor_at before_payload k_payload
-returns-2 c = form-refused _ c.before.before.before.if1.false
+returns-2 c = form_refused _ c.before.before.before.if1.false
     (stopped _ (failed _ _ (not_T_of _ c.before.has-at.ensures c.if2.true)))
 
 returns-3 : tie.Need-returns-3
 unfolding descriptor_at before_payload k_payload
 returns-3 c =
     let h = c.before.before.before in
-    form-refused _ h.before.before.before.if1.false
+    form_refused _ h.before.before.before.if1.false
     (stopped _ (passed _ (T_of_not _ h.before.has-at.ensures h.if2.false)
     (sym (ap payload_read c.enum_told.given.1) ∙ c.before.before.payload-at.ensures)))
 
@@ -74,7 +74,7 @@ returns-4 : tie.Need-returns-4
 unfolding descriptor_at before_payload before_key_id k_payload k_version k_signature k_key_id
 returns-4 c =
     let k = c.before.before.before.before in
-    form-refused _ (short k) (took _ (keyed k) (stopped _ (failed _ _ (not_T_of _ c.before.has-at2.ensures c.if3.true))))
+    form_refused _ (short k) (took _ (keyed k) (stopped _ (failed _ _ (not_T_of _ c.before.has-at2.ensures c.if3.true))))
 
 add-signature-at : tie.Need-overflow-add-signature-at
 add-signature-at c =
@@ -91,7 +91,7 @@ unfolding descriptor_at before_payload before_key_id k_payload k_version k_signa
 returns-5 c =
     let f = c.before.before.before in
     let k = f.before.before.before.before in
-    form-refused _ (short k)
+    form_refused _ (short k)
     (took _ (keyed k)
     (stopped _ (passed _ (T_of_not _ f.before.has-at2.ensures f.if3.false)
     (sym (ap signature_read c.enum-told2.given.1) ∙ c.before.before.signature_at.ensures))))
@@ -99,7 +99,7 @@ returns-5 c =
 returns-6 : tie.Need-returns-6
 returns-6 c =
     let g = c.before.before in
-    form-more _ (short g.before.before.before.before.before.before.before) (signed g) c.if4.true
+    form_more _ (short g.before.before.before.before.before.before.before) (signed g) c.if4.true
 
 sub-fields-of : tie.Need-overflow-sub-fields-of
 sub-fields-of c = omega (arith, fits c.before.before.before.before.before.before.before.before.before)

@@ -11,7 +11,7 @@ use Rattle.entries_spec.specs.declared.Kind.TheVariants.{Text}
 use Rattle.entries_spec.specs.Value.{kind_at}
 use Rattle.entries_spec.specs.Reader.{pair_at}
 use Rattle.entries_spec.proofs.ValueBounds.{string_room}
-use Rattle.entries.proofs.PairCode.{pair-early, pair-no, pair-yes}
+use Rattle.entries.proofs.PairCode.{pair_early, pair_no, pair_yes}
 use borrow.Author.Rules.{rules}
 use Rattle.entries.proofs.pairs.pair_at.Statement.{statement}
 use Rattle.entries.proofs.pairs.pair_at.Tie as tie
@@ -45,12 +45,12 @@ part-before-end-2 : tie.Need-slice-bounds-before-end-2
 part-before-end-2 c = omega (arith, (key_in c.before.before).fits)
 
 returns-2 : tie.Need-returns-2
-returns-2 c = pair-early _ _ _ _ _ _ _ (key c.before.before.before.before.before) c.before.before2.ensures c.if1.true
+returns-2 c = pair_early _ _ _ _ _ _ _ (key c.before.before.before.before.before) c.before.before2.ensures c.if1.true
 
 returns-3 : tie.Need-returns-3
 returns-3 c =
     let e = c.before.before.before in
-    pair-no _ _ _ _ _ _ _ (key e.before.before.before.before.before) e.before.before2.ensures e.if1.false
+    pair_no _ _ _ _ _ _ _ (key e.before.before.before.before.before) e.before.before2.ensures e.if1.false
     (sym (ap span_read c.enum-told2.given.1) ∙ c.before.before.string-at2.ensures)
 
 sub-t13 : tie.Need-overflow-sub-t13
@@ -70,7 +70,7 @@ returns-4 : tie.Need-returns-4
 returns-4 c =
     let f = c.before in
     let e = f.before.before.before in
-    pair-yes _ _ _ _ _ _ _ (key e.before.before.before.before.before) e.before.before2.ensures _ _ e.if1.false
+    pair_yes _ _ _ _ _ _ _ (key e.before.before.before.before.before) e.before.before2.ensures _ _ e.if1.false
     (sym (ap span_read f.from.given.1) ∙ f.before.before.string-at2.ensures)
 
 pub pair_at_spec : {M : Type 1} → statement M

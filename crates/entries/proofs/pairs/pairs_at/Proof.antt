@@ -13,7 +13,7 @@ use Rattle.entries_spec.specs.Value.{count_at}
 use Rattle.entries_spec.specs.Reader.{pair_at, pairs_at}
 use Rattle.entries.specs.Code.{count_read, pair_read}
 use Rattle.entries_spec.proofs.ValueBounds.{pair_room}
-use Rattle.entries.proofs.PairCode.{pairs-no, pairs-yes}
+use Rattle.entries.proofs.PairCode.{pairs_no, pairs_yes}
 use Rattle.entries.proofs.pairs.pairs_at.Statement.{statement}
 use Rattle.entries.proofs.pairs.pairs_at.Tie as tie
 
@@ -50,7 +50,7 @@ returns-2 c =
     let l = c.before.before.before.before in
     let k = l.before.before in
     let a = k.before.before.before.before.args in
-    pairs-no a.s.now a.most a.at k.value.given.0.0 k.value.given.0.1.0 l.loop.left l.loop.last
+    pairs_no a.s.now a.most a.at k.value.given.0.0 k.value.given.0.1.0 l.loop.left l.loop.last
     l.loop.len l.loop.here (counted k) l.loop.invariant.1 (omega arith)
     (sym (ap (pair_read l.loop.here) c.enum-told2.given.1) ∙ c.before.before.pair-at.ensures)
 
@@ -69,7 +69,7 @@ returns-3 c =
     let l = c.before in
     let k = l.before.before in
     let a = k.before.before.before.before.args in
-    pairs-yes a.s.now a.most a.at k.value.given.0.0 k.value.given.0.1.0 l.loop.left l.loop.last
+    pairs_yes a.s.now a.most a.at k.value.given.0.0 k.value.given.0.1.0 l.loop.left l.loop.last
     l.loop.len l.loop.here (counted k) l.loop.invariant.1 (omega arith)
 
 pub pairs_at_spec : {M : Type 1} → statement M

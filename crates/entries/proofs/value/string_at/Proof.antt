@@ -9,7 +9,7 @@ use Rattle.exact.proofs.ReadsLaws.{stopped}
 use Rattle.cbor_item_spec.specs.Head.{span_read, span_at}
 use Rattle.entries_spec.specs.Kinds.{major_of, is_kind}
 use Rattle.entries_spec.specs.Value.{string_at, kind_at}
-use Rattle.entries.proofs.ValueCode.{string-yes, string-no, span_bound}
+use Rattle.entries.proofs.ValueCode.{string_yes, string_no, span_bound}
 use borrow.Author.Rules.{rules}
 use Rattle.entries.proofs.value.string_at.Statement.{statement}
 use Rattle.entries.proofs.value.string_at.Tie as tie
@@ -43,14 +43,14 @@ returns-2 : tie.Need-returns-2
 unfolding kind_at
 returns-2 c =
     let k = c.before.before.before.before in
-    string-yes _ (is_kind k.before.before.before.before.before.args.kind) _ _ _ _ _ (here k) c.before.is-kind.ensures
+    string_yes _ (is_kind k.before.before.before.before.before.args.kind) _ _ _ _ _ (here k) c.before.is-kind.ensures
     c.if1.true
 
 returns-3 : tie.Need-returns-3
 unfolding kind_at
 returns-3 c =
     let k = c.before.before.before.before in
-    string-no _ (is_kind k.before.before.before.before.before.args.kind) _ _ _ _ _ (here k) c.before.is-kind.ensures
+    string_no _ (is_kind k.before.before.before.before.before.args.kind) _ _ _ _ _ (here k) c.before.is-kind.ensures
     c.if1.false
 
 pub string_at_spec : {M : Type 1} → statement M

@@ -10,7 +10,7 @@ use Rattle.cbor_item_spec.specs.Head.{span_read, span_at}
 use Rattle.entries_spec.specs.declared.Kind.TheVariants.{Text}
 use Rattle.entries_spec.specs.Kinds.{is_kind}
 use Rattle.entries_spec.specs.Value.{string_at, kind_at}
-use Rattle.entries.proofs.ValueCode.{string-yes, string-no, span_bound}
+use Rattle.entries.proofs.ValueCode.{string_yes, string_no, span_bound}
 use borrow.Author.Rules.{rules}
 use Rattle.entries.proofs.value.text_at.Statement.{statement}
 use Rattle.entries.proofs.value.text_at.Tie as tie
@@ -40,14 +40,14 @@ unfolding kind_at is_kind
 returns-2 c =
     let k = c.before.before.before.before in
     let a = k.before.before.before.before.args in
-    string-yes _ (is_kind (Text a.lo a.hi)) _ _ _ _ _ (here k) c.before.is-text.ensures c.if1.true
+    string_yes _ (is_kind (Text a.lo a.hi)) _ _ _ _ _ (here k) c.before.is-text.ensures c.if1.true
 
 returns-3 : tie.Need-returns-3
 unfolding kind_at is_kind
 returns-3 c =
     let k = c.before.before.before.before in
     let a = k.before.before.before.before.args in
-    string-no _ (is_kind (Text a.lo a.hi)) _ _ _ _ _ (here k) c.before.is-text.ensures c.if1.false
+    string_no _ (is_kind (Text a.lo a.hi)) _ _ _ _ _ (here k) c.before.is-text.ensures c.if1.false
 
 pub text_at_spec : {M : Type 1} → statement M
 text_at_spec =

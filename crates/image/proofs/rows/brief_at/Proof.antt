@@ -7,7 +7,7 @@ use lib.ListN.{length}
 use Rattle.image_spec.specs.Layout.{row_place}
 use Rattle.image_spec.specs.Check.{row_id, id_among, on_read, row_at}
 use Rattle.image.specs.Code.{place_of}
-use Rattle.image.proofs.CheckCode.{after_read, row_read_lem, id_room, read_not, row_other, row-good}
+use Rattle.image.proofs.CheckCode.{after_read, row_read_lem, id_room, read_not, row_other, row_good}
 use borrow.Author.Rules.{rules}
 use Rattle.image.proofs.rows.brief_at.Statement.{statement}
 use Rattle.image.proofs.rows.brief_at.Tie as tie
@@ -50,7 +50,7 @@ returns-2 : tie.Need-returns-2
 returns-2 c =
     let f = c.before.before.before in
     let k = f.before.before in
-    sym (ap place_of (opened k ∙ row-good _ _ _ _ _ _ (placed k) _ _ f.fields.given.1 _ (c.before.row-sound.ensures _ refl refl) c.if1.false))
+    sym (ap place_of (opened k ∙ row_good _ _ _ _ _ _ (placed k) _ _ f.fields.given.1 _ (c.before.row-sound.ensures _ refl refl) c.if1.false))
 
 returns-3 : tie.Need-returns-3
 returns-3 c = sym (ap place_of (opened c.before.before ∙ read_not _ _ _ _ _ _ (inl c.enum_told.given.1)))

@@ -1,6 +1,6 @@
 -- `check` meets its contract. Assumes nothing.
 use native.Mathlib.Omega.{arith}
-use Rattle.image.proofs.CheckCode.{check_short, header_few, check-header, check-long, check-rows}
+use Rattle.image.proofs.CheckCode.{check_short, header_few, check_header, check_long, check_rows}
 use borrow.Author.Rules.{rules}
 use Rattle.image.proofs.rows.check.Statement.{statement}
 use Rattle.image.proofs.rows.check.Tie as tie
@@ -9,7 +9,7 @@ returns : tie.Need-returns
 returns c = check_short _ _ _ (omega arith)
 
 returns-2 : tie.Need-returns-2
-returns-2 c = check-header _ _ _ (omega arith) _ c.before.header-fits.ensures c.if2.true
+returns-2 c = check_header _ _ _ (omega arith) _ c.before.header-fits.ensures c.if2.true
 
 row-place-requires : tie.Need-row-place-requires
 row-place-requires c κs =
@@ -23,7 +23,7 @@ returns-3 : tie.Need-returns-3
 returns-3 c =
     let n = c.before.before in
     let u = n.before in
-    check-long _ _ _ (omega arith) _ u.before.header-fits.ensures u.if2.false _ n.number_at.ensures.0 (omega arith)
+    check_long _ _ _ (omega arith) _ u.before.header-fits.ensures u.if2.false _ n.number_at.ensures.0 (omega arith)
 
 all-rows-requires : tie.Need-all-rows-requires
 all-rows-requires c κs =
@@ -39,7 +39,7 @@ returns-4 : tie.Need-returns-4
 returns-4 c =
     let n = c.before.before.before in
     let u = n.before in
-    check-rows _ _ _ (omega arith) _ u.before.header-fits.ensures u.if2.false _ n.number_at.ensures.0 (omega arith) _
+    check_rows _ _ _ (omega arith) _ u.before.header-fits.ensures u.if2.false _ n.number_at.ensures.0 (omega arith) _
     c.all-rows.ensures
 
 pub check_spec : {M : Type 1} → statement M

@@ -14,7 +14,7 @@ use Rattle.image.specs.Code.{row_read}
 use Rattle.image_spec.proofs.Laws.{rows_in_order, row_next}
 use Rattle.image.proofs.RowsCode.{row_inside, rows_stop, rows_done, rows_begin}
 use Rattle.image.proofs.SlotCode.{Marked, marked_begin, marked_more, marked_fresh}
-use Rattle.image.proofs.CheckCode.{place_read, place_none, rows-hit, rows-missed}
+use Rattle.image.proofs.CheckCode.{place_read, place_none, rows_hit, rows_missed}
 use borrow.Author.Rules.{rules}
 use Rattle.image.proofs.rows.each_row.Statement.{statement}
 use Rattle.image.proofs.rows.each_row.Tie as tie
@@ -105,7 +105,7 @@ loop-again c =
     let e = sym (ap row_read f.fields.given.1) ∙ r.row-at.ensures in (
       omega arith,
       (row_next _ _ _ _ _ _ e).1,
-      t.before.loop.inv.2 ∙ rows-hit _ _ _ _ _ _ _ _ _ _ t.loop-test.taken (slotted w).before.before.row-place2.ensures.0
+      t.before.loop.inv.2 ∙ rows_hit _ _ _ _ _ _ _ _ _ _ t.loop-test.taken (slotted w).before.before.row-place2.ensures.0
           u.before.same_bytes.ensures _ u.if1.true e,
       more w,
     )
@@ -130,7 +130,7 @@ loop-again-2 c =
     let t = turn w in (
       omega arith,
       (row_next _ _ _ _ _ _ (passed c).1).1,
-      t.before.loop.inv.2 ∙ rows-missed _ _ _ _ _ _ _ _ _ _ t.loop-test.taken (slotted w).before.before.row-place2.ensures.0
+      t.before.loop.inv.2 ∙ rows_missed _ _ _ _ _ _ _ _ _ _ t.loop-test.taken (slotted w).before.before.row-place2.ensures.0
           u.before.same_bytes.ensures u.if1.false (passed c),
       more w,
     )

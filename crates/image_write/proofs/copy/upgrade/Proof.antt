@@ -6,7 +6,7 @@ use lib.ListN.{length}
 use Rattle.octets.proofs.BytesLaws.{are_bytes}
 use Rattle.image_spec.specs.Layout.{edition1, edition2, most_rows, row_place}
 use Rattle.image_spec.proofs.Laws.{edition1_ok, edition2_ok, places_wider, sound_bounds}
-use Rattle.image_write.proofs.CopyCode.{upgrade-bad, upgrade-short, upgrade-room, upgrade-done}
+use Rattle.image_write.proofs.CopyCode.{upgrade_bad, upgrade_short, upgrade_room, upgrade_done}
 use borrow.Author.Rules.{rules}
 use Rattle.image_write.proofs.copy.upgrade.Statement.{statement}
 use Rattle.image_write.proofs.copy.upgrade.Tie as tie
@@ -52,7 +52,7 @@ returns c =
     let p = q.before in
     let r = p.before.before in
     let v = r.before.before in
-    upgrade-short _ _ _ _ _ v.check-first.ensures _ _ _ _ _ r.rows.given.1 p.row-place.ensures.0 q.row-place2.ensures.0 c.if1.true
+    upgrade_short _ _ _ _ _ v.check-first.ensures _ _ _ _ _ r.rows.given.1 p.row-place.ensures.0 q.row-place2.ensures.0 c.if1.true
 
 copy-image-requires : tie.Need-copy-image-requires
 copy-image-requires c κs =
@@ -71,7 +71,7 @@ copy-image-requires c κs =
       wider k,
       b.1,
       b.2,
-      upgrade-room _ _ _ s.args.d.now _ v.check-first.ensures _ _ _ _ _ r.rows.given.1 p.row-place.ensures.0 q.row-place2.ensures.0 e.if1.false,
+      upgrade_room _ _ _ s.args.d.now _ v.check-first.ensures _ _ _ _ _ r.rows.given.1 p.row-place.ensures.0 q.row-place2.ensures.0 e.if1.false,
     )
 
 returns-2 : tie.Need-returns-2
@@ -82,11 +82,11 @@ returns-2 c =
     let p = q.before in
     let r = p.before.before in
     let v = r.before.before in
-    upgrade-done _ _ _ _ _ v.check-first.ensures _ _ _ _ _ r.rows.given.1 p.row-place.ensures.0 q.row-place2.ensures.0 _ e.if1.false
+    upgrade_done _ _ _ _ _ v.check-first.ensures _ _ _ _ _ r.rows.given.1 p.row-place.ensures.0 q.row-place2.ensures.0 _ e.if1.false
     i.copy-image.ensures
 
 returns-3 : tie.Need-returns-3
-returns-3 c = upgrade-bad _ _ _ _ _ c.before.before.check-first.ensures c.enum_told.given.1
+returns-3 c = upgrade_bad _ _ _ _ _ c.before.before.check-first.ensures c.enum_told.given.1
 
 pub upgrade_spec : {M : Type 1} → statement M
 upgrade_spec =

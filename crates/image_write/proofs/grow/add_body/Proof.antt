@@ -1,11 +1,11 @@
 -- `add_body` meets its contract. Assumes nothing.
-use Rattle.image_write.proofs.GrowCode.{add-full, add_fits, add_done}
+use Rattle.image_write.proofs.GrowCode.{add_full, add_fits, add_done}
 use borrow.Author.Rules.{rules}
 use Rattle.image_write.proofs.grow.add_body.Statement.{statement}
 use Rattle.image_write.proofs.grow.add_body.Tie as tie
 
 returns : tie.Need-returns
-returns c = add-full _ _ _ _ _ _ _ _ _ c.before.can-grow.ensures c.if1.true
+returns c = add_full _ _ _ _ _ _ _ _ _ c.before.can-grow.ensures c.if1.true
 
 grow-requires : tie.Need-grow-requires
 grow-requires c κs =

@@ -5,7 +5,7 @@ use Prim.Native.Nat.{◌-◌, ◌≤◌}
 use native.Mathlib.Omega.{arith}
 use borrow.Author.Rules.{rules}
 use Rattle.lease_spec.specs.Table.{has_id, rows_from}
-use Rattle.lease.proofs.RowCode.{id-hit, id_next, id_none}
+use Rattle.lease.proofs.RowCode.{id_hit, id_next, id_none}
 use Rattle.lease.proofs.rows.has_id.Statement.{statement}
 use Rattle.lease.proofs.rows.has_id.Tie as tie
 
@@ -22,7 +22,7 @@ returns : tie.Need-returns invariant-loop decreases-loop
 returns c =
     let t = c.before.before.before in
     let l = t.before.loop in
-    sym (l.invariant.1 ∙ id-hit _ _ l.i _ t.loop-test.true c.before.same_bytes.ensures c.if1.true)
+    sym (l.invariant.1 ∙ id_hit _ _ l.i _ t.loop-test.true c.before.same_bytes.ensures c.if1.true)
 
 loop-again : tie.Need-loop-preserved invariant-loop decreases-loop
 loop-again c =

@@ -3,7 +3,7 @@
 use mathlib.Core.Path.{refl, sym}
 use native.Mathlib.Omega.{arith}
 use borrow.Author.Rules.{rules}
-use Rattle.lease.proofs.IdCode.{Marked, marked_begin, marked_fresh, marked-twice, marked_other, marked_end}
+use Rattle.lease.proofs.IdCode.{Marked, marked_begin, marked_fresh, marked_twice, marked_other, marked_end}
 use Rattle.lease.proofs.rows.ids_differ.Statement.{statement}
 use Rattle.lease.proofs.rows.ids_differ.Tie as tie
 
@@ -23,7 +23,7 @@ returns-2 : tie.Need-returns-2 invariant-loop decreases-loop
 returns-2 c =
     let r = c.before.before.before.before in
     let t = r.before.before in
-    marked-twice _ _ _ _ t.before.before.before.before.before.requires t.before.loop.invariant t.loop-test.true
+    marked_twice _ _ _ _ t.before.before.before.before.before.requires t.before.loop.invariant t.loop-test.true
     r.before.number_at.ensures.0 r.number-at2.ensures.0 c.before.has-id.ensures c.if3.true
 
 loop-again : tie.Need-loop-preserved invariant-loop decreases-loop

@@ -2,7 +2,7 @@
 -- are left. Assumes nothing.
 use native.Mathlib.Omega.{arith}
 use borrow.Author.Rules.{rules}
-use Rattle.lease.proofs.RowCode.{Sought, sought_begin, sought-hit, sought-miss, sought_bad, sought_end}
+use Rattle.lease.proofs.RowCode.{Sought, sought_begin, sought_hit, sought_miss, sought_bad, sought_end}
 use Rattle.lease.proofs.rows.search.Statement.{statement}
 use Rattle.lease.proofs.rows.search.Tie as tie
 
@@ -20,7 +20,7 @@ loop-again c =
     let k = c.before.before.before.before in
     let r = k.before.before in
     let t = r.before in
-    sought-hit _ _ _ _ _ t.before.before.before.before.requires t.before.loop.invariant t.loop-test.true r.read-row.ensures
+    sought_hit _ _ _ _ _ t.before.before.before.before.requires t.before.loop.invariant t.loop-test.true r.read-row.ensures
     k.lease.given.1 c.before.same_bytes.ensures c.if1.true
 
 loop-again-2 : tie.Need-loop-preserved-2 invariant-loop decreases-loop
@@ -28,7 +28,7 @@ loop-again-2 c =
     let k = c.before.before.before.before in
     let r = k.before.before in
     let t = r.before in
-    sought-miss _ _ _ _ _ t.before.before.before.before.requires t.before.loop.invariant t.loop-test.true r.read-row.ensures
+    sought_miss _ _ _ _ _ t.before.before.before.before.requires t.before.loop.invariant t.loop-test.true r.read-row.ensures
     k.lease.given.1 c.before.same_bytes.ensures c.if1.false
 
 returns : tie.Need-returns invariant-loop decreases-loop

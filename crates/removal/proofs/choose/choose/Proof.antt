@@ -4,7 +4,7 @@ use Prim.Native.Nat.{◌-◌, ◌*◌, ◌≤◌, ◌<◌}
 use native.Mathlib.Omega.{arith}
 use lib.ListN.{length, length-set}
 use Rattle.image_spec.specs.Choose.{Ask, ask_at, chosen}
-use Rattle.removal.proofs.ChooseCode.{least_in, choose_begin, choose-fits, choose-none, choose-next, choose-last}
+use Rattle.removal.proofs.ChooseCode.{least_in, choose_begin, choose_fits, choose_none, choose_next, choose_last}
 use borrow.Author.Rules.{rules}
 use Rattle.removal.proofs.choose.choose.Statement.{statement}
 use Rattle.removal.proofs.choose.choose.Tie as tie
@@ -39,7 +39,7 @@ returns c =
     let al = c.before.before.before in
     let l = al.loop in (
       sym (l.invariant.3
-          ∙ choose-fits (start al).args.layout (ask al) l.marks (length (start al).args.marks.now) l.removed l.freed
+          ∙ choose_fits (start al).args.layout (ask al) l.marks (length (start al).args.marks.now) l.removed l.freed
           (omega arith) (sym c.before.fits2.ensures ∙ c.if1.true)),
       l.invariant.0,
     )
@@ -50,7 +50,7 @@ returns-2 c =
     let al = e.before.before.before in
     let l = al.loop in (
       sym (l.invariant.3
-          ∙ choose-none (start al).args.layout (ask al) l.marks (length (start al).args.marks.now) l.removed l.freed
+          ∙ choose_none (start al).args.layout (ask al) l.marks (length (start al).args.marks.now) l.removed l.freed
           (omega arith) (sym e.before.fits2.ensures ∙ e.if1.false) (sym c.before.before.least.ensures ∙ c.enum_told.given.1)),
       l.invariant.0,
     )
@@ -71,7 +71,7 @@ loop-again c =
       simp length-set l.invariant.1,
       omega arith,
       l.invariant.3
-          ∙ choose-next (start al).args.layout (ask al) l.marks (length (start al).args.marks.now) l.removed l.freed
+          ∙ choose_next (start al).args.layout (ask al) l.marks (length (start al).args.marks.now) l.removed l.freed
           (omega arith) (sym e.before.fits2.ensures ∙ e.if1.false) _ _ _ (sym j.before.before.least.ensures ∙ j.j.given.1)
           z.size-at.ensures.0,
     )
@@ -81,7 +81,7 @@ returns-3 c =
     let al = c.before.before in
     let l = al.loop in (
       sym (l.invariant.3
-          ∙ choose-last (start al).args.layout (ask al) l.marks (length (start al).args.marks.now) l.removed l.freed _
+          ∙ choose_last (start al).args.layout (ask al) l.marks (length (start al).args.marks.now) l.removed l.freed _
           (omega arith) c.fits3.ensures),
       l.invariant.0,
     )

@@ -4,7 +4,7 @@ use mathlib.Core.Bool.{true}
 use borrow.Author.Tests.{not-true, not-false}
 use borrow.Author.Rules.{rules}
 use Rattle.resource_spec.specs.Identifier.{is_fay, is_terminal}
-use Rattle.request.proofs.ArgumentCode.{no_verdict, no_mode, no_id, no-fay, no-terminal, no-resource, list_left}
+use Rattle.request.proofs.ArgumentCode.{no_verdict, no_mode, no_id, no_fay, no_terminal, no_resource, list_left}
 use Rattle.request.proofs.arguments.well_formed.Statement.{statement}
 use Rattle.request.proofs.arguments.well_formed.Tie as tie
 
@@ -33,7 +33,7 @@ returns-4 : tie.Need-returns-4
 returns-4 c =
     let n = c.before.before in
     let m = n.before in
-    no-fay _ m.before.if1.false m.if2.false n.if3.false
+    no_fay _ m.before.if1.false m.if2.false n.if3.false
     (sym c.before.is-fay.ensures ∙ not-true _ c.if4.true)
 
 returns-5 : tie.Need-returns-5
@@ -41,7 +41,7 @@ returns-5 c =
     let e = c.before.before in
     let n = e.before.before in
     let m = n.before in
-    no-terminal _ m.before.if1.false m.if2.false n.if3.false (well_fay e)
+    no_terminal _ m.before.if1.false m.if2.false n.if3.false (well_fay e)
     (sym c.before.is-terminal.ensures ∙ not-true _ c.if5.true)
 
 returns-6 : tie.Need-returns-6
@@ -50,7 +50,7 @@ returns-6 c =
     let e = f.before.before in
     let n = e.before.before in
     let m = n.before in
-    no-resource _ m.before.if1.false m.if2.false n.if3.false (well_fay e) (well_terminal f)
+    no_resource _ m.before.if1.false m.if2.false n.if3.false (well_fay e) (well_terminal f)
     (sym c.before.is-resource.ensures ∙ not-true _ c.if6.true)
 
 returns-7 : tie.Need-returns-7

@@ -5,7 +5,7 @@ use Rattle.time.specs.declared.Seconds.{Seconds}
 use Rattle.time.specs.Time.{whole_seconds}
 use Rattle.revocation_spec.specs.Revocation.{is_revoked, revocations_of}
 use Rattle.request.specs.Code.{applicability_of, signed_by}
-use Rattle.request.proofs.DecideCode.{on_revoked, on-applies, on-refused}
+use Rattle.request.proofs.DecideCode.{on_revoked, on_applies, on_refused}
 use Rattle.request.proofs.decide.on_body.Statement.{statement}
 use Rattle.request.proofs.decide.on_body.Tie as tie
 
@@ -47,14 +47,14 @@ returns-2 c =
     let g = c.before.before in
     let k = g.before.before in
     let e = k.before in
-    on-applies _ (start e.before).args.found _ _ (sym (revoked e.before) ∙ e.if1.false) _ _
+    on_applies _ (start e.before).args.found _ _ (sym (revoked e.before) ∙ e.if1.false) _ _
     (sym g.grant.given.1 ∙ applied k) c.signed.ensures
 
 returns-3 : tie.Need-returns-3
 returns-3 c =
     let k = c.before.before.before in
     let e = k.before in
-    on-refused _ (start e.before).args.found _ _ (sym (revoked e.before) ∙ e.if1.false) _
+    on_refused _ (start e.before).args.found _ _ (sym (revoked e.before) ∙ e.if1.false) _
     (sym c.before.refusal.given.1 ∙ applied k)
 
 pub on_body_spec : {M : Type 1} → statement M

@@ -2,7 +2,7 @@
 use mathlib.Core.Path.{sym, ◌∙◌}
 use borrow.Author.Tests.{not-true, not-false}
 use borrow.Author.Rules.{rules}
-use Rattle.request.proofs.DecideCode.{signed_none, signed-shut, signed-bad, signed-good}
+use Rattle.request.proofs.DecideCode.{signed_none, signed_shut, signed_bad, signed_good}
 use Rattle.request.proofs.decide.signed.Statement.{statement}
 use Rattle.request.proofs.decide.signed.Tie as tie
 
@@ -12,14 +12,14 @@ returns c = signed_none _ _ _ _ _ c.if1.true
 returns-2 : tie.Need-returns-2
 returns-2 c =
     let k = c.before in
-    signed-shut _ _ _ _ _ k.before.before.to-seconds.ensures k.before.if1.false
+    signed_shut _ _ _ _ _ k.before.before.to-seconds.ensures k.before.if1.false
     (sym k.key-open.ensures ∙ not-true _ c.if2.true)
 
 returns-3 : tie.Need-returns-3
 returns-3 c =
     let e = c.before in
     let k = e.before in
-    signed-bad _ _ _ _ _ k.before.before.to-seconds.ensures k.before.if1.false
+    signed_bad _ _ _ _ _ k.before.before.to-seconds.ensures k.before.if1.false
     (sym k.key-open.ensures ∙ not-false _ e.if2.false) c.if3.true
 
 leased-requires : tie.Need-leased-requires
@@ -30,7 +30,7 @@ returns-4 c =
     let p = c.before in
     let e = p.before.before in
     let k = e.before in
-    signed-good _ _ _ _ _ k.before.before.to-seconds.ensures k.before.if1.false
+    signed_good _ _ _ _ _ k.before.before.to-seconds.ensures k.before.if1.false
     (sym k.key-open.ensures ∙ not-false _ e.if2.false) p.before.if3.false p.plus-at-most.ensures c.leased.ensures
 
 pub signed_spec : {M : Type 1} → statement M

@@ -14,8 +14,8 @@ use Rattle.request_spec.specs.Request.{Request, request_of, well_formed}
 use Rattle.request_spec.specs.After.{used_by}
 use Rattle.request_spec.proofs.Laws.{formed_arguments}
 use Rattle.request.specs.Code.{is_malformed}
-use Rattle.request.proofs.ArgumentCode.{malformed-not, formed-is, formed-clock, lease-found, lease-fits}
-use Rattle.request.proofs.DecideCode.{decide_malformed, decide-unsound, decide-missing, decide-body}
+use Rattle.request.proofs.ArgumentCode.{malformed_not, formed_is, formed_clock, lease_found, lease_fits}
+use Rattle.request.proofs.DecideCode.{decide_malformed, decide_unsound, decide_missing, decide_body}
 use Rattle.request.proofs.BodyCode.{held_inside, held_fits}
 use Rattle.request.proofs.examine.examine.Statement.{statement}
 use Rattle.request.proofs.examine.examine.Tie as tie
@@ -48,7 +48,7 @@ unspoilt c = sym c.before.is-malformed.ensures ∙ c.if1.false
 
 -- the arguments are well formed
 formed : (c : tie.Else1) → well_formed (asked (at1 c)) ≡ true
-formed c = formed-is (asked (at1 c)) c.before.before.check.ensures (unspoilt c)
+formed c = formed_is (asked (at1 c)) c.before.before.check.ensures (unspoilt c)
 
 -- what the check found
 abbrev before-match : tie.After-held2 → tie.After-held
@@ -73,7 +73,7 @@ inside c = held_inside _ _ _ _ _ _ _ _ (bytes (at2 (before-match c).before.befor
 returns : tie.Need-returns
 returns c =
     let k = c.before.before in
-    (decide_malformed _ _ (malformed-not _ k.check.ensures (sym c.before.is-malformed.ensures ∙ c.if1.true)), refl)
+    (decide_malformed _ _ (malformed_not _ k.check.ensures (sym c.before.is-malformed.ensures ∙ c.if1.true)), refl)
 
 add_body : tie.Need-overflow-add-body
 add_body c =
@@ -91,16 +91,16 @@ on-body-requires c κs =
       (formed_arguments _ w).1,
       (formed_arguments _ w).0,
       held_fits _ _ _ _ _ _ _ _ (bytes (at2 e)) (check_answer h),
-      lease-fits (asked (at1 e)) e.before.before.check.ensures (unspoilt e),
-      formed-clock (asked (at1 e)) e.before.before.check.ensures (unspoilt e),
+      lease_fits (asked (at1 e)) e.before.before.check.ensures (unspoilt e),
+      formed_clock (asked (at1 e)) e.before.before.check.ensures (unspoilt e),
     )
 
 returns-2 : tie.Need-returns-2
 returns-2 c =
     let h = c.before.before.before in
     let e = (before-match h).before.before.before in (
-      decide-body (at1 e).args.image.now (asked (at1 e)) (formed e) (check_answer h)
-          (lease-found (asked (at1 e)) e.before.before.check.ensures (unspoilt e)) c.on-body.ensures,
+      decide_body (at1 e).args.image.now (asked (at1 e)) (formed e) (check_answer h)
+          (lease_found (asked (at1 e)) e.before.before.check.ensures (unspoilt e)) c.on-body.ensures,
       λ t. ap (used_by (at1 e).args.image.now t) (check_answer h),
     )
 
@@ -108,13 +108,13 @@ returns-3 : tie.Need-returns-3
 returns-3 c =
     let h = c.before.before.before in
     let k = h.before.before in (
-      decide-missing _ _ (formed k.before)
+      decide_missing _ _ (formed k.before)
           (sym (h.held.given.1 ∙ ap (Sound h.held.given.0.0 h.held.given.0.1.0) c.enum_told.given.1) ∙ k.check2.ensures),
       refl,
     )
 
 returns-4 : tie.Need-returns-4
-returns-4 c = let k = c.before.before in (decide-unsound _ _ (formed k.before) (sym c.enum-told2.given.1 ∙ k.check2.ensures), refl)
+returns-4 c = let k = c.before.before in (decide_unsound _ _ (formed k.before) (sym c.enum-told2.given.1 ∙ k.check2.ensures), refl)
 
 pub examine_spec : {M : Type 1} → statement M
 examine_spec =

@@ -23,7 +23,7 @@ use Rattle.descriptor_spec.specs.Reader.{grant_at}
 use Rattle.descriptor_spec.proofs.Laws.{pattern_room}
 use Rattle.request_spec.specs.declared.Matched.TheVariants.{Nothing}
 use Rattle.request_spec.specs.Decision.{pick_from}
-use Rattle.request.proofs.SearchCode.{pick_begin, pick_done, pick_stop, pick-not, pick-found, found_of, found_none, found_one}
+use Rattle.request.proofs.SearchCode.{pick_begin, pick_done, pick_stop, pick_not, pick_found, found_of, found_none, found_one}
 use Rattle.request.proofs.SearchCode.{lent_levels, next_counts, first_reads, rest_reads, all_read}
 use Rattle.request.specs.Code.{GrantsRead}
 use Rattle.request.proofs.search.pick_grant.Statement.{statement}
@@ -75,8 +75,8 @@ inside : (k : tie.After-fields invariant-levels decreases-levels invariant-grant
 inside k = pattern_room _ _ _ _ (seen k)
 
 -- the grant that was read, where the inner loop is
-abbrev grantIn : tie.At-levels invariant-levels decreases-levels invariant-grants decreases-grants → tie.After-fields invariant-levels decreases-levels invariant-grants decreases-grants
-grantIn l = l.before.before.before.before.before.before
+abbrev grant_in : tie.At-levels invariant-levels decreases-levels invariant-grants decreases-grants → tie.After-fields invariant-levels decreases-levels invariant-grants decreases-grants
+grant_in l = l.before.before.before.before.before.before
 
 -- what the step of the first levels says
 stepped : (x : tie.After-match-step invariant-levels decreases-levels invariant-grants decreases-grants) {y : LevelStep} → x.match-step.result ≡ y
@@ -94,13 +94,13 @@ goes x = stepped x.before.before x.a.given.1
 -- how many bytes are left of the pattern
 room : (x : tie.After-a invariant-levels decreases-levels invariant-grants decreases-grants)
     → let l = x.before.before.before in
-    l.levels.k + length l.levels.p.now + levels_place ≤ length (turn (grantIn l)).before.before.before.args.s.now
+    l.levels.k + length l.levels.p.now + levels_place ≤ length (turn (grant_in l)).before.before.before.args.s.now
 room x = x.before.before.before.levels.invariant.4
 
 -- what the inner loop yields is the grant, where its levels match
 abbrev Yields : tie.At-match2-branch invariant-levels decreases-levels invariant-grants decreases-grants → Type 0
 Yields m =
-    let k = grantIn m.before.before in
+    let k = grant_in m.before.before in
     let a = (turn k).before.before.before.args in
     let f = k.fields.given.0.0 in
     m.match2.found ≡ found_of (lent_levels a.s.now f.pattern f.len) a.r.now (turn k).loop.i f.mask
@@ -151,8 +151,8 @@ passed c =
           };
       match2 = w.5;
     } in
-    pick-found _ _ _ _ _ _ _ h (seen k) f w.0.taken (yields m) (w.7 ∙ w.6.ensures))
-    (λ w. pick-not _ _ _ _ _ _ _ h (seen k) f w.0.left ∙ ap (pick_from _ _ _ _ _ _) (sym w.1))
+    pick_found _ _ _ _ _ _ _ h (seen k) f w.0.taken (yields m) (w.7 ∙ w.6.ensures))
+    (λ w. pick_not _ _ _ _ _ _ _ h (seen k) f w.0.left ∙ ap (pick_from _ _ _ _ _ _) (sym w.1))
     c.if1.branch
 
 loop-holds : tie.Need-loop-init invariant-levels decreases-levels invariant-grants decreases-grants
@@ -190,11 +190,11 @@ add-names c =
     let x = c.before.before.before in
     let l = x.before in
     let e = stepped x {y = Finish c.before.names.given.0.0} c.before.names.given.1 in
-    omega (arith, e.1, l.levels.invariant.4, (small (turn (grantIn l)).before).0)
+    omega (arith, e.1, l.levels.invariant.4, (small (turn (grant_in l)).before).0)
 
 add-p-3 : tie.Need-overflow-add-p-3 invariant-levels decreases-levels invariant-grants decreases-grants
 add-p-3 c =
-    let x = c.before in omega (arith, (goes x).in_p, room x, (small (turn (grantIn x.before.before.before)).before).0)
+    let x = c.before in omega (arith, (goes x).in_p, room x, (small (turn (grant_in x.before.before.before)).before).0)
 
 sub-p-2 : tie.Need-overflow-sub-p-2 invariant-levels decreases-levels invariant-grants decreases-grants
 sub-p-2 c = omega (arith, (goes c.before).in_p)
@@ -206,7 +206,7 @@ add-q : tie.Need-overflow-add-q invariant-levels decreases-levels invariant-gran
 add-q c =
     let x = c.before.before in
     let l = x.before.before.before in
-    omega (arith, (goes x).in_r, l.levels.invariant.0, (small (turn (grantIn l)).before).1)
+    omega (arith, (goes x).in_r, l.levels.invariant.0, (small (turn (grant_in l)).before).1)
 
 sub-q : tie.Need-overflow-sub-q invariant-levels decreases-levels invariant-grants decreases-grants
 sub-q c = omega (arith, (goes c.before.before).in_r)
@@ -217,7 +217,7 @@ part-q-start c = omega (arith, (goes c.before.before).in_r)
 add-k : tie.Need-overflow-add-k invariant-levels decreases-levels invariant-grants decreases-grants
 add-k c =
     let x = c.before.before.before in
-    omega (arith, (goes x).one, room x, (small (turn (grantIn x.before.before.before)).before).0)
+    omega (arith, (goes x).one, room x, (small (turn (grant_in x.before.before.before)).before).0)
 
 levels-less : tie.Need-levels-smaller invariant-levels decreases-levels invariant-grants decreases-grants
 levels-less c =

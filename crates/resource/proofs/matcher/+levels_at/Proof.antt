@@ -6,7 +6,7 @@ use lib.ListN.{length}
 use borrow.Author.Rules.{rules}
 use borrow.Fn.Kinds.{In}
 use borrow.Fn.PlainCycle.{Measures, is, falls, and}
-use Rattle.resource_spec.specs.Level.{levels as levelsIn}
+use Rattle.resource_spec.specs.Level.{levels as levels_in}
 use Rattle.resource.specs.Code.{up_to}
 use Rattle.resource.specs.Laws.{Goes, Stepped}
 use Rattle.resource.specs.declared.LevelStep.TheVariants.{Finish}
@@ -20,7 +20,7 @@ use Rattle.resource.proofs.matcher.+levels_at.Tie.{close}
 
 -- how many levels are left of p
 abbrev μ-levels-at : Measures 2 levels-at-kinds.ps ℕ
-μ-levels-at κs a = length (levelsIn (up_to a.0.now a.1.0 a.1.1.0))
+μ-levels-at κs a = length (levels_in (up_to a.0.now a.1.0 a.1.1.0))
 
 abbrev levels_at_at : ℕ → In 2 levels-at-kinds.ps
 levels_at_at t = and 2 levels-at-kinds.ps (is 2 levels-at-kinds.ps μ-levels-at t) levels-at.Pre

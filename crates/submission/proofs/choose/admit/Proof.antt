@@ -2,7 +2,7 @@
 use Prim.Native.Nat.{◌+◌, ◌≤◌}
 use borrow.Author.Rules.{rules}
 use Rattle.submission_spec.specs.Submission.{longest_lead}
-use Rattle.submission.proofs.SubmitCode.{begins_late, begins_soon, admit_late, admit_issuer, admit-key, admit-bad, admit-all}
+use Rattle.submission.proofs.SubmitCode.{begins_late, begins_soon, admit_late, admit_issuer, admit_key, admit_bad, admit_all}
 use Rattle.submission.proofs.choose.admit.Statement.{statement}
 use Rattle.submission.proofs.choose.admit.Tie as tie
 
@@ -20,17 +20,17 @@ returns-2 c = admit_issuer _ _ _ _ (lead c.before) c.if2.true
 returns-3 : tie.Need-returns-3
 returns-3 c =
     let k = c.before in
-    admit-key _ _ _ _ (lead k.before.before) k.before.if2.false _ k.key-open.ensures c.if3.true
+    admit_key _ _ _ _ (lead k.before.before) k.before.if2.false _ k.key-open.ensures c.if3.true
 
 returns-4 : tie.Need-returns-4
 returns-4 c =
     let k = c.before.before in
-    admit-bad _ _ _ _ (lead k.before.before) k.before.if2.false _ k.key-open.ensures c.before.if3.false c.if4.true
+    admit_bad _ _ _ _ (lead k.before.before) k.before.if2.false _ k.key-open.ensures c.before.if3.false c.if4.true
 
 returns-5 : tie.Need-returns-5
 returns-5 c =
     let k = c.before.before in
-    admit-all _ _ _ _ (lead k.before.before) k.before.if2.false _ k.key-open.ensures c.before.if3.false c.if4.false
+    admit_all _ _ _ _ (lead k.before.before) k.before.if2.false _ k.key-open.ensures c.before.if3.false c.if4.false
 
 pub admit_spec : {M : Type 1} → statement M
 admit_spec =

@@ -1,7 +1,7 @@
 -- `choose_read` meets its contract. Assumes nothing.
 use mathlib.Core.Path.{subst}
 use Rattle.image_spec.specs.Laws.{CheckFits}
-use Rattle.submission.proofs.SubmitCode.{read_unsound, read-refused, read-placed}
+use Rattle.submission.proofs.SubmitCode.{read_unsound, read_refused, read_placed}
 use borrow.Author.Rules.{rules}
 use Rattle.submission.proofs.choose.choose_read.Statement.{statement}
 use Rattle.submission.proofs.choose.choose_read.Tie as tie
@@ -15,12 +15,12 @@ place-requires c κs =
 returns : tie.Need-returns
 returns c =
     let a = c.before.before.before in
-    read-refused _ _ _ _ _ _ _ _ _ _ a.before.before.before.found.given.1 _ a.admit.ensures _ c.before.answer.given.1
+    read_refused _ _ _ _ _ _ _ _ _ _ a.before.before.before.found.given.1 _ a.admit.ensures _ c.before.answer.given.1
 
 returns-2 : tie.Need-returns-2
 returns-2 c =
     let a = c.before.before.before in
-    read-placed _ _ _ _ _ _ _ _ _ _ a.before.before.before.found.given.1 _ a.admit.ensures _ c.before.enum_told.given.1
+    read_placed _ _ _ _ _ _ _ _ _ _ a.before.before.before.found.given.1 _ a.admit.ensures _ c.before.enum_told.given.1
     c.place.ensures
 
 returns-3 : tie.Need-returns-3

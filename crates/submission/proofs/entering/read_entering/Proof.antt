@@ -1,5 +1,5 @@
 -- `read_entering` meets its contract. Assumes nothing.
-use Rattle.submission.proofs.SubmitCode.{ids_room, entering_none, entering-refused, entering-passed}
+use Rattle.submission.proofs.SubmitCode.{ids_room, entering_none, entering_refused, entering_passed}
 use borrow.Author.Rules.{rules}
 use Rattle.submission.proofs.entering.read_entering.Statement.{statement}
 use Rattle.submission.proofs.entering.read_entering.Tie as tie
@@ -13,14 +13,14 @@ returns : tie.Need-returns
 returns c =
     let t = c.before in
     let f = t.before.before in
-    entering-refused _ _ f.before.before.read-form.ensures _ f.fields.given.1 t.are-version7.result
+    entering_refused _ _ f.before.before.read-form.ensures _ f.fields.given.1 t.are-version7.result
     t.are-version7.ensures c.if1.true
 
 returns-2 : tie.Need-returns-2
 returns-2 c =
     let t = c.before.before in
     let f = t.before.before in
-    entering-passed _ _ f.before.before.read-form.ensures _ f.fields.given.1 t.are-version7.result
+    entering_passed _ _ f.before.before.read-form.ensures _ f.fields.given.1 t.are-version7.result
     t.are-version7.ensures c.before.if1.false _ c.by-period.ensures
 
 returns-3 : tie.Need-returns-3

@@ -1,0 +1,22 @@
+-- `block16` meets its contract. The invariant: the flag says it of the first i pairs. The measure: what is left.
+use mathlib.Core.Path.{◌≡◌, sym, ◌∙◌}
+use Prim.Native.Nat.{◌-◌}
+use native.Mathlib.Omega.{arith}
+use Rattle.resource.specs.Code.{may_follow_at}
+use Rattle.resource.proofs.EachCode.{each_none}
+use Rattle.resource.proofs.FollowCode.{pair_next}
+use Rattle.resource.proofs.levels.block16.Goals as goal
+
+pub loop-i-init : goal.loop-i-init
+loop-i-init c = let a = c.args in (omega arith, each_none (may_follow_at a.wild a.s.now) a.at)
+
+pub loop-i-preserved : goal.loop-i-preserved
+loop-i-preserved c =
+    let a = c.args in
+    (omega arith, rw (c.loop-i.invariant.1, c.may_follow-ok.ensures) (sym (pair_next a.wild a.s.now a.at c.loop-i.i)))
+
+pub returns : goal.returns
+returns c =
+    let l = c.loop-i in
+    let all : l.i ≡ 16 = omega arith in
+    l.invariant.1 ∙ rw all

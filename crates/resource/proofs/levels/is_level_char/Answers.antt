@@ -1,0 +1,6 @@
+-- `is_level_char` meets its contract.
+use Rattle.resource.proofs.FollowCode.{level_char}
+use Rattle.resource.proofs.levels.is_level_char.Goals as goal
+
+pub returns : goal.returns
+returns c = level_char c.args.b

@@ -1,0 +1,13 @@
+-- `pattern_under` meets its contract.
+use mathlib.Core.Path.{sym, ◌∙◌}
+use Rattle.resource.specs.Code.{pattern_under}
+use Rattle.resource.proofs.levels.pattern_under.Goals as goal
+
+pub returns-then-same_terminal : goal.returns-then-same_terminal
+unfolding pattern_under
+returns-then-same_terminal c =
+    c.below.ensures ∙ rw (sym c.same_terminal.ensures ∙ c.if-same_terminal.true)
+
+pub returns : goal.returns
+unfolding pattern_under
+returns c = rw (sym c.same_terminal.ensures ∙ c.if-same_terminal.false)

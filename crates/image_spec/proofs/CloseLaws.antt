@@ -35,9 +35,9 @@ module _ (l : Layout) (ok : LayoutOk l) where
       → Has d 0 (image_of l rs)
   stands d rs n e h r b =
       run_whole l ok d rs (record {
-        has-header = subst (λ (m : ℕ). Has d 0 (header l m)) (sym e) h;
-        has-rows = subst (λ (m : ℕ). Has d (row_place l 0) (rows_of l (row_place l m) rs)) (sym e) r;
-        has-bodies = subst (λ (m : ℕ). Has d (row_place l m) (joined rs)) (sym e) b;
+        has_header = subst (λ (m : ℕ). Has d 0 (header l m)) (sym e) h;
+        has_rows = subst (λ (m : ℕ). Has d (row_place l 0) (rows_of l (row_place l m) rs)) (sym e) r;
+        has_bodies = subst (λ (m : ℕ). Has d (row_place l m) (joined rs)) (sym e) b;
       })
 
   -- the writes of a removal leave the image of the rows that stay, and the old bytes beyond its end
@@ -56,7 +56,7 @@ module _ (l : Layout) (ok : LayoutOk l) where
       let fits : length (image_of l rs) ≤ length d = holds_room l ok d rs h in
       let first : row_place l 0 ≡ header_size = place_first l in
       let apart : Apart d start ps
-      = apart_joined d start rs (omega arith) (omega (arith, place_small l ok n few)) w.has-bodies in
+      = apart_joined d start rs (omega arith) (omega (arith, place_small l ok n few)) w.has_bodies in
       let qs : List Placed = kept gs ps in
       let k : ℕ = length qs in
       let fewer : k ≤ length ps = kept_few gs ps in
@@ -70,10 +70,10 @@ module _ (l : Layout) (ok : LayoutOk l) where
       let d₁ : List ℕ = closed_rows l d gs 0 0 in
       let x : Rows l ok d d₁ 0 qs
       = rows_closed l ok d gs ps 0 0 (omega arith) (omega arith)
-      (subst (Has d (row_place l 0)) (sym (placed_rows l start rs)) w.has-rows) in
+      (subst (Has d (row_place l 0)) (sym (placed_rows l start rs)) w.has_rows) in
       let a₁ : Apart d₁ start qs
       = apart_kept d d₁ (row_place l (0 + k)) start qs x.frame.long x.frame.after (omega arith) (apart_some d gs start ps apart) in
-      let head₁ : Has d₁ 0 head = x.frame.before 0 head (omega arith) w.has-header in
+      let head₁ : Has d₁ 0 head = x.frame.before 0 head (omega arith) w.has_header in
       -- the bodies
       let d₂ : List ℕ = closed_bodies l d₁ k 0 (row_place l k) in
       let y : Closed l ok d₁ d₂ 0 (row_place l k) qs = bodies_closed l ok d₁ qs 0 (row_place l k) start (omega arith) low x.there a₁ in

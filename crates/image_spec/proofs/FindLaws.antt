@@ -31,7 +31,7 @@ module _ (l : Layout) (ok : LayoutOk l) where
   unfolding held_in
   held_in_lem s id bs h = let g : Run l ok s [] 0 (row_place l (length bs)) bs = holds_run l ok s bs h in held_is s id
       (row_place l (length bs)) bs
-      g.each g.has-bodies
+      g.each g.has_bodies
 
   -- `CheckTellsFor`
   pub check_tells : CheckTellsFor l

@@ -77,12 +77,12 @@ module _ (l : Layout) (ok : LayoutOk l) where
       let f₁ : next + length bodies ≤ length d = omega arith in
       let e₁ : moved_up d start end (row_size l) ≡ d₁
       = moved_fits d start end (row_size l) (omega arith) (omega arith)
-      ∙ ap (over d next) (ap (part d start) sub ∙ has_part d start bodies w.has-bodies) in
+      ∙ ap (over d next) (ap (part d start) sub ∙ has_part d start bodies w.has_bodies) in
       let k₁ : Kept d d₁ next (next + length bodies) = kept_over d next bodies f₁ in
       -- the offsets
       let d₂ : List ℕ = raised l d₁ n 0 in
       let y = rows_raised l ok d₁ 0 start bs (omega (arith, place_small l ok n few))
-      (k₁.before (row_place l 0) (rows_of l start bs) (omega arith) w.has-rows) in
+      (k₁.before (row_place l 0) (rows_of l start bs) (omega arith) w.has_rows) in
       let k₂ : Kept d₁ d₂ (row_place l 0) start = subst (λ (k : ℕ). Kept d₁ d₂ (row_place l 0) (row_place l k)) (zero-add n) y.1 in
       -- the row
       let d₃ : List ℕ = over d₂ start r in
@@ -99,7 +99,7 @@ module _ (l : Layout) (ok : LayoutOk l) where
       -- what then stands
       let last : (p : ℕ) (t : List ℕ) → count_place + length count ≤ p → Has d₄ p t → Has d₅ p t
       = λ p t i x. kept_has d₄ d₅ count_place (count_place + length count) p t k₅ i x in
-      let head₂ = k₂.before 0 head (omega arith) (k₁.before 0 head (omega arith) w.has-header) in
+      let head₂ = k₂.before 0 head (omega arith) (k₁.before 0 head (omega arith) w.has_header) in
       let head₄ = k₄.before 0 head (omega arith) (k₃.before 0 head (omega arith) head₂) in
       let rows₄ = k₄.before (row_place l 0) rows (omega arith) (k₃.before (row_place l 0) rows (omega arith) y.0) in
       let row₄ = k₄.before start r (omega arith) (over_has d₂ start r f₃) in

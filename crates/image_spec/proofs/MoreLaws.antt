@@ -68,9 +68,9 @@ module _ (l : Layout) (ok : LayoutOk l) where
       = subst (Has d up) (sym (joined_snoc bs b))
       (has_both d up (length (joined bs)) (length (image_of l bs) + row_size l) (joined bs) b.body refl (sym at) h₄ h₅) in
       run_whole l ok d more (record {
-        has-header = subst (λ (k : ℕ). Has d 0 (header l k)) (sym m) h₁;
-        has-rows = subst (λ (k : ℕ). Has d (row_place l 0) (rows_of l k more)) start rows;
-        has-bodies = subst (λ (k : ℕ). Has d k (joined more)) start bodies;
+        has_header = subst (λ (k : ℕ). Has d 0 (header l k)) (sym m) h₁;
+        has_rows = subst (λ (k : ℕ). Has d (row_place l 0) (rows_of l k more)) start rows;
+        has_bodies = subst (λ (k : ℕ). Has d k (joined more)) start bodies;
       })
 
   -- fewer bodies than there may be rows and one more that reads, whose id none of them has and whose moment fits, are allowed

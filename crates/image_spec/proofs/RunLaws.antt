@@ -57,7 +57,7 @@ module _ (l : Layout) (ok : LayoutOk l) where
           reads = r.1;
           new = g.each.0.new;
           dated = g.moments.0;
-          has-row = has_left s (row_place l i) (row l at b) (rows_of l (at + length b.body) bs) g.has_rows;
+          has_row = has_left s (row_place l i) (row l at b) (rows_of l (at + length b.body) bs) g.has_rows;
           has_body = has_left s at b.body (joined bs) g.has_bodies;
         },
       )
@@ -84,7 +84,7 @@ module _ (l : Layout) (ok : LayoutOk l) where
     moments = (h.dated, g.moments);
     has_rows = has_both s (row_place l i) (row_size l) (row_place l (i + 1)) (row l at b) (rows_of l (at + length b.body) bs)
         (row_length_lem l ok at b) (sym (place_next l i))
-        h.has-row g.has_rows;
+        h.has_row g.has_rows;
     has_bodies = has_join s at b.body (joined bs) h.has_body g.has_bodies;
   }
 
@@ -95,7 +95,7 @@ module _ (l : Layout) (ok : LayoutOk l) where
       → row_id s (row_place l i) ≡ id_of b.body
   row_names s seen i at b f h =
       ap (part s (row_place l i)) (sym (id_length b.body)) ∙ has_part s (row_place l i) (id_of b.body)
-      (row_parts l ok s (row_place l i) at b h.has-row).id
+      (row_parts l ok s (row_place l i) at b h.has_row).id
 
   -- k rows that pass the check are those of k bodies that stand
   pub rows_sound : (s id : List ℕ) → AreBytes s → (k : ℕ) (seen : List Row) (i at end : ℕ) (h h' : Held) → Past l ok s seen i

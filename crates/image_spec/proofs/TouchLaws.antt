@@ -259,7 +259,7 @@ module _ (l : Layout) (ok : LayoutOk l) where
       let room : r + row_size l ≤ length s = omega (arith, holds_room l ok s rs h) in
       let w : ImageParts l ok s rs = image_stands l ok s rs h in
       let d : List ℕ = raised_at l s r t in
-      let x = rows_used s 0 (row_place l n) rs i t lt h.rows.moments w.has-rows in
+      let x = rows_used s 0 (row_place l n) rs i t lt h.rows.moments w.has_rows in
       let from_start : 0 + i ≡ i = zero-add i in
       let y : Has d (row_place l 0) (rows_of l (row_place l n) (used_at rs i t)) × Kept s d r (r + row_size l)
       = subst (λ (j : ℕ). Has (raised_at l s (row_place l j) t) (row_place l 0) (rows_of l (row_place l n) (used_at rs i t))
@@ -268,12 +268,12 @@ module _ (l : Layout) (ok : LayoutOk l) where
       = subst (λ (q : List Row). Has d (row_place l 0) (rows_of l (row_place l n) q))
       (sym (touched_place [] rs i id t h.rows.each lt e)) y.0 in
       let has : Has d 0 (image_of l qs) = run_whole l ok d qs (record {
-        has-header = subst (λ (m : ℕ). Has d 0 (header l m)) (sym same_length)
-            (y.1.before 0 (header l n) (omega (arith, header_length l n, place_first l)) w.has-header);
-        has-rows = subst (λ (m : ℕ). Has d (row_place l 0) (rows_of l (row_place l m) qs)) (sym same_length) rows;
-        has-bodies = subst (λ (m : ℕ). Has d (row_place l m) (joined qs)) (sym same_length)
+        has_header = subst (λ (m : ℕ). Has d 0 (header l m)) (sym same_length)
+            (y.1.before 0 (header l n) (omega (arith, header_length l n, place_first l)) w.has_header);
+        has_rows = subst (λ (m : ℕ). Has d (row_place l 0) (rows_of l (row_place l m) qs)) (sym same_length) rows;
+        has_bodies = subst (λ (m : ℕ). Has d (row_place l m) (joined qs)) (sym same_length)
             (subst (Has d (row_place l n)) (sym same-joined)
-            (kept_has s d r (r + row_size l) (row_place l n) (joined rs) y.1 up w.has-bodies));
+            (kept_has s d r (r + row_size l) (row_place l n) (joined rs) y.1 up w.has_bodies));
       }) in
       let m : ℕ = length (image_of l qs) in
       let ml : m ≡ row_place l n + length (joined qs)

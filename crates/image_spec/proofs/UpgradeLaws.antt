@@ -214,7 +214,7 @@ module _ (from to : Layout) (ok : LayoutOk from) (ok' : LayoutOk to) (alike : mo
       -- the rows
       let d₂ : List ℕ = rows_copied from to old d₁ n 0 by in
       let none : row_place to (0 + n) ≡ new = ap (row_place to) (zero-add n) in
-      let y = rows_copied_lem old d₁ 0 start by rs (omega (arith, place_small from ok n few)) unused w.has-rows (omega (arith, k₁.long)) in
+      let y = rows_copied_lem old d₁ 0 start by rs (omega (arith, place_small from ok n few)) unused w.has_rows (omega (arith, k₁.long)) in
       let k₂ : Kept d₁ d₂ (row_place to 0) (row_place to (0 + n)) = y.1 in
       let rows₂ : Has d₂ (row_place to 0) rows = subst (λ (k : ℕ). Has d₂ (row_place to 0) (rows_of to k rs)) higher y.0 in
       -- the bodies
@@ -222,7 +222,7 @@ module _ (from to : Layout) (ok : LayoutOk from) (ok' : LayoutOk to) (alike : mo
       let d₃ : List ℕ = over d₂ new bodies in
       let f₃ : new + length bodies ≤ length d₂ = omega (arith, k₂.long, k₁.long) in
       let e₃ : put_at d₂ new (part old start (end - start)) ≡ d₃
-      = ap (put_at d₂ new) (ap (part old start) sub ∙ has_part old start bodies w.has-bodies) ∙ put_fits d₂ new bodies f₃ in
+      = ap (put_at d₂ new) (ap (part old start) sub ∙ has_part old start bodies w.has_bodies) ∙ put_fits d₂ new bodies f₃ in
       let k₃ : Kept d₂ d₃ new (new + length bodies) = kept_over d₂ new bodies f₃ in
       -- the row count
       let d₄ : List ℕ = over d₃ count_place count in
@@ -233,9 +233,9 @@ module _ (from to : Layout) (ok : LayoutOk from) (ok' : LayoutOk to) (alike : mo
       let head₃ : Has d₃ 0 head = k₃.before 0 head (omega arith) head₂ in
       let rows₃ : Has d₃ (row_place to 0) rows = k₃.before (row_place to 0) rows (omega arith) rows₂ in
       let has : Has d₄ 0 (image_of to rs) = run_whole to ok' d₄ rs (record {
-        has-header = header_counted to ok' d₃ 0 n head₃;
-        has-rows = kept_has d₃ d₄ count_place (count_place + length count) (row_place to 0) rows k₄ (omega arith) rows₃;
-        has-bodies = kept_has d₃ d₄ count_place (count_place + length count) new bodies k₄ (omega arith) (over_has d₂ new bodies f₃);
+        has_header = header_counted to ok' d₃ 0 n head₃;
+        has_rows = kept_has d₃ d₄ count_place (count_place + length count) (row_place to 0) rows k₄ (omega arith) rows₃;
+        has_bodies = kept_has d₃ d₄ count_place (count_place + length count) new bodies k₄ (omega arith) (over_has d₂ new bodies f₃);
       }) in
       let rest : drop m d₄ ≡ drop m d
       = k₄.after m (omega arith) ∙ k₃.after m (omega arith) ∙ k₂.after m (omega arith) ∙ k₁.after m (omega arith) in

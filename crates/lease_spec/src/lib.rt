@@ -1,5 +1,7 @@
 // Leases, as document 02 §4 has them after source 001. What is promised of them is in specs/Promises.antt. No function: here are the types
 // of a lease, its state, and what a row and a table answer; `lease` has the functions.
+#![tactic(auto)]
+
 pub mod sizes;
 
 use time::{Margin, Milliseconds, Seconds};

@@ -8,7 +8,7 @@ use Rattle.cap.proofs.cap_image_new.Tie as tie
 
 returns : tie.Need-returns
 returns c =
-    let e = c.before.before.before.new-image.ensures in (
+    let e = c.before.before.before.new_image.ensures in (
       (c.of-creation.ensures ∙ ap number_of e.0, e.1),
       are_bytes c.before.before.before.before.before.before.args.image.now
           c.before.before.before.before.before.slice-known.given,

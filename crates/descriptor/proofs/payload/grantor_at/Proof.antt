@@ -17,7 +17,7 @@ unfolding grantor_at k_grantor_id
 returns-2 c =
     let v = c.before.before.before.before in
     took _ (sym (ap optional_read v.value.given.1) ∙ v.before.before.opt-keyed.ensures)
-    (stopped _ (sym (ap count_read c.enum-told2.given.1) ∙ c.before.before.not-before.ensures))
+    (stopped _ (sym (ap count_read c.enum-told2.given.1) ∙ c.before.before.not_before.ensures))
 
 returns-3 : tie.Need-returns-3
 unfolding grantor_at k_grantor_id
@@ -25,7 +25,7 @@ returns-3 c =
     let t = c.before in
     let v = t.before.before.before.before in
     took _ (sym (ap optional_read v.value.given.1) ∙ v.before.before.opt-keyed.ensures)
-    (took _ (sym (ap count_read t.before2.given.1) ∙ t.before.before.not-before.ensures) refl)
+    (took _ (sym (ap count_read t.before2.given.1) ∙ t.before.before.not_before.ensures) refl)
 
 pub grantor_at_spec : {M : Type 1} → statement M
 grantor_at_spec =

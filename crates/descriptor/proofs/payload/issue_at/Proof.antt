@@ -20,7 +20,7 @@ unfolding issue_at
 returns-2 c =
     let v = c.before.before.before.before in
     took _ (sym (ap optional_read v.value.given.1) ∙ v.before.before.metadata-at.ensures)
-    (stopped _ (sym (ap count_read c.enum-told2.given.1) ∙ c.before.before.issued-at.ensures))
+    (stopped _ (sym (ap count_read c.enum-told2.given.1) ∙ c.before.before.issued_at.ensures))
 
 returns-3 : tie.Need-returns-3
 unfolding issue_at k_issuer_id
@@ -28,7 +28,7 @@ returns-3 c =
     let i = c.before.before.before.before.before in
     let v = i.before.before.before.before in
     took _ (sym (ap optional_read v.value.given.1) ∙ v.before.before.metadata-at.ensures)
-    (took _ (sym (ap count_read i.issued.given.1) ∙ i.before.before.issued-at.ensures)
+    (took _ (sym (ap count_read i.issued.given.1) ∙ i.before.before.issued_at.ensures)
     (stopped _ (sym (ap span_read c.enum-told3.given.1) ∙ c.before.before.keyed-text.ensures)))
 
 add-not-after : tie.Need-overflow-add-not-after
@@ -49,7 +49,7 @@ returns-4 c =
     let i = k.before.before.before.before.before in
     let v = i.before.before.before.before in
     took _ (sym (ap optional_read v.value.given.1) ∙ v.before.before.metadata-at.ensures)
-    (took _ (sym (ap count_read i.issued.given.1) ∙ i.before.before.issued-at.ensures)
+    (took _ (sym (ap count_read i.issued.given.1) ∙ i.before.before.issued_at.ensures)
     (took _ (sym (ap span_read k.start.given.1) ∙ k.before.before.keyed-text.ensures)
     (stopped _ (sym (ap count_read c.enum-told4.given.1) ∙ c.before.before.not_after.ensures))))
 
@@ -61,7 +61,7 @@ returns-5 c =
     let i = k.before.before.before.before.before in
     let v = i.before.before.before.before in
     took _ (sym (ap optional_read v.value.given.1) ∙ v.before.before.metadata-at.ensures)
-    (took _ (sym (ap count_read i.issued.given.1) ∙ i.before.before.issued-at.ensures)
+    (took _ (sym (ap count_read i.issued.given.1) ∙ i.before.before.issued_at.ensures)
     (took _ (sym (ap span_read k.start.given.1) ∙ k.before.before.keyed-text.ensures)
     (took _ (sym (ap count_read a.after.given.1) ∙ a.before.before.not_after.ensures) refl)))
 

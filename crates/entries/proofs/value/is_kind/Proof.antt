@@ -10,7 +10,7 @@ returns c = rw c.before.before.kind.given.1 c.is-text.ensures
 
 returns-2 : tie.Need-returns-2
 unfolding is_kind
-returns-2 c = rw c.before.before.kind2.given.1 c.has-length.ensures
+returns-2 c = rw c.before.before.kind2.given.1 c.has_length.ensures
 
 returns-3 : tie.Need-returns-3
 unfolding is_kind

@@ -5,10 +5,10 @@ use Rattle.entries.proofs.value.is_text.Statement.{statement}
 use Rattle.entries.proofs.value.is_text.Tie as tie
 
 returns : tie.Need-returns
-returns c = rw (sym c.before.before.has-length.ensures ∙ c.before.if1.true) c.is-utf8.ensures
+returns c = rw (sym c.before.before.has_length.ensures ∙ c.before.if1.true) c.is-utf8.ensures
 
 returns-2 : tie.Need-returns-2
-returns-2 c = rw (sym c.before.has-length.ensures ∙ c.if1.false)
+returns-2 c = rw (sym c.before.has_length.ensures ∙ c.if1.false)
 
 pub is_text_spec : {M : Type 1} → statement M
 is_text_spec = tie.close (tie.spec (λ c κs. search rules) (λ c κs. search rules) returns returns-2)

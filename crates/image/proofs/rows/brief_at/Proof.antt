@@ -44,13 +44,13 @@ returns : tie.Need-returns
 returns c =
     let f = c.before.before.before in
     let k = f.before.before in
-    sym (ap place_of (opened k ∙ row_other _ _ _ _ _ _ (placed k) _ _ f.fields.given.1 _ (c.before.row-sound.ensures _ refl refl) c.if1.true))
+    sym (ap place_of (opened k ∙ row_other _ _ _ _ _ _ (placed k) _ _ f.fields.given.1 _ (c.before.row_sound.ensures _ refl refl) c.if1.true))
 
 returns-2 : tie.Need-returns-2
 returns-2 c =
     let f = c.before.before.before in
     let k = f.before.before in
-    sym (ap place_of (opened k ∙ row_good _ _ _ _ _ _ (placed k) _ _ f.fields.given.1 _ (c.before.row-sound.ensures _ refl refl) c.if1.false))
+    sym (ap place_of (opened k ∙ row_good _ _ _ _ _ _ (placed k) _ _ f.fields.given.1 _ (c.before.row_sound.ensures _ refl refl) c.if1.false))
 
 returns-3 : tie.Need-returns-3
 returns-3 c = sym (ap place_of (opened c.before.before ∙ read_not _ _ _ _ _ _ (inl c.enum_told.given.1)))

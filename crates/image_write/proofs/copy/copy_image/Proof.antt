@@ -13,7 +13,7 @@ returns c =
     let r = p1.before.before in
     let s = r.before.before.before.before in
     image_done _ _ _ _ _ _ _ _ _ _ _ _ r.before.row-place.ensures.0 r.row-place2.ensures.0 s.requires.5 s.requires.7
-    p1.new-image.ensures.1 p2.copy-rows.ensures p3.put.ensures p4.put-number.ensures
+    p1.new_image.ensures.1 p2.copy-rows.ensures p3.put.ensures p4.put-number.ensures
 
 pub copy_image_spec : {M : Type 1} → statement M
 copy_image_spec =

@@ -30,12 +30,12 @@ abbrev turn : tie.After-step-levels invariant-loop decreases-loop → tie.At-loo
 turn x = x.before.before.before.before.before
 
 -- what the step of the first levels says
-stepped : (x : tie.After-step-levels invariant-loop decreases-loop) {y : LevelStep} → x.step-levels.result ≡ y
+stepped : (x : tie.After-step-levels invariant-loop decreases-loop) {y : LevelStep} → x.step_levels.result ≡ y
     → Stepped (turn x).loop.rest-q.now (turn x).loop.rest-p.now y
 stepped x e =
     let f = x.before in
     let l = (turn x).loop in
-    subst (Stepped l.rest-q.now l.rest-p.now) (sym x.step-levels.ensures ∙ e)
+    subst (Stepped l.rest-q.now l.rest-p.now) (sym x.step_levels.ensures ∙ e)
     (step_decides l.rest-q.now l.rest-p.now (not_deep f.before.before) (sym f.before.is-deep2.ensures ∙ f.if2.false))
 
 -- both have levels after them

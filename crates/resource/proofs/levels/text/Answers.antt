@@ -13,4 +13,4 @@ terminal_first-requires c = omega (arith, (below_says _ _ (sym c.below.ensures �
 
 pub returns : goal.returns
 returns c =
-    c.terminal_first.ensures ∙ text_form _ _ (sym c.below.ensures ∙ not-false _ c.if-not-below.false)
+    c.terminal_first.ensures ∙ text_form _ _ (sym c.below.ensures ∙ c.if-not-below.false)

@@ -19,13 +19,13 @@ returns-then-not-pattern c = sym (match_no_pattern _ _ (sym c.pattern.ensures �
 pub returns-then-not-same_start : goal.returns-then-not-same_start
 returns-then-not-same_start c =
     c.other_terminal.ensures
-    ∙ sym (match_terminals _ _ ((let the_well_pattern : pattern_ok c.args.p.now ≡ true = sym c.pattern.ensures ∙ not-false _ c.if-not-pattern.false in the_well_pattern)) (sym c.same_start.ensures ∙ not-true _ c.if-not-same_start.true))
+    ∙ sym (match_terminals _ _ ((let the_well_pattern : pattern_ok c.args.p.now ≡ true = sym c.pattern.ensures ∙ c.if-not-pattern.false in the_well_pattern)) (sym c.same_start.ensures ∙ c.if-not-same_start.true))
 
 pub returns-then-not-below : goal.returns-then-not-below
 returns-then-not-below c =
     sym (match_no_resource _ _
-    (match_under _ _ ((let the_well_pattern : pattern_ok c.args.p.now ≡ true = sym c.pattern.ensures ∙ not-false _ c.if-not-pattern.false in the_well_pattern)) ((let the_same_ids : let a = c.args in same (take terminal_size a.p.now) (take terminal_size a.r.now) ≡ true = let a = c.args in
-    match_same a.p.now a.r.now (sym c.same_start.ensures ∙ not-false _ c.if-not-same_start.false) in the_same_ids)) ∙ sym c.below.ensures ∙ c.if-not-below.true))
+    (match_under _ _ ((let the_well_pattern : pattern_ok c.args.p.now ≡ true = sym c.pattern.ensures ∙ c.if-not-pattern.false in the_well_pattern)) ((let the_same_ids : let a = c.args in same (take terminal_size a.p.now) (take terminal_size a.r.now) ≡ true = let a = c.args in
+    match_same a.p.now a.r.now (sym c.same_start.ensures ∙ c.if-not-same_start.false) in the_same_ids)) ∙ sym c.below.ensures ∙ c.if-not-below.true))
 
 pub slice_bounds-levels-count : goal.slice_bounds-levels-count
 slice_bounds-levels-count c = omega (arith, (pattern_short _ ((let the_well_pattern : pattern_ok c.args.p.now ≡ true = sym c.pattern.ensures ∙ c.if-not-pattern.false in the_well_pattern))).0)
@@ -34,25 +34,31 @@ pub slice_bounds-levels-start : goal.slice_bounds-levels-start
 slice_bounds-levels-start c = omega (arith, (pattern_short _ ((let the_well_pattern : pattern_ok c.args.p.now ≡ true = sym c.pattern.ensures ∙ c.if-not-pattern.false in the_well_pattern))).0)
 
 pub slice_bounds-levels-count-2 : goal.slice_bounds-levels-count-2
-slice_bounds-levels-count-2 c = omega (arith, (resource_short _ ((let the_well_resource : resource_ok c.args.r.now ≡ true = match_under _ _ ((let the_well_pattern : pattern_ok c.args.p.now ≡ true = sym c.pattern.ensures ∙ not-false _ c.if-not-pattern.false in the_well_pattern)) ((let the_same_ids : let a = c.args in same (take terminal_size a.p.now) (take terminal_size a.r.now) ≡ true = let a = c.args in
-    match_same a.p.now a.r.now (sym c.same_start.ensures ∙ not-false _ c.if-not-same_start.false) in the_same_ids)) ∙ sym c.below.ensures ∙ c.if-not-below.false in the_well_resource))).0)
+slice_bounds-levels-count-2 c = omega (
+  arith,
+  (resource_short _ ((let the_well_resource : resource_ok c.args.r.now ≡ true = match_under _ _ ((let the_well_pattern : pattern_ok c.args.p.now ≡ true = sym c.pattern.ensures ∙ c.if-not-pattern.false in the_well_pattern)) ((let the_same_ids : let a = c.args in same (take terminal_size a.p.now) (take terminal_size a.r.now) ≡ true = let a = c.args in
+      match_same a.p.now a.r.now (sym c.same_start.ensures ∙ c.if-not-same_start.false) in the_same_ids)) ∙ sym c.below.ensures ∙ c.if-not-below.false in the_well_resource))).0,
+)
 
 pub slice_bounds-levels-start-2 : goal.slice_bounds-levels-start-2
-slice_bounds-levels-start-2 c = omega (arith, (resource_short _ ((let the_well_resource : resource_ok c.args.r.now ≡ true = match_under _ _ ((let the_well_pattern : pattern_ok c.args.p.now ≡ true = sym c.pattern.ensures ∙ not-false _ c.if-not-pattern.false in the_well_pattern)) ((let the_same_ids : let a = c.args in same (take terminal_size a.p.now) (take terminal_size a.r.now) ≡ true = let a = c.args in
-    match_same a.p.now a.r.now (sym c.same_start.ensures ∙ not-false _ c.if-not-same_start.false) in the_same_ids)) ∙ sym c.below.ensures ∙ c.if-not-below.false in the_well_resource))).0)
+slice_bounds-levels-start-2 c = omega (
+  arith,
+  (resource_short _ ((let the_well_resource : resource_ok c.args.r.now ≡ true = match_under _ _ ((let the_well_pattern : pattern_ok c.args.p.now ≡ true = sym c.pattern.ensures ∙ c.if-not-pattern.false in the_well_pattern)) ((let the_same_ids : let a = c.args in same (take terminal_size a.p.now) (take terminal_size a.r.now) ≡ true = let a = c.args in
+      match_same a.p.now a.r.now (sym c.same_start.ensures ∙ c.if-not-same_start.false) in the_same_ids)) ∙ sym c.below.ensures ∙ c.if-not-below.false in the_well_resource))).0,
+)
 
 pub levels-requires : goal.levels-requires
 levels-requires c =
     let a = c.args in (
-      part_no_longer a.p.now levels_place longest_text (pattern_short _ ((let the_well_pattern : pattern_ok c.args.p.now ≡ true = sym c.pattern.ensures ∙ not-false _ c.if-not-pattern.false in the_well_pattern))).1,
-      part_no_longer a.r.now levels_place longest_text (resource_short _ ((let the_well_resource : resource_ok c.args.r.now ≡ true = match_under _ _ ((let the_well_pattern : pattern_ok c.args.p.now ≡ true = sym c.pattern.ensures ∙ not-false _ c.if-not-pattern.false in the_well_pattern)) ((let the_same_ids : let a = c.args in same (take terminal_size a.p.now) (take terminal_size a.r.now) ≡ true = let a = c.args in
-    match_same a.p.now a.r.now (sym c.same_start.ensures ∙ not-false _ c.if-not-same_start.false) in the_same_ids)) ∙ sym c.below.ensures ∙ not-false _ c.if-not-below.false in the_well_resource))).1,
-      below_starless _ _ ((let the_well_pattern : pattern_ok c.args.p.now ≡ true = sym c.pattern.ensures ∙ not-false _ c.if-not-pattern.false in the_well_pattern)) ((let the_well_resource : resource_ok c.args.r.now ≡ true = match_under _ _ ((let the_well_pattern : pattern_ok c.args.p.now ≡ true = sym c.pattern.ensures ∙ not-false _ c.if-not-pattern.false in the_well_pattern)) ((let the_same_ids : let a = c.args in same (take terminal_size a.p.now) (take terminal_size a.r.now) ≡ true = let a = c.args in
-    match_same a.p.now a.r.now (sym c.same_start.ensures ∙ not-false _ c.if-not-same_start.false) in the_same_ids)) ∙ sym c.below.ensures ∙ not-false _ c.if-not-below.false in the_well_resource)),
+      part_no_longer a.p.now levels_place longest_text (pattern_short _ ((let the_well_pattern : pattern_ok c.args.p.now ≡ true = sym c.pattern.ensures ∙ c.if-not-pattern.false in the_well_pattern))).1,
+      part_no_longer a.r.now levels_place longest_text (resource_short _ ((let the_well_resource : resource_ok c.args.r.now ≡ true = match_under _ _ ((let the_well_pattern : pattern_ok c.args.p.now ≡ true = sym c.pattern.ensures ∙ c.if-not-pattern.false in the_well_pattern)) ((let the_same_ids : let a = c.args in same (take terminal_size a.p.now) (take terminal_size a.r.now) ≡ true = let a = c.args in
+          match_same a.p.now a.r.now (sym c.same_start.ensures ∙ c.if-not-same_start.false) in the_same_ids)) ∙ sym c.below.ensures ∙ c.if-not-below.false in the_well_resource))).1,
+      below_starless _ _ ((let the_well_pattern : pattern_ok c.args.p.now ≡ true = sym c.pattern.ensures ∙ c.if-not-pattern.false in the_well_pattern)) ((let the_well_resource : resource_ok c.args.r.now ≡ true = match_under _ _ ((let the_well_pattern : pattern_ok c.args.p.now ≡ true = sym c.pattern.ensures ∙ c.if-not-pattern.false in the_well_pattern)) ((let the_same_ids : let a = c.args in same (take terminal_size a.p.now) (take terminal_size a.r.now) ≡ true = let a = c.args in
+          match_same a.p.now a.r.now (sym c.same_start.ensures ∙ c.if-not-same_start.false) in the_same_ids)) ∙ sym c.below.ensures ∙ c.if-not-below.false in the_well_resource)),
     )
 
 pub returns : goal.returns
 returns c =
-    c.levels.ensures ∙ match_below _ _ ((let the_well_pattern : pattern_ok c.args.p.now ≡ true = sym c.pattern.ensures ∙ not-false _ c.if-not-pattern.false in the_well_pattern)) ((let the_well_resource : resource_ok c.args.r.now ≡ true = match_under _ _ ((let the_well_pattern : pattern_ok c.args.p.now ≡ true = sym c.pattern.ensures ∙ not-false _ c.if-not-pattern.false in the_well_pattern)) ((let the_same_ids : let a = c.args in same (take terminal_size a.p.now) (take terminal_size a.r.now) ≡ true = let a = c.args in
-    match_same a.p.now a.r.now (sym c.same_start.ensures ∙ not-false _ c.if-not-same_start.false) in the_same_ids)) ∙ sym c.below.ensures ∙ not-false _ c.if-not-below.false in the_well_resource)) ((let the_same_ids : let a = c.args in same (take terminal_size a.p.now) (take terminal_size a.r.now) ≡ true = let a = c.args in
-    match_same a.p.now a.r.now (sym c.same_start.ensures ∙ not-false _ c.if-not-same_start.false) in the_same_ids))
+    c.levels.ensures ∙ match_below _ _ ((let the_well_pattern : pattern_ok c.args.p.now ≡ true = sym c.pattern.ensures ∙ c.if-not-pattern.false in the_well_pattern)) ((let the_well_resource : resource_ok c.args.r.now ≡ true = match_under _ _ ((let the_well_pattern : pattern_ok c.args.p.now ≡ true = sym c.pattern.ensures ∙ c.if-not-pattern.false in the_well_pattern)) ((let the_same_ids : let a = c.args in same (take terminal_size a.p.now) (take terminal_size a.r.now) ≡ true = let a = c.args in
+    match_same a.p.now a.r.now (sym c.same_start.ensures ∙ c.if-not-same_start.false) in the_same_ids)) ∙ sym c.below.ensures ∙ c.if-not-below.false in the_well_resource)) ((let the_same_ids : let a = c.args in same (take terminal_size a.p.now) (take terminal_size a.r.now) ≡ true = let a = c.args in
+    match_same a.p.now a.r.now (sym c.same_start.ensures ∙ c.if-not-same_start.false) in the_same_ids))

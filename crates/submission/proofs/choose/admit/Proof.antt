@@ -7,7 +7,7 @@ use Rattle.submission.proofs.choose.admit.Statement.{statement}
 use Rattle.submission.proofs.choose.admit.Tie as tie
 
 -- past the first test the descriptor begins at most a day ahead
-lead : (j : tie.Else1) → let a = j.before.before.before.args in a.not-before.0 ≤ a.clock.0 + longest_lead
+lead : (j : tie.Else1) → let a = j.before.before.before.args in a.not_before.0 ≤ a.clock.0 + longest_lead
 lead j = begins_soon _ _ _ j.before.before.plus-at-most.ensures j.before.is-before.ensures j.if1.false
 
 returns : tie.Need-returns

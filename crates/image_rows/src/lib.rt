@@ -1,4 +1,6 @@
 // Where the rows of a stored image stand, for any layout: the check, the lookup, growing and removal find them here.
+#![tactic(auto)]
+
 ghost use Rattle.std.specs.Prelude.{◌≡◌, ◌<◌};
 ghost use Rattle.image_spec.specs.Layout.{place_within};
 

@@ -1,5 +1,7 @@
 // The functions over leases: reading a row, the state of a lease, and the lease that a table has under an id. What they mean is in
 // `lease_spec`.
+#![tactic(auto)]
+
 mod rows;
 mod states;
 

@@ -1,4 +1,6 @@
 // The functions of the matching tool over lines and blocks. What they answer and what is promised of it is in `match_lines_spec`.
+#![tactic(auto)]
+
 mod line;
 mod write;
 

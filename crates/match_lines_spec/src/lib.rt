@@ -1,6 +1,7 @@
 // Lines of the matching tool, as document 01 has it: `pattern resource`, one space, at most 600 bytes; yes, no or bad for each. The
 // input comes in blocks of any length. What is promised is in specs/Promises.antt. No function: here are the
 // types of what is answered; `match_lines` has the functions.
+#![tactic(auto)]
 
 // The verdict on a line.
 #[derive(Clone, Copy)]

@@ -1,5 +1,7 @@
 // The decision of a request, as document 01 has it, and document 02 amends it. What is promised is in specs/Promises.antt. No function:
 // here are the types of what a request answers; `request` has the functions.
+#![tactic(auto)]
+
 use time::{Margin, Seconds};
 
 // What a request answers: granted, with the picked grant's place, its mask, the session's end and the lease's margin; or the refusal of

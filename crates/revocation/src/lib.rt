@@ -1,4 +1,6 @@
 // Whether a descriptor's id is revoked, by the bytes of a revocation list. What that means is in `revocation_spec`.
+#![tactic(auto)]
+
 ghost use Rattle.std.specs.Prelude.{◌≡◌, ◌+◌, ◌≤◌, length};
 ghost use Rattle.revocation_spec.specs.Revocation.{revocation_size, revokes, is_revoked, revocation_at, revocations_of};
 

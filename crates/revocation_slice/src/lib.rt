@@ -1,5 +1,7 @@
 // Whether a descriptor's id is revoked, by a lent slice of rows: document 01's form for the list of document 02 §2. What that means is in
 // `revocation_spec`. Nothing that has a slice of structs is covered by the borrow checker: `row_at` and `is_revoked_in` are proved by hand.
+#![tactic(auto)]
+
 ghost use Rattle.std.specs.Prelude.{◌≡◌, ◌<◌, length};
 ghost use Rattle.revocation_spec.specs.Revocation.{revokes, is_revoked};
 ghost use Rattle.revocation_slice.specs.Code.{row_in};

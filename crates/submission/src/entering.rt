@@ -16,9 +16,9 @@ fn are_version7(body: &[u8], fields: Fields) -> bool
     let id = fields.id;
     let fay = fields.fay;
     let terminal = fields.terminal;
-    uuid::is_version7(&body[id..id + ID_SIZE])
-        & (uuid::is_version7_text(&body[fay + FAY_TEXT..fay + FAY_SIZE])
-            & uuid::is_version7_text(&body[terminal + TERMINAL_TEXT..terminal + TERMINAL_SIZE]))
+    uuids::is_version7(&body[id..id + ID_SIZE])
+        & (uuids::is_version7_text(&body[fay + FAY_TEXT..fay + FAY_SIZE])
+            & uuids::is_version7_text(&body[terminal + TERMINAL_TEXT..terminal + TERMINAL_SIZE]))
 }
 
 // What is answered of the body: the ids come with structure, before the period.

@@ -94,14 +94,14 @@ module _ (d : List ℕ) (bs : List Row) (c : Descriptor) (clock : ℕ) (window :
 
     -- the same bytes are held
     same_held : body_with c.payload.id bs ≡ some (encode c) → Gives d (encode c) clock 0 window 0 d
-    same-held e = (
+    same_held e = (
       all_passed (rw (real, short, early, open_key, e, equal_same (encode c) (encode c) refl)),
       repeat_keeps d (encode c) clock 0 window bs (encode c) r.holds (ap (λ (id : List ℕ). body_with id bs) id_of_lem ∙ e),
     )
 
     -- other bytes are held
     other_held : (b : List ℕ) → body_with c.payload.id bs ≡ some b → (b ≡ encode c → ⊥) → Gives d (encode c) clock 0 window 5 d
-    other-held b e o =
+    other_held b e o =
         let q : number_of (submitted d (encode c) clock 0 window) ≡ 5
         = fails_with 5 (rw (real, short, early, open_key, e, not_same b (encode c) o)) in
         (q, refusal_keeps d (encode c) clock 0 window (λ z. omega arith))
@@ -165,8 +165,8 @@ room_keeps_all d bs c clock window r l e room =
 -- `LastSteps`
 pub last_steps : LastSteps
 last_steps = record {
-  same_held = same-held;
-  other_held = other-held;
+  same_held = same_held;
+  other_held = other_held;
   no_room = no_room;
   stores = stores;
 }

@@ -1,5 +1,7 @@
 // Submission of a descriptor to a stored image, as document 01 has it. What is promised is in specs/Promises.antt. No function: here is the
 // type of what a submission answers; `submission` has the functions.
+#![tactic(auto)]
+
 pub mod sizes;
 
 // What a submission answers: 0, or the number of the first step that fails: 15 malformed arguments, 16 bad image, 1 and 2 from reading (1

@@ -1,0 +1,16 @@
+-- `not_after` meets its contract.
+use native.Mathlib.Omega.{arith}
+use Rattle.octets.proofs.BytesLaws.{T_of}
+use Rattle.entries_spec.specs.Keys.{k_not_after}
+use Rattle.entries_spec.proofs.FixedLaws.{time_found}
+use Rattle.entries.proofs.times.not_after.Goals as goal
+
+pub returns-then-n-ge-LEAST_OF_FOUR : goal.returns-then-n-ge-LEAST_OF_FOUR
+unfolding k_not_after
+returns-then-n-ge-LEAST_OF_FOUR c =
+    time_found _ _ k_not_after _ _ _ (omega arith) (omega arith) (T_of c.has_at.ensures c.if-has_at.true) c.number_at-n.ensures.value
+    c.if-n-ge-LEAST_OF_FOUR.true c.number_at-n.ensures.upper_bound
+
+pub returns : goal.returns
+unfolding k_not_after
+returns c = c.keyed_time.ensures

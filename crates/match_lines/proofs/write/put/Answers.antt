@@ -1,0 +1,45 @@
+-- `put` meets its contract.
+use mathlib.Core.Path.{refl}
+use native.Mathlib.Omega.{arith}
+use lib.ListN.{length-set}
+use Rattle.match_lines.proofs.OverCode.{over_three, over_four}
+use Rattle.match_lines.proofs.write.put.Goals as goal
+
+pub bounds-out-at-in-IsYes : goal.bounds-out-at-in-IsYes
+bounds-out-at-in-IsYes c = simp length-set (omega arith)
+
+pub bounds-out-at-in-IsYes-2 : goal.bounds-out-at-in-IsYes-2
+bounds-out-at-in-IsYes-2 c = simp length-set (omega arith)
+
+pub bounds-out-at-in-IsYes-3 : goal.bounds-out-at-in-IsYes-3
+bounds-out-at-in-IsYes-3 c = simp length-set (omega arith)
+
+pub bounds-out-at-in-IsNo-2 : goal.bounds-out-at-in-IsNo-2
+bounds-out-at-in-IsNo-2 c = simp length-set (omega arith)
+
+pub bounds-out-at-in-IsNo-3 : goal.bounds-out-at-in-IsNo-3
+bounds-out-at-in-IsNo-3 c = simp length-set (omega arith)
+
+pub bounds-out-at-in-IsBad-2 : goal.bounds-out-at-in-IsBad-2
+bounds-out-at-in-IsBad-2 c = simp length-set (omega arith)
+
+pub bounds-out-at-in-IsBad-3 : goal.bounds-out-at-in-IsBad-3
+bounds-out-at-in-IsBad-3 c = simp length-set (omega arith)
+
+pub bounds-out-at-in-IsBad-4 : goal.bounds-out-at-in-IsBad-4
+bounds-out-at-in-IsBad-4 c = simp length-set (omega arith)
+
+pub returns-in-IsYes : goal.returns-in-IsYes
+returns-in-IsYes c =
+    let the_clauses = rw c.in-IsYes.is (refl, over_four _ _ _ _ _ _ (omega arith)) in
+    record { place = the_clauses.0; holds = the_clauses.1 }
+
+pub returns-in-IsNo : goal.returns-in-IsNo
+returns-in-IsNo c =
+    let the_clauses = rw c.in-IsNo.is (refl, over_three _ _ _ _ _ (omega arith)) in
+    record { place = the_clauses.0; holds = the_clauses.1 }
+
+pub returns-in-IsBad : goal.returns-in-IsBad
+returns-in-IsBad c =
+    let the_clauses = rw c.in-IsBad.is (refl, over_four _ _ _ _ _ _ (omega arith)) in
+    record { place = the_clauses.0; holds = the_clauses.1 }

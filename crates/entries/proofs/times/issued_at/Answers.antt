@@ -1,9 +1,17 @@
 -- `issued_at` meets its contract.
 use native.Mathlib.Omega.{arith}
+use lib.Dec.{lit<}
 use Rattle.octets.proofs.BytesLaws.{T_of}
 use Rattle.entries_spec.specs.Keys.{k_issued_at}
-use Rattle.entries_spec.proofs.FixedLaws.{time_found}
+use Rattle.entries_spec.proofs.ValueBounds.{key_fits}
+use Rattle.entries_spec.proofs.FixedLaws.{number_there, time_found}
 use Rattle.entries.proofs.times.issued_at.Goals as goal
+
+pub overflow_add-at : goal.overflow_add-at
+overflow_add-at c = omega (arith, key_fits _ _ _ (lit< tt) (T_of c.has_at.ensures c.if-has_at.true))
+
+pub overflow_add-result : goal.overflow_add-result
+overflow_add-result c = omega (arith, number_there _ _ 4 _ c.number_at-n.ensures.value (omega arith))
 
 pub returns-then-n-ge-LEAST_OF_FOUR : goal.returns-then-n-ge-LEAST_OF_FOUR
 unfolding k_issued_at

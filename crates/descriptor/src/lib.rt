@@ -1,4 +1,6 @@
 // The functions that read descriptors. What a descriptor is and what is promised of reading one is in `descriptor_spec`.
+#![tactic(auto)]
+
 mod grants;
 mod ids;
 mod modes;

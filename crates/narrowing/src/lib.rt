@@ -1,4 +1,6 @@
 // The functions that narrow a child under a parent. What narrowing is and what is promised of it is in `narrowing_spec`.
+#![tactic(auto)]
+
 mod range;
 mod search;
 

@@ -19,9 +19,9 @@ use Rattle.image_spec.specs.Close.{gone, stays, row_kept, one_more, closed_rows,
 use Rattle.image_spec.proofs.Laws.{place_within_lem}
 
 -- at most one more is counted
-pub one_more : (t : Bool) (k k' : ℕ) → k' ≡ one_more t k → k' ≤ k + 1
-one_more true k k' e = omega arith
-one_more false k k' e = omega arith
+pub one_more_lem : (t : Bool) (k k' : ℕ) → k' ≡ one_more t k → k' ≤ k + 1
+one_more_lem true k k' e = omega arith
+one_more_lem false k k' e = omega arith
 
 -- what a turn of the loop over the rows counts
 pub count_next : (gs : List ℕ) (i k k' : ℕ) → i < length gs → k' ≡ one_more (stays (get_or gs i 0)) k

@@ -26,7 +26,7 @@ pub returns-then-stop-s : goal.returns-then-stop-s
 returns-then-stop-s c =
     let n = c.until-stop in
     let a = c.args in
-    let d = left_end _ _ _ _ _ _ _ c.loop-long.invariant.3 c.loop-long.invariant.0 _ n.ensures.0 c.if-stop-s.true in
+    let d = left_end _ _ _ _ _ _ _ c.loop-long.invariant.3 c.loop-long.invariant.0 _ n.ensures.value c.if-stop-s.true in
     let the_clauses = block_done a.long a.s.now a.out.now c.end.result c.loop-long.out c.if-out-s.false (c.end.ensures ∙ d.0, d.1) in
     record { answer = the_clauses.0; output = the_clauses.1 }
 

@@ -1,0 +1,33 @@
+-- `close_bodies` meets its contract. The invariant: closing up what is left comes to the same as closing up all. The measure is the number
+-- of bodies that are left.
+use mathlib.Core.Path.{refl, sym, ◌∙◌}
+use Prim.Native.Nat.{◌-◌}
+use native.Mathlib.Omega.{arith}
+use Rattle.removal.proofs.CloseCode.{body_moved_length, bodies_begin, bodies_next, bodies_end}
+use Rattle.removal.proofs.close.close_bodies.Goals as goal
+
+pub loop-i-init : goal.loop-i-init
+loop-i-init c =
+    let p = c.requires in
+    (omega arith, omega (arith, c.place-at.ensures.upper_bound), refl, bodies_begin _ p.0 _ _ _ p.1 c.place-at.ensures.value)
+
+pub move_body-at-requires : goal.move_body-at-requires
+move_body-at-requires c =
+    let p = c.requires in
+    (p.0, omega (arith, p.1), omega (arith, p.1, p.0.few))
+
+pub loop-i-preserved : goal.loop-i-preserved
+loop-i-preserved c =
+    let l = c.loop-i in
+    let e = c.move_body-at.ensures in (
+      omega arith,
+      omega (arith, e.0.1),
+      body_moved_length _ _ _ _ _ e.1 ∙ l.invariant.2,
+      l.invariant.3 ∙ bodies_next _ _ _ _ _ _ _ (omega arith) e.0.0 e.1,
+    )
+
+pub shape_of-d : goal.shape_of-d
+shape_of-d c = c.loop-i.invariant.2
+
+pub returns : goal.returns
+returns c = let l = c.loop-i in sym (l.invariant.3 ∙ bodies_end _ _ _ _ _ (omega arith))

@@ -1,5 +1,5 @@
 // Whether a descriptor's id is revoked, by a lent slice of rows: document 01's form for the list of document 02 §2. What that means is in
-// `revocation_spec`. Nothing that has a slice of structs is covered by the borrow checker: `row_at` and `is_revoked_in` are proved by hand.
+// `revocation_spec`.
 #![tactic(auto)]
 
 ghost use Rattle.std.specs.Prelude.{◌≡◌, ◌<◌, length};

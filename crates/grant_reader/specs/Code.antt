@@ -1,5 +1,5 @@
 -- Walking the grants of a descriptor. These definitions compute. A reader of the promises does not need this page.
-use Rattle.core.specs.Prelude.{ℕ, zero, suc, List, length}
+use Rattle.std.specs.Prelude.{ℕ, zero, suc, List, length}
 use Rattle.exact.specs.Reads.{Got, got, refused}
 use Rattle.descriptor_spec.specs.Reader.{GrantSeen, grant_at, Answer, read, structure, validity, read_of}
 

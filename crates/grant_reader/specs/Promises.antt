@@ -1,5 +1,5 @@
 -- What is promised of the grant reader, and nothing else. Each statement `NameOfIt` is proved in proofs/Promises.antt as `name_of_it`.
-use Rattle.core.specs.Prelude.{◌≡◌, ℕ, ◌<◌, ◌≤◌, List, length, ◌≢◌, slice_index_or}
+use Rattle.std.specs.Prelude.{◌≡◌, ℕ, ◌<◌, ◌≤◌, List, length, ◌≢◌, slice_index_or}
 use Rattle.octets.specs.Bytes.{AreBytes}
 use Rattle.descriptor_spec.specs.declared.GrantNumbers.{GrantNumbers}
 use Rattle.descriptor_spec.specs.Model.{Grant, Descriptor, encode}

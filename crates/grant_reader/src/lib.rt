@@ -1,8 +1,10 @@
 // The grant reader: it keeps the lent bytes of a descriptor and its place, and gives one grant after the other. What is promised is in
 // specs/Promises.antt.
-mod core;
+#![tactic(auto)]
 
-ghost use Rattle.core.specs.Prelude.{◌≡◌};
+mod walk;
+
+ghost use Rattle.std.specs.Prelude.{◌≡◌};
 ghost use Rattle.descriptor.specs.Code.{grant_read};
 ghost use Rattle.descriptor_spec.specs.Reader.{grant_at};
 ghost use Rattle.grant_reader.specs.Code.{start_of, place_after, nth_of};
@@ -10,7 +12,7 @@ ghost use Rattle.grant_reader.specs.Code.{start_of, place_after, nth_of};
 use descriptor::GrantRead;
 
 // A reader of grants: the bytes, and the place of the next grant. Past the last grant, and in bytes that don't read, no grant stands there.
-#[derive(Drop)]
+#[derive(Clone, Copy)]
 pub struct GrantReader<'a> {
     pub src: &'a [u8],
     pub at: usize,
@@ -22,7 +24,7 @@ pub fn new<'a>(src: &'a [u8]) -> GrantReader<'a>
 {
     GrantReader {
         src,
-        at: core::start_of(src),
+        at: walk::start_of(src),
     }
 }
 
@@ -30,7 +32,7 @@ pub fn new<'a>(src: &'a [u8]) -> GrantReader<'a>
 pub fn next<'a>(r: GrantReader<'a>) -> GrantRead
     ensures { grant_read result ≡ grant_at r.entry.src.now r.entry.at }
 {
-    core::step_at(r.src, r.at)
+    walk::step_at(r.src, r.at)
 }
 
 // The reader after that grant; the same reader where there is none.
@@ -39,7 +41,7 @@ pub fn advanced<'a>(r: GrantReader<'a>) -> GrantReader<'a>
 {
     GrantReader {
         src: r.src,
-        at: core::place_after(r.src, r.at),
+        at: walk::place_after(r.src, r.at),
     }
 }
 
@@ -48,5 +50,5 @@ pub fn advanced<'a>(r: GrantReader<'a>) -> GrantReader<'a>
 pub fn nth(s: &[u8], index: u64) -> GrantRead
     ensures { grant_read result ≡ nth_of s.now index }
 {
-    core::nth(s, index)
+    walk::nth(s, index)
 }

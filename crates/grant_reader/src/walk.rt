@@ -1,5 +1,5 @@
 // What the grant reader does, over a plain slice and a place.
-ghost use Rattle.core.specs.Prelude.{◌≡◌};
+ghost use Rattle.std.specs.Prelude.{◌≡◌};
 ghost use Rattle.descriptor.specs.Code.{grant_read};
 ghost use Rattle.descriptor_spec.specs.Reader.{grant_at};
 ghost use Rattle.grant_reader.specs.Code.{start_of, place_after, nth_of};

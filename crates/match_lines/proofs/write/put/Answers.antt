@@ -31,15 +31,12 @@ bounds-out-at-in-IsBad-4 c = simp length-set (omega arith)
 
 pub returns-in-IsYes : goal.returns-in-IsYes
 returns-in-IsYes c =
-    let the_clauses = rw c.in-IsYes.is (refl, over_four _ _ _ _ _ _ (omega arith)) in
-    record { place = the_clauses.0; holds = the_clauses.1 }
+    rw c.in-IsYes.is (record { place = refl; holds = over_four _ _ _ _ _ _ (omega arith) })
 
 pub returns-in-IsNo : goal.returns-in-IsNo
 returns-in-IsNo c =
-    let the_clauses = rw c.in-IsNo.is (refl, over_three _ _ _ _ _ (omega arith)) in
-    record { place = the_clauses.0; holds = the_clauses.1 }
+    rw c.in-IsNo.is (record { place = refl; holds = over_three _ _ _ _ _ (omega arith) })
 
 pub returns-in-IsBad : goal.returns-in-IsBad
 returns-in-IsBad c =
-    let the_clauses = rw c.in-IsBad.is (refl, over_four _ _ _ _ _ _ (omega arith)) in
-    record { place = the_clauses.0; holds = the_clauses.1 }
+    rw c.in-IsBad.is (record { place = refl; holds = over_four _ _ _ _ _ _ (omega arith) })

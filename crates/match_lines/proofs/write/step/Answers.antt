@@ -25,11 +25,11 @@ returns-in-Done c =
     omega (arith, (let the_fits : c.in-Done.kept ≤ c.least-size.result = let a = c.args in
     step_fits a.long a.buffer.now a.n c.least-size.result a.out.now c.least-size.ensures.0 c.least-size.ensures.1 _ _
     c.answers-progress.ensures.answer c.answers-progress.ensures.output _ _ _ c.in-Done.is in the_fits)) in the_inside)) c.move_down.ensures) in
-    record { answer = the_clauses.0; output = the_clauses.1; kept = the_clauses.2 }
+    record { answer = the_clauses.0; output = the_clauses.1.0; kept = the_clauses.1.1 }
 
 pub returns-in-NoRoom : goal.returns-in-NoRoom
 returns-in-NoRoom c =
     let a = c.args in
     let the_clauses = step_refused a.long a.buffer.now a.n c.least-size.result a.out.now c.least-size.ensures.0 c.least-size.ensures.1 _ _
     c.answers-progress.ensures.answer c.answers-progress.ensures.output c.in-NoRoom.is in
-    record { answer = the_clauses.0; output = the_clauses.1; kept = the_clauses.2 }
+    record { answer = the_clauses.0; output = the_clauses.1.0; kept = the_clauses.1.1 }

@@ -14,8 +14,8 @@ pub returns-then-fits : goal.returns-then-fits
 returns-then-fits c =
     let l = c.loop-removed in record {
       freed_after = sym (l.invariant.3
-          ∙ choose_fits (c).args.layout ((let a = (c).args in ask_at a.layout a.d.now (length a.marks.now) a.short)) l.marks (length (c).args.marks.now) l.removed l.freed
-          (omega arith) (sym c.fits-2.ensures ∙ c.if-fits.true));
+          ∙ choose_fits c.args.layout ((let a = c.args in ask_at a.layout a.d.now (length a.marks.now) a.short)) l.marks (length c.args.marks.now) l.removed l.freed
+          (omega arith) (sym c.fits.ensures ∙ c.if-fits.true));
       removed_in_bounds = l.invariant.0;
     }
 
@@ -23,14 +23,14 @@ pub returns-in_default : goal.returns-in_default
 returns-in_default c =
     let l = c.loop-removed in record {
       freed_after = sym (l.invariant.3
-          ∙ choose_none (c).args.layout ((let a = (c).args in ask_at a.layout a.d.now (length a.marks.now) a.short)) l.marks (length (c).args.marks.now) l.removed l.freed
-          (omega arith) (sym c.fits-2.ensures ∙ c.if-fits.false) (sym c.least.ensures ∙ c.in_default.is));
+          ∙ choose_none c.args.layout ((let a = c.args in ask_at a.layout a.d.now (length a.marks.now) a.short)) l.marks (length c.args.marks.now) l.removed l.freed
+          (omega arith) (sym c.fits.ensures ∙ c.if-fits.false) (sym c.least.ensures ∙ c.in_default.is));
       removed_in_bounds = l.invariant.0;
     }
 
 pub size_at-requires : goal.size_at-requires
 size_at-requires c =
-    ((c).pre.0, omega (arith, (let the_row_in : c.in-IsRow.j < length c.loop-removed.marks = least_in _ _ _ _ (sym c.least.ensures ∙ c.in-IsRow.is) in the_row_in)))
+    (c.requires.0, omega (arith, (let the_row_in : c.in-IsRow.j < length c.loop-removed.marks = least_in _ _ _ _ (sym c.least.ensures ∙ c.in-IsRow.is) in the_row_in)))
 
 pub loop-removed-preserved : goal.loop-removed-preserved
 loop-removed-preserved c =
@@ -39,8 +39,8 @@ loop-removed-preserved c =
       simp length-set l.invariant.1,
       omega arith,
       l.invariant.3
-          ∙ choose_next (c).args.layout ((let a = (c).args in ask_at a.layout a.d.now (length a.marks.now) a.short)) l.marks (length (c).args.marks.now) l.removed l.freed
-          (omega arith) (sym c.fits-2.ensures ∙ c.if-fits.false) _ _ _ (sym c.least.ensures ∙ c.in-IsRow.is)
+          ∙ choose_next c.args.layout ((let a = c.args in ask_at a.layout a.d.now (length a.marks.now) a.short)) l.marks (length c.args.marks.now) l.removed l.freed
+          (omega arith) (sym c.fits.ensures ∙ c.if-fits.false) _ _ _ (sym c.least.ensures ∙ c.in-IsRow.is)
           c.size_at.ensures.value,
     )
 
@@ -48,8 +48,8 @@ pub returns : goal.returns
 returns c =
     let l = c.loop-removed in record {
       freed_after = sym (l.invariant.3
-          ∙ choose_last (c).args.layout ((let a = (c).args in ask_at a.layout a.d.now (length a.marks.now) a.short)) l.marks (length (c).args.marks.now) l.removed l.freed _
-          (omega arith) c.fits3.ensures);
+          ∙ choose_last c.args.layout ((let a = c.args in ask_at a.layout a.d.now (length a.marks.now) a.short)) l.marks (length c.args.marks.now) l.removed l.freed _
+          (omega arith) c.fits-2.ensures);
       removed_in_bounds = l.invariant.0;
     }
 

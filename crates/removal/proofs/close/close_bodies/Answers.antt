@@ -21,9 +21,9 @@ loop-i-preserved c =
     let l = c.loop-i in
     let e = c.move_body-at.ensures in (
       omega arith,
-      omega (arith, e.0.1),
-      body_moved_length _ _ _ _ _ e.1 ∙ l.invariant.2,
-      l.invariant.3 ∙ bodies_next _ _ _ _ _ _ _ (omega arith) e.0.0 e.1,
+      omega (arith, e.value.1),
+      body_moved_length _ _ _ _ _ e.d_after ∙ l.invariant.2,
+      l.invariant.3 ∙ bodies_next _ _ _ _ _ _ _ (omega arith) e.value.0 e.d_after,
     )
 
 pub shape_of-d : goal.shape_of-d

@@ -5,7 +5,7 @@ use Prim.Native.Nat.{◌-◌}
 use native.Mathlib.Omega.{arith}
 use lib.ListN.{get_or}
 use Rattle.image_spec.specs.Close.{stays}
-use Rattle.removal.proofs.CloseCode.{row_kept_length, one_more, rows_next, count_next, rows_end}
+use Rattle.removal.proofs.CloseCode.{row_kept_length, one_more_lem, rows_next, count_next, rows_end}
 use Rattle.removal.proofs.close.close_rows.Goals as goal
 
 pub loop-i-init : goal.loop-i-init
@@ -23,10 +23,10 @@ loop-i-preserved c =
     let a = c.args in
     let marks = a.marks.now in (
       omega arith,
-      omega (arith, one_more (stays (get_or marks l.i 0)) l.k _ e.0),
-      row_kept_length a.layout (stays (get_or marks l.i 0)) l.d _ l.i l.k e.1 ∙ l.invariant.2,
-      l.invariant.3 ∙ rows_next a.layout l.d _ marks l.i l.k _ (omega arith) e.0 e.1,
-      l.invariant.4 ∙ count_next marks l.i l.k _ (omega arith) e.0,
+      omega (arith, one_more_lem (stays (get_or marks l.i 0)) l.k _ e.value),
+      row_kept_length a.layout (stays (get_or marks l.i 0)) l.d _ l.i l.k e.d_after ∙ l.invariant.2,
+      l.invariant.3 ∙ rows_next a.layout l.d _ marks l.i l.k _ (omega arith) e.value e.d_after,
+      l.invariant.4 ∙ count_next marks l.i l.k _ (omega arith) e.value,
     )
 
 pub shape_of-d : goal.shape_of-d

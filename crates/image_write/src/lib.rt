@@ -1,4 +1,6 @@
 // The functions that write the stored image; what an image is and what is promised of it is in `image_spec`.
+#![tactic(auto)]
+
 mod copy;
 mod grow;
 mod moments;

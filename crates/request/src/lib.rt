@@ -1,4 +1,6 @@
 // The functions that decide a request. What a decision is and what is promised of it is in `request_spec`.
+#![tactic(auto)]
+
 mod arguments;
 mod decide;
 mod examine;

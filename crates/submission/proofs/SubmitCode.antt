@@ -109,12 +109,12 @@ module _ (d b : List ℕ) (n end : ℕ) (h : Held) (f : Fields) where
     -- the same bytes are held: nothing is to be stored
     pub place_same : t ≡ true → Answer answers.Done ≡ placed d b n end h f
     unfolding placed
-    place_same u = sym (ap (λ (x : Held). placed d b n end x f) e ∙ rw (same-held ∙ u))
+    place_same u = sym (ap (λ (x : Held). placed d b n end x f) e ∙ rw (same_held ∙ u))
 
     -- other bytes are held under the id
     pub place_other : t ≡ false → Answer answers.Duplicate ≡ placed d b n end h f
     unfolding placed
-    place_other u = sym (ap (λ (x : Held). placed d b n end x f) e ∙ rw (same-held ∙ u))
+    place_other u = sym (ap (λ (x : Held). placed d b n end x f) e ∙ rw (same_held ∙ u))
 
   -- no body has the id: it is to be stored
   pub place_store : h ≡ Missing → Store n end f.id f.mask ≡ placed d b n end h f

@@ -1,4 +1,6 @@
 // The functions that take a submission. What a submission is and what is promised of it is in `submission_spec`.
+#![tactic(auto)]
+
 mod choose;
 mod entering;
 

@@ -9,7 +9,7 @@ pub returns-then-not-well_formed : goal.returns-then-not-well_formed
 unfolding arguments_ok
 returns-then-not-well_formed c = checked_other ((let a = c.args in
     request_of a.id.now a.fay.now a.terminal.now a.resource.now a.mode a.host.clock
-    a.host.session a.revoked.now a.leases.now a.host.verdict a.host.window)) (sym c.well-formed-2.ensures ∙ c.if-not-well_formed.true)
+    a.host.session a.revoked.now a.leases.now a.host.verdict a.host.window)) (sym c.well_formed-2.ensures ∙ c.if-not-well_formed.true)
 
 pub returns-then-is_before : goal.returns-then-is_before
 unfolding arguments_ok
@@ -18,7 +18,7 @@ returns-then-is_before c =
     request_of a.id.now a.fay.now a.terminal.now a.resource.now a.mode a.host.clock
     a.host.session a.revoked.now a.leases.now a.host.verdict a.host.window)) ((let the_formed : arguments_ok ((let a = c.args in
     request_of a.id.now a.fay.now a.terminal.now a.resource.now a.mode a.host.clock
-    a.host.session a.revoked.now a.leases.now a.host.verdict a.host.window)) ≡ true = sym c.well-formed-2.ensures ∙ c.if-not-well_formed.false in the_formed)) (sym c.is_before.ensures ∙ c.if-is_before.true)
+    a.host.session a.revoked.now a.leases.now a.host.verdict a.host.window)) ≡ true = sym c.well_formed-2.ensures ∙ c.if-not-well_formed.false in the_formed)) (sym c.is_before.ensures ∙ c.if-is_before.true)
 
 pub returns : goal.returns
 unfolding arguments_ok
@@ -27,4 +27,4 @@ returns c =
     request_of a.id.now a.fay.now a.terminal.now a.resource.now a.mode a.host.clock
     a.host.session a.revoked.now a.leases.now a.host.verdict a.host.window)) ((let the_formed : arguments_ok ((let a = c.args in
     request_of a.id.now a.fay.now a.terminal.now a.resource.now a.mode a.host.clock
-    a.host.session a.revoked.now a.leases.now a.host.verdict a.host.window)) ≡ true = sym c.well-formed-2.ensures ∙ c.if-not-well_formed.false in the_formed)) (sym c.is_before.ensures ∙ c.if-is_before.false) c.find.ensures
+    a.host.session a.revoked.now a.leases.now a.host.verdict a.host.window)) ≡ true = sym c.well_formed-2.ensures ∙ c.if-not-well_formed.false in the_formed)) (sym c.is_before.ensures ∙ c.if-is_before.false) c.find.ensures

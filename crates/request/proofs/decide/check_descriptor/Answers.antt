@@ -46,10 +46,10 @@ unfolding descriptor_steps
 returns-in-IsAt c =
     let m = IsAt c.in-IsAt.grant c.in-IsAt.mask c.in-IsAt.names in
     on_descriptor _ _ _ _ _ _ _ m ((let the_found : m ≡ matched_on c.args.body.now c.args.fields c.args.resource.now c.args.mode = sym c.in-IsAt.is ∙ c.match_grant.ensures in the_found))
-    (passes ((let the_early : leb c.args.fields.not_before.0 c.args.clock.0 ≡ true = not_before c.args.fields.not_before.0 c.args.clock.0 ∙ ap not (sym c.is_before.ensures ∙ c.if-is_before.false) in the_early)) (passes ((let the_late : ltb c.args.clock.0 c.args.fields.not_after.0 ≡ true = sym c.is_before-2.ensures ∙ c.if-not-is_before.false in the_late)) (passes ((let the_subject : same (part c.args.body.now c.args.fields.fay fay_size) c.args.fay.now ≡ true = lent_same _ _ c.args.fields.fay fay_size c.same_bytes.ensures ∙ c.if-not-same_bytes.false in the_subject)) (passes ((let the_terminal : same (part c.args.body.now (((at2 c))).args.fields.terminal terminal_size) (((at2 c))).args.terminal.now ≡ true = lent_same _ _ ((at3 c)).args.fields.terminal terminal_size c.same_bytes-2.ensures ∙ c.if-not-same_bytes-2.false in the_terminal)) (passes refl ends)))))
+    (passes ((let the_early : leb c.args.fields.not_before.0 c.args.clock.0 ≡ true = not_before c.args.fields.not_before.0 c.args.clock.0 ∙ ap not (sym c.is_before.ensures ∙ c.if-is_before.false) in the_early)) (passes ((let the_late : ltb c.args.clock.0 c.args.fields.not_after.0 ≡ true = sym c.is_before-2.ensures ∙ c.if-not-is_before.false in the_late)) (passes ((let the_subject : same (part c.args.body.now c.args.fields.fay fay_size) c.args.fay.now ≡ true = lent_same _ _ c.args.fields.fay fay_size c.same_bytes.ensures ∙ c.if-not-same_bytes.false in the_subject)) (passes ((let the_terminal : same (part c.args.body.now c.args.fields.terminal terminal_size) c.args.terminal.now ≡ true = lent_same _ _ c.args.fields.terminal terminal_size c.same_bytes-2.ensures ∙ c.if-not-same_bytes-2.false in the_terminal)) (passes refl ends)))))
 
 pub returns-in-Nothing : goal.returns-in-Nothing
 unfolding descriptor_steps
 returns-in-Nothing c =
     on_descriptor _ _ _ _ _ _ _ Nothing ((let the_found : Nothing ≡ matched_on c.args.body.now c.args.fields c.args.resource.now c.args.mode = sym c.in-Nothing.is ∙ c.match_grant.ensures in the_found))
-    (passes ((let the_early : leb c.args.fields.not_before.0 c.args.clock.0 ≡ true = not_before c.args.fields.not_before.0 c.args.clock.0 ∙ ap not (sym c.is_before.ensures ∙ c.if-is_before.false) in the_early)) (passes ((let the_late : ltb c.args.clock.0 c.args.fields.not_after.0 ≡ true = sym c.is_before-2.ensures ∙ c.if-not-is_before.false in the_late)) (passes ((let the_subject : same (part c.args.body.now c.args.fields.fay fay_size) c.args.fay.now ≡ true = lent_same _ _ c.args.fields.fay fay_size c.same_bytes.ensures ∙ c.if-not-same_bytes.false in the_subject)) (passes ((let the_terminal : same (part c.args.body.now (((at2 c))).args.fields.terminal terminal_size) (((at2 c))).args.terminal.now ≡ true = lent_same _ _ ((at3 c)).args.fields.terminal terminal_size c.same_bytes-2.ensures ∙ c.if-not-same_bytes-2.false in the_terminal)) (fails refl)))))
+    (passes ((let the_early : leb c.args.fields.not_before.0 c.args.clock.0 ≡ true = not_before c.args.fields.not_before.0 c.args.clock.0 ∙ ap not (sym c.is_before.ensures ∙ c.if-is_before.false) in the_early)) (passes ((let the_late : ltb c.args.clock.0 c.args.fields.not_after.0 ≡ true = sym c.is_before-2.ensures ∙ c.if-not-is_before.false in the_late)) (passes ((let the_subject : same (part c.args.body.now c.args.fields.fay fay_size) c.args.fay.now ≡ true = lent_same _ _ c.args.fields.fay fay_size c.same_bytes.ensures ∙ c.if-not-same_bytes.false in the_subject)) (passes ((let the_terminal : same (part c.args.body.now c.args.fields.terminal terminal_size) c.args.terminal.now ≡ true = lent_same _ _ c.args.fields.terminal terminal_size c.same_bytes-2.ensures ∙ c.if-not-same_bytes-2.false in the_terminal)) (fails refl)))))

@@ -1,5 +1,7 @@
 // The byte interface: what a host in C or Rust calls. Each function hands on to a lower crate and turns its answer into numbers; names,
 // order and fields are those of include/cap.h. None has a requirement.
+#![tactic(auto)]
+
 mod numbers;
 
 ghost use Rattle.std.specs.Prelude.{◌≡◌};

@@ -1,7 +1,6 @@
 -- `same_start` meets its contract. The invariant: the flag says whether the first i bytes are equal. The measure: what is left. Assumes
 -- nothing.
 use mathlib.Core.Path.{◌≡◌, refl, sym, ◌∙◌}
-use Prim.Native.Nat.{◌-◌}
 use native.Mathlib.Omega.{arith}
 use Rattle.octets.specs.Bytes.{same}
 use Rattle.octets.proofs.SameLaws.{same_last, start_short_first, start_short_second, start_both}

@@ -1,7 +1,7 @@
 -- `number_at` meets its contract. The invariant: n is the number in the first k bytes, so below 256 ^ k. The measure is w - k.
 use mathlib.Core.Path.{◌≡◌, refl, sym, ◌∙◌, ap, subst}
 use mathlib.Core.List.{List}
-use Prim.Native.Nat.{ℕ, ◌+◌, ◌-◌, ◌*◌, ◌^◌, ◌≤◌, ◌<◌}
+use Prim.Native.Nat.{ℕ, ◌+◌, ◌*◌, ◌^◌, ◌≤◌, ◌<◌}
 use native.Mathlib.Nat.{pow-le-pow_right, pow-suc}
 use native.Mathlib.Numerals.{add-one}
 use native.Mathlib.Omega.{arith}
@@ -30,24 +30,24 @@ pow_some w = pow-le-pow_right {n = 256} (lit< tt) {i = 0} (omega arith)
 
 pub returns-then-w-gt8 : goal.returns-then-w-gt8
 returns-then-w-gt8 c = record {
-      value = sym (number_wide _ _ _ c.if-w-gt8.true);
-      upper_bound = pow_some _;
-    }
+  value = sym (number_wide _ _ _ c.if-w-gt8.true);
+  upper_bound = pow_some _;
+}
 
 pub returns-then-s-at : goal.returns-then-s-at
 returns-then-s-at c = record {
-      value = sym (number_short _ _ _ (omega arith));
-      upper_bound = pow_some _;
-    }
+  value = sym (number_short _ _ _ (omega arith));
+  upper_bound = pow_some _;
+}
 
 pub overflow_sub-s : goal.overflow_sub-s
 overflow_sub-s c = omega arith
 
 pub returns-then-s-at-2 : goal.returns-then-s-at-2
 returns-then-s-at-2 c = record {
-      value = sym (number_short _ _ _ (omega arith));
-      upper_bound = pow_some _;
-    }
+  value = sym (number_short _ _ _ (omega arith));
+  upper_bound = pow_some _;
+}
 
 pub loop-k-init : goal.loop-k-init
 unfolding number_at

@@ -1,7 +1,7 @@
 -- `put_number` meets its contract. The invariant: the last w - k bytes of n are written, and `left` is what its first k bytes hold.
 -- The measure is k.
 use mathlib.Core.Path.{◌≡◌}
-use Prim.Native.Nat.{◌-◌, ◌≤◌}
+use Prim.Native.Nat.{◌≤◌}
 use lib.ListN.{length}
 use Rattle.octets.proofs.NumberLaws.{low_bytes, Remains}
 use Rattle.octets.proofs.numbers.put_number.Given as goal

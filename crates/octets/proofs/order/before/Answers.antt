@@ -1,6 +1,5 @@
 -- `before` meets its contract. The invariant: what is left from i on decides. The measure: what is left.
 use mathlib.Core.Path.{refl, sym, ◌∙◌}
-use Prim.Native.Nat.{◌-◌}
 use native.Mathlib.Omega.{arith}
 use Rattle.octets.proofs.OrderLaws.{before_short, before_end, before_less, before_more, before_same}
 use Rattle.octets.proofs.order.before.Goals as goal

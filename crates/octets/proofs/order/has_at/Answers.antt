@@ -1,7 +1,6 @@
 -- `has_at` meets its contract. The invariant: the flag says whether the first i bytes are those of k. The measure: what is left. Assumes
 -- nothing.
 use mathlib.Core.Path.{refl, sym, ◌∙◌}
-use Prim.Native.Nat.{◌-◌}
 use native.Mathlib.Omega.{arith}
 use Rattle.octets.specs.Bytes.{part, same}
 use Rattle.octets.proofs.BytesLaws.{has_at_none, has_at_short, has_at_differs}

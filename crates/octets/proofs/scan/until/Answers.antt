@@ -1,6 +1,5 @@
 -- `until` meets its contract. The invariant: the first b from `from` on is the first from i on. The measure: what is left.
 use mathlib.Core.Path.{refl}
-use Prim.Native.Nat.{◌-◌}
 use native.Mathlib.Omega.{arith}
 use Rattle.octets.proofs.ScanLaws.{before_next, before_stop, before_end}
 use Rattle.octets.proofs.scan.until.Goals as goal

@@ -1,7 +1,7 @@
 -- `move_down` meets its contract. The invariant: the first i bytes are moved. The measure is n - i.
 use mathlib.Core.Path.{refl, sym, ap, ◌∙◌}
 use mathlib.Core.List.{List}
-use Prim.Native.Nat.{ℕ, ◌+◌, ◌-◌}
+use Prim.Native.Nat.{ℕ, ◌+◌}
 use native.Mathlib.Omega.{arith}
 use lib.ListN.{get_or, set, length-set}
 use Rattle.octets.proofs.MoveLaws.{lowering_none, lowering_more, lowering_all, down_fits, down_not, down_short}

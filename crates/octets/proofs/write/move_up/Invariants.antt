@@ -1,6 +1,6 @@
 -- `move_up` meets its contract. The invariant: the bytes from i up to `to` are moved. The measure is i.
 use mathlib.Core.Path.{◌≡◌}
-use Prim.Native.Nat.{◌-◌, ◌≤◌}
+use Prim.Native.Nat.{◌≤◌}
 use lib.ListN.{length}
 use Rattle.octets.specs.Write.{moved}
 use Rattle.octets.proofs.write.move_up.Given as goal

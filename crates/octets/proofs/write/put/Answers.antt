@@ -1,7 +1,7 @@
 -- `put` meets its contract. The invariant: the first i bytes of s are written. The measure is length s - i.
 use mathlib.Core.Path.{refl, sym, ap, ◌∙◌}
 use mathlib.Core.List.{List}
-use Prim.Native.Nat.{ℕ, ◌+◌, ◌-◌}
+use Prim.Native.Nat.{ℕ, ◌+◌}
 use native.Mathlib.Omega.{arith}
 use lib.ListN.{get_or, set, length-set}
 use Rattle.octets.proofs.OverLaws.{written_none, written_more, written_all, put_fits, put_not}

@@ -1,8 +1,13 @@
 // The matching tool's reading and writing, in blocks as large as the lent buffers. The work is in match_lines, whose contracts say what is
 // written for what was read; no contract can say what a program reads or writes.
-ghost use Rattle.io.specs.Counts.{IsPrefixLen};
+#![tactic(auto)]
+
+ghost use Rattle.std.specs.Prelude.{◌≡◌};
+ghost use Rattle.std.specs.Counts.{IsPrefixLen};
 
 use match_lines::Progress;
+use std::io;
+use std::io::{Read, Write};
 
 // n, or the length of s where n is more.
 fn within(n: usize, s: &[u8]) -> usize
@@ -11,64 +16,75 @@ fn within(n: usize, s: &[u8]) -> usize
     if n <= s.len() { n } else { s.len() }
 }
 
-// Writes the first n bytes of `out`; false where a write takes nothing or fails.
-fn write(out: &[u8], n: usize) -> bool {
+// Writes the first n bytes of `out`, or fails where a write takes nothing or fails.
+fn write<W: Write>(output: &mut W, out: &[u8], n: usize) -> io::Result<()> {
     let size = within(n, out);
-    io::write_all(1, &out[..size])
+    output.write_all(&out[..size])
 }
 
-// Reads into the buffer from the place `kept` on, and answers how many bytes the buffer then has; `kept` at the end of the input, and where
-// the read fails.
-fn read_more(buffer: &mut [u8], kept: usize) -> usize {
+// Reads into the buffer from the place `kept` on, and answers how many bytes the buffer then has; `kept` at the end of the input.
+fn read_more<R: Read>(input: &mut R, buffer: &mut [u8], kept: usize) -> io::Result<usize> {
     if buffer.len() < kept {
-        return kept;
+        return Ok(kept);
     }
-    let got = libc::read(0, &mut buffer[kept..]);
-    kept + io::count(got, &buffer[kept..])
+    let got = input.read(&mut buffer[kept..])?;
+    Ok(kept + got)
 }
 
 // Answers a last line without newline.
-fn finish(buffer: &[u8], kept: usize, long: bool, out: &mut [u8]) {
+fn finish<W: Write>(
+    output: &mut W,
+    buffer: &[u8],
+    kept: usize,
+    long: bool,
+    out: &mut [u8],
+) -> io::Result<()> {
     match match_lines::answer_end(buffer, kept, long, out) {
         Progress::Done {
             written,
             kept: _,
             long: _,
-        } => {
-            write(out, written);
-        }
-        Progress::NoRoom => return,
+        } => write(output, out, written),
+        Progress::NoRoom => Ok(()),
     }
 }
 
-// Answers the lines of standard input on standard output, block by block. `buffer` has room for a line's 600 bytes and more, and `out` for
-// four bytes for each of `buffer`; with less room it stops at the first block that does not fit. It stops at a write that fails, and reads
-// no more.
-pub fn answer_input(buffer: &mut [u8], out: &mut [u8]) {
+// Answers the lines of the input on the output, block by block. `buffer` has room for a line's 600 bytes and more, and `out` for four bytes
+// for each of `buffer`; with less room it stops at the first block that does not fit. A read that fails ends the input: what was kept is
+// answered, and the error handed on. It stops at a write that fails, and reads no more.
+pub fn answer_input<R: Read, W: Write>(
+    input: &mut R,
+    output: &mut W,
+    buffer: &mut [u8],
+    out: &mut [u8],
+) -> io::Result<()> {
     let mut kept: usize = 0;
     let mut long = false;
     // a proved loop has to end, and nothing says that an input does: the count is one that no run uses up
-    let mut turns = u64::MAX;
-    while 0 < turns {
-        turns -= 1;
-        let n = read_more(buffer, kept);
-        if n == kept {
-            finish(buffer, kept, long, out);
-            return;
-        }
-        match match_lines::answer_block(buffer, n, long, out) {
-            Progress::Done {
-                written,
-                kept: k,
-                long: l,
-            } => {
-                if !write(out, written) {
-                    return;
+    for _ in 0..u64::MAX {
+        match read_more(input, buffer, kept) {
+            Ok(n) => {
+                if n == kept {
+                    return finish(output, buffer, kept, long, out);
                 }
-                kept = k;
-                long = l;
+                match match_lines::answer_block(buffer, n, long, out) {
+                    Progress::Done {
+                        written,
+                        kept: k,
+                        long: l,
+                    } => {
+                        write(output, out, written)?;
+                        kept = k;
+                        long = l;
+                    }
+                    Progress::NoRoom => return Ok(()),
+                }
             }
-            Progress::NoRoom => return,
+            Err(e) => {
+                finish(output, buffer, kept, long, out)?;
+                return Err(e);
+            }
         }
     }
+    Ok(())
 }

@@ -1,5 +1,16 @@
 // The matching tool of document 01: reads lines `pattern resource` from standard input and writes yes, no or bad for each.
+#![tactic(auto)]
+
 ghost use Rattle.std.specs.Prelude.{◌≡◌, length};
+
+use std::io;
+
+// A block of the input.
+fn block() -> [u8; 65536]
+    ensures { 65536 ≡ length result }
+{
+    [0; 65536]
+}
 
 // Room for the answers to a block: four bytes for each of its 65,536.
 fn room() -> [u8; 262144]
@@ -8,8 +19,13 @@ fn room() -> [u8; 262144]
     [0; 262144]
 }
 
-fn main() {
-    let mut buffer = io::large_buffer();
+fn main(rt: HostRuntime) -> io::Result<()> {
+    let mut buffer = block();
     let mut out = room();
-    match_stream::answer_input(&mut buffer, &mut out);
+    match_stream::answer_input(
+        &mut rt.reader(),
+        &mut io::writer(&rt),
+        &mut buffer,
+        &mut out,
+    )
 }

@@ -1,13 +1,14 @@
 // The calls that take the image.
 use crate::record::{number, part};
 use crate::show;
+use std::io;
 
 // The image begins with these bytes, and so many of it are lent.
-fn lend(bytes: &[u8], n: u64, image: &mut [u8]) -> usize {
+fn lend<P: Print>(rt: &P, bytes: &[u8], n: u64, image: &mut [u8]) -> io::Result<usize> {
     octets::put(image, 0, bytes);
     let len = n as usize;
-    show::image(octets::part_at(image, 0, len));
-    len
+    show::image(rt, octets::part_at(image, 0, len))?;
+    Ok(len)
 }
 
 fn submit(s: &[u8], at: usize, image: &mut [u8]) -> u64 {
@@ -22,8 +23,8 @@ fn submit(s: &[u8], at: usize, image: &mut [u8]) -> u64 {
     )
 }
 
-fn request(s: &[u8], at: usize, image: &mut [u8]) {
-    show::decision(cap::cap_request(
+fn request<P: Print>(rt: &P, s: &[u8], at: usize, image: &mut [u8]) -> io::Result<()> {
+    let decision = cap::cap_request(
         image,
         part(s, at, 2),
         part(s, at, 3),
@@ -38,8 +39,9 @@ fn request(s: &[u8], at: usize, image: &mut [u8]) {
         number(s, at, 5),
         number(s, at, 6),
         number(s, at, 7),
-    ));
-    show::image(image);
+    );
+    show::decision(rt, decision)?;
+    show::image(rt, image)
 }
 
 // Submits the descriptor so many times, with 1, 2, 3 and so on in the four bytes at the place, each time a step later; the answer is
@@ -89,27 +91,46 @@ fn filled(s: &[u8], at: usize, image: &mut [u8]) -> u64 {
 }
 
 // Makes the call with the number, of the record at the place, on the image, where it takes one.
-fn on_image(call: u64, s: &[u8], at: usize, image: &mut [u8]) {
+fn on_image<P: Print>(rt: &P, call: u64, s: &[u8], at: usize, image: &mut [u8]) -> io::Result<()> {
     match call {
-        7 => show::written(cap::cap_image_new(image), image),
-        8 => show::stored(cap::cap_image_find(image, part(s, at, 2))),
-        9 => show::written(submit(s, at, image), image),
-        10 => request(s, at, image),
-        11 => show::upgraded(cap::cap_image_upgrade(part(s, at, 2), image), image),
-        12 => show::written(filled(s, at, image), image),
-        _ => return,
+        7 => {
+            let answer = cap::cap_image_new(image);
+            show::written(rt, answer, image)
+        }
+        8 => show::stored(rt, cap::cap_image_find(image, part(s, at, 2))),
+        9 => {
+            let answer = submit(s, at, image);
+            show::written(rt, answer, image)
+        }
+        10 => request(rt, s, at, image),
+        11 => {
+            let upgrade = cap::cap_image_upgrade(part(s, at, 2), image);
+            show::upgraded(rt, upgrade, image)
+        }
+        12 => {
+            let answer = filled(s, at, image);
+            show::written(rt, answer, image)
+        }
+        _ => Ok(()),
     }
 }
 
 // Makes the call with the number, of the record at the place, on the first `len` bytes of the image; the answer is how many are lent from
 // then on.
-pub(crate) fn made(call: u64, s: &[u8], at: usize, image: &mut [u8], len: usize) -> usize {
+pub(crate) fn made<P: Print>(
+    rt: &P,
+    call: u64,
+    s: &[u8],
+    at: usize,
+    image: &mut [u8],
+    len: usize,
+) -> io::Result<usize> {
     if call == 6 {
-        return lend(part(s, at, 2), number(s, at, 1), image);
+        return lend(rt, part(s, at, 2), number(s, at, 1), image);
     }
     if image.len() < len {
-        return len;
+        return Ok(len);
     }
-    on_image(call, s, at, &mut image[..len]);
-    len
+    on_image(rt, call, s, at, &mut image[..len])?;
+    Ok(len)
 }

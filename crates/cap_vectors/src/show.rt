@@ -7,66 +7,63 @@ use image_write::Written;
 use narrowing::NarrowingNumbers;
 use request::DecisionNumbers;
 use resource::MatchingNumbers;
+use std::io;
 
-fn number(name: &[u8], n: u64) {
-    io::write_all(1, name);
-    io::print_decimal(1, n);
+fn number<P: Print>(rt: &P, name: &[u8], n: u64) -> io::Result<()> {
+    rt.write_all(name)?;
+    rt.print(n)
 }
 
 // The line, with a number for each '#' in it.
-fn line(s: &[u8], numbers: &[u64]) {
+fn line<P: Print>(rt: &P, s: &[u8], numbers: &[u64]) -> io::Result<()> {
     let mut from: usize = 0;
-    let mut i: usize = 0;
-    while i < numbers.len() {
+    for n in numbers {
         let to = octets::until(s, from, b'#');
         if s.len() <= to {
-            return;
+            return Ok(());
         }
-        io::write_all(1, &s[from..to]);
-        io::print_decimal(1, numbers[i]);
+        rt.write_all(&s[from..to])?;
+        rt.print(*n)?;
         from = to + 1;
-        i += 1;
     }
-    io::write_all(1, &s[from..]);
+    rt.write_all(&s[from..])
 }
 
 // The answer, then the line; or, where all numbers are 0, that they are.
-fn answer(n: u64, s: &[u8], numbers: &[u64]) {
-    number(b": ", n);
-    let mut i: usize = 0;
-    while i < numbers.len() {
-        if numbers[i] != 0 {
-            line(s, numbers);
-            return;
+fn answer<P: Print>(rt: &P, n: u64, s: &[u8], numbers: &[u64]) -> io::Result<()> {
+    number(rt, b": ", n)?;
+    for value in numbers {
+        if *value != 0 {
+            return line(rt, s, numbers);
         }
-        i += 1;
     }
-    io::write_all(1, b", all else 0");
+    rt.write_all(b", all else 0")
 }
 
-pub(crate) fn item(i: ItemNumbers) {
+pub(crate) fn item<P: Print>(rt: &P, i: ItemNumbers) -> io::Result<()> {
     answer(
+        rt,
         i.answer,
         b", kind #, number #, content # at #, next #",
         &[i.kind, i.number, i.content_len, i.content_at, i.next],
-    );
+    )
 }
 
 // The bytes of a string's content, in hexadecimal.
-pub(crate) fn content(s: &[u8]) {
+pub(crate) fn content<P: Print>(rt: &P, s: &[u8]) -> io::Result<()> {
     if s.len() == 0 {
-        return;
+        return Ok(());
     }
-    io::write_all(1, b": ");
-    let mut i: usize = 0;
-    while i < s.len() {
-        io::print_hex(1, octets::number_at(s, i, 1), 2);
-        i += 1;
+    rt.write_all(b": ")?;
+    for byte in s {
+        print!(rt; "{byte:02x}")?;
     }
+    Ok(())
 }
 
-pub(crate) fn descriptor(d: DescriptorNumbers) {
+pub(crate) fn descriptor<P: Print>(rt: &P, d: DescriptorNumbers) -> io::Result<()> {
     answer(
+        rt,
         d.answer,
         b"
     payload # at #, issued_at #, not_before #, not_after #
@@ -97,13 +94,14 @@ pub(crate) fn descriptor(d: DescriptorNumbers) {
             d.signature_len,
             d.signature_at,
         ],
-    );
+    )
 }
 
 // The grant with the index.
-pub(crate) fn grant(index: u64, g: GrantNumbers) {
-    number(b"\n    grant ", index);
+pub(crate) fn grant<P: Print>(rt: &P, index: u64, g: GrantNumbers) -> io::Result<()> {
+    number(rt, b"\n    grant ", index)?;
     answer(
+        rt,
         g.found,
         b", pattern # at #, mask #, modes_at #, constraints # at #",
         &[
@@ -114,23 +112,24 @@ pub(crate) fn grant(index: u64, g: GrantNumbers) {
             g.constraint_pairs,
             g.constraints_at,
         ],
-    );
+    )
 }
 
-pub(crate) fn matching(m: MatchingNumbers) {
-    line(b": #, yes #, names #", &[m.answer, m.yes, m.names]);
+pub(crate) fn matching<P: Print>(rt: &P, m: MatchingNumbers) -> io::Result<()> {
+    line(rt, b": #, yes #, names #", &[m.answer, m.yes, m.names])
 }
 
-pub(crate) fn narrowing(n: NarrowingNumbers) {
+pub(crate) fn narrowing<P: Print>(rt: &P, n: NarrowingNumbers) -> io::Result<()> {
     answer(
+        rt,
         n.answer,
         b", grant #, mode #, levels #",
         &[n.grant, n.mode, n.levels],
-    );
+    )
 }
 
-pub(crate) fn stored(f: StoredNumbers) {
-    answer(f.answer, b", body # at #", &[f.body_len, f.body_at]);
+pub(crate) fn stored<P: Print>(rt: &P, f: StoredNumbers) -> io::Result<()> {
+    answer(rt, f.answer, b", body # at #", &[f.body_len, f.body_at])
 }
 
 // A margin without its sign: its negation less one, which every negative i64 has, and one after the cast.
@@ -142,57 +141,57 @@ fn size(margin: i64) -> u64 {
 }
 
 // A decision's numbers, with the line that has the margin's sign.
-fn signed(d: DecisionNumbers, s: &[u8]) {
+fn signed<P: Print>(rt: &P, d: DecisionNumbers, s: &[u8]) -> io::Result<()> {
     answer(
+        rt,
         d.answer,
         s,
         &[d.grant, d.mask, d.session_end, size(d.margin)],
-    );
+    )
 }
 
-pub(crate) fn decision(d: DecisionNumbers) {
+pub(crate) fn decision<P: Print>(rt: &P, d: DecisionNumbers) -> io::Result<()> {
     if d.margin < 0 {
-        signed(d, b", grant #, mask #, session_end #, margin -#");
-        return;
+        return signed(rt, d, b", grant #, mask #, session_end #, margin -#");
     }
-    signed(d, b", grant #, mask #, session_end #, margin #");
+    signed(rt, d, b", grant #, mask #, session_end #, margin #")
 }
 
 // A sum over all the bytes, which changes with each of them and with their order.
 fn sum(s: &[u8]) -> u64 {
     let mut n: u64 = 7;
-    let mut i: usize = 0;
-    while i < s.len() {
-        n = n % 4294967291 * 257 + octets::number_at(s, i, 1) % 256;
-        i += 1;
+    for byte in s {
+        n = n % 4294967291 * 257 + u64::from(*byte);
     }
     n % 4294967291
 }
 
 // How long the payload part of a descriptor is, and the sum over its bytes.
-pub(crate) fn payload(s: &[u8]) {
+pub(crate) fn payload<P: Print>(rt: &P, s: &[u8]) -> io::Result<()> {
     line(
+        rt,
         b"\n    payload part of # bytes, sum #",
         &[s.len() as u64, sum(s)],
-    );
+    )
 }
 
 // How long the image is, how many rows its header names, and the sum over its bytes.
-pub(crate) fn image(s: &[u8]) {
+pub(crate) fn image<P: Print>(rt: &P, s: &[u8]) -> io::Result<()> {
     line(
+        rt,
         b"; # bytes, rows #, sum #",
         &[s.len() as u64, octets::number_at(s, 4, 2), sum(s)],
-    );
+    )
 }
 
 // The answer of a call that may write, and the image after it.
-pub(crate) fn written(n: u64, s: &[u8]) {
-    number(b": ", n);
-    image(s);
+pub(crate) fn written<P: Print>(rt: &P, n: u64, s: &[u8]) -> io::Result<()> {
+    number(rt, b": ", n)?;
+    image(rt, s)
 }
 
 // The answer of an upgrade, how many bytes it wrote, and the image after it.
-pub(crate) fn upgraded(w: Written, s: &[u8]) {
-    line(b": #, len #", &[w.answer, w.len]);
-    image(s);
+pub(crate) fn upgraded<P: Print>(rt: &P, w: Written, s: &[u8]) -> io::Result<()> {
+    line(rt, b": #, len #", &[w.answer, w.len])?;
+    image(rt, s)
 }

@@ -1,5 +1,5 @@
-// The byte interface: what a host in C or Rust calls. Each function hands on to a lower crate and turns its answer into numbers; names,
-// order and fields are those of include/cap.h. None has a requirement.
+// The byte interface: what a host in C or Rust calls, by the exports of cap_c. Each function hands on to a lower crate and turns its answer
+// into numbers; names, order and fields are those of include/cap.h. None has a requirement.
 #![tactic(auto)]
 
 mod numbers;
@@ -35,8 +35,7 @@ use resource::MatchingNumbers;
 use time::{Milliseconds, Seconds};
 
 // The item at the place.
-#[unsafe(no_mangle)]
-pub extern "C" fn cap_item_read(bytes: &[u8], place: u64) -> ItemNumbers
+pub fn cap_item_read(bytes: &[u8], place: u64) -> ItemNumbers
     ensures answer { result ≡ items.numbers_of (items.item_at bytes.now place) }
     ensures lent { AreBytes bytes.now }
 {
@@ -44,8 +43,7 @@ pub extern "C" fn cap_item_read(bytes: &[u8], place: u64) -> ItemNumbers
 }
 
 // Reads a descriptor.
-#[unsafe(no_mangle)]
-pub extern "C" fn cap_descriptor_read(bytes: &[u8]) -> DescriptorNumbers
+pub fn cap_descriptor_read(bytes: &[u8]) -> DescriptorNumbers
     ensures answer { result ≡ descriptors.numbers_of (reading_of (read_of bytes.now)) }
     ensures lent { AreBytes bytes.now }
 {
@@ -53,8 +51,7 @@ pub extern "C" fn cap_descriptor_read(bytes: &[u8]) -> DescriptorNumbers
 }
 
 // The grant with the index, counted from 0.
-#[unsafe(no_mangle)]
-pub extern "C" fn cap_grant_at(bytes: &[u8], index: u64) -> GrantNumbers
+pub fn cap_grant_at(bytes: &[u8], index: u64) -> GrantNumbers
     ensures answer { result ≡ descriptors.grant_numbers (nth_of bytes.now index) }
     ensures lent { AreBytes bytes.now }
 {
@@ -62,8 +59,7 @@ pub extern "C" fn cap_grant_at(bytes: &[u8], index: u64) -> GrantNumbers
 }
 
 // Whether the pattern matches the resource id.
-#[unsafe(no_mangle)]
-pub extern "C" fn cap_match(pattern: &[u8], resource: &[u8]) -> MatchingNumbers
+pub fn cap_match(pattern: &[u8], resource: &[u8]) -> MatchingNumbers
     ensures answer { result ≡ texts.numbers_of (texts.matching pattern.now resource.now) }
     ensures lent { AreBytes pattern.now × AreBytes resource.now }
 {
@@ -71,8 +67,7 @@ pub extern "C" fn cap_match(pattern: &[u8], resource: &[u8]) -> MatchingNumbers
 }
 
 // Makes a new image.
-#[unsafe(no_mangle)]
-pub extern "C" fn cap_image_new(image: &mut [u8]) -> u64
+pub fn cap_image_new(image: &mut [u8]) -> u64
     ensures answer { (result ≡ creations.number_of (creations.creation_of image.old))
         × (image.new ≡ edition2.after_new image.old) }
     ensures lent { AreBytes image.old }
@@ -81,8 +76,7 @@ pub extern "C" fn cap_image_new(image: &mut [u8]) -> u64
 }
 
 // Looks for the body with the id.
-#[unsafe(no_mangle)]
-pub extern "C" fn cap_image_find(image: &[u8], id: &[u8]) -> StoredNumbers
+pub fn cap_image_find(image: &[u8], id: &[u8]) -> StoredNumbers
     ensures answer { result ≡ images.numbers_of (readable.find_of image.now id.now) }
     ensures lent { AreBytes image.now × AreBytes id.now }
 {
@@ -90,8 +84,7 @@ pub extern "C" fn cap_image_find(image: &[u8], id: &[u8]) -> StoredNumbers
 }
 
 // Turns an image of edition 1 into one of edition 2.
-#[unsafe(no_mangle)]
-pub extern "C" fn cap_image_upgrade(old: &[u8], image: &mut [u8]) -> Written
+pub fn cap_image_upgrade(old: &[u8], image: &mut [u8]) -> Written
     ensures answer { (result ≡ upgrades.written_of (upgrades.upgrade_of old.now image.old))
         × (image.new ≡ upgrades.after_upgrade old.now image.old) }
     ensures lent { AreBytes old.now × AreBytes image.old }
@@ -100,8 +93,7 @@ pub extern "C" fn cap_image_upgrade(old: &[u8], image: &mut [u8]) -> Written
 }
 
 // Submits a descriptor to the image.
-#[unsafe(no_mangle)]
-pub extern "C" fn cap_submit(
+pub fn cap_submit(
     image: &mut [u8],
     descriptor: &[u8],
     clock: u64,
@@ -121,8 +113,7 @@ pub extern "C" fn cap_submit(
 }
 
 // Decides a request; a grant raises the last-used moment of its row.
-#[unsafe(no_mangle)]
-pub extern "C" fn cap_request(
+pub fn cap_request(
     image: &mut [u8],
     id: &[u8],
     fay: &[u8],
@@ -163,8 +154,7 @@ pub extern "C" fn cap_request(
 }
 
 // Narrows the child under the parent.
-#[unsafe(no_mangle)]
-pub extern "C" fn cap_narrow(parent: &[u8], child: &[u8]) -> NarrowingNumbers
+pub fn cap_narrow(parent: &[u8], child: &[u8]) -> NarrowingNumbers
     ensures answer { result ≡ narrowings.numbers_of (narrowings.narrow parent.now child.now) }
     ensures lent { AreBytes parent.now × AreBytes child.now }
 {

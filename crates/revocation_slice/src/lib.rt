@@ -32,8 +32,7 @@ fn row_at(rows: &[Revocation], i: usize) -> Revocation
 }
 
 // Whether some row revokes the id.
-#[unsafe(no_mangle)]
-pub extern "C" fn is_revoked_in(rows: &[Revocation], id: &[u8], clock: u64) -> bool
+pub fn is_revoked_in(rows: &[Revocation], id: &[u8], clock: u64) -> bool
     ensures { result ≡ is_revoked rows.now id.now clock }
 {
     let mut i = 0;

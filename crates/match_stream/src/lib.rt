@@ -2,7 +2,6 @@
 // written for what was read; no contract can say what a program reads or writes.
 #![tactic(auto)]
 
-ghost use Rattle.std.specs.Prelude.{◌≡◌};
 ghost use Rattle.std.specs.Counts.{IsPrefixLen};
 
 use match_lines::Progress;

@@ -1,19 +1,18 @@
 -- The span of a string by a head of one byte or of two (specs/Head.antt of `cbor_item_spec`), in the code's own form. Assumes nothing.
-use mathlib.Core.Path.{◌≡◌, refl, sym, ap, ◌∙◌}
-use mathlib.Core.Bool.{Bool, true, false, ◌&&◌}
+use mathlib.Core.Path.{◌≡◌, refl, sym, ◌∙◌}
+use mathlib.Core.Bool.{true, ◌&&◌}
 use mathlib.Core.List.{List}
 use Prim.Native.Nat.{ℕ, ◌+◌, ◌-◌, ◌/◌, ◌%◌, ◌≤◌, ◌<◌}
 use native.Mathlib.Omega.{arith}
 use lib.ListN.{length, get_or}
-use lib.Dec.{ltb, leb, eqb}
-use borrow.Author.Tests.{ltb-true, ltb-false, lt-ltb, le-leb, lt-leb, eqb-true, eq-eqb}
+use lib.Dec.{ltb, eqb}
+use borrow.Author.Tests.{ltb-false, le-leb, lt-leb, eqb-true, eq-eqb}
 use Rattle.octets.specs.Number.{number_at}
 use Rattle.octets.proofs.Tests.{by_cond, and_left, and_right}
-use Rattle.octets.specs.Span.{Span}
 use Rattle.exact.specs.Reads.{Got, got, refused, bind, guard}
 use Rattle.exact.specs.Holds.{Holds}
 use Rattle.exact.proofs.HoldsLaws.{held}
-use Rattle.cbor_item_spec.specs.Head.{Head, head_of, long_head, wide_head, head_at, span_in, span_at}
+use Rattle.cbor_item_spec.specs.Head.{Head, long_head, wide_head, head_at, span_in, span_at}
 
 -- at or past the end there is no string
 pub span_none : (s : List ℕ) (at major : ℕ) → length s ≤ at → refused ≡ span_at s at major

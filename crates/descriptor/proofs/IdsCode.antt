@@ -1,10 +1,10 @@
 -- The three ids whose keys and heads stand as known bytes (specs/Code.antt). Assumes nothing.
 use mathlib.Core.Path.{◌≡◌, refl, sym, ap, ◌∙◌}
-use mathlib.Core.Bool.{Bool, true, false, ◌&&◌}
+use mathlib.Core.Bool.{Bool, true, ◌&&◌}
 use mathlib.Core.List.{List, [], ◌∷◌, ◌++◌}
-use Prim.Native.Nat.{ℕ, ◌+◌, ◌-◌, ◌≤◌}
+use Prim.Native.Nat.{ℕ, ◌+◌, ◌≤◌}
 use native.Mathlib.Omega.{arith}
-use lib.ListN.{length, take, drop}
+use lib.ListN.{length}
 use lib.Dec.{T}
 use Rattle.octets.specs.Bytes.{part, same, has_at}
 use Rattle.octets.specs.Span.{Span, span_of}
@@ -15,14 +15,13 @@ use Rattle.octets.proofs.Tests.{and_left, and_right}
 use Rattle.exact.specs.Reads.{Got, got}
 use Rattle.exact.proofs.ReadsLaws.{took}
 use Rattle.resource_spec.specs.Identifier.{is_terminal, is_fay, terminal_size}
-use Rattle.entries_spec.specs.declared.Kind.{Kind}
 use Rattle.entries_spec.specs.declared.Kind.TheVariants.{Bytes, Terminal, Fay}
 use Rattle.entries_spec.specs.Keys.{k_terminal_id, k_descriptor_id, k_subject_fay_id}
-use Rattle.entries_spec.specs.Kinds.{is_kind, major_of}
+use Rattle.entries_spec.specs.Kinds.{is_kind}
 use Rattle.entries_spec.specs.Value.{kind_at, keyed_at}
 use Rattle.entries_spec.proofs.FixedLaws.{span_one, span_two, key_before, head_behind, keyed_known}
 use Rattle.descriptor_spec.specs.Allowed.{id_size}
-use Rattle.descriptor_spec.specs.Reader.{Ids, ids_at}
+use Rattle.descriptor_spec.specs.Reader.{ids_at}
 use Rattle.descriptor.specs.Code.{ids_here}
 
 -- a string of n bytes at p, by what it is found to be at p'

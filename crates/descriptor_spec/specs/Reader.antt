@@ -1,6 +1,6 @@
 -- A reader of the promises does not need this page.
 -- The reader of descriptors as a function of bytes and a place, in one pass. These definitions compute: the code answers what they say.
-use Rattle.std.specs.Prelude.{Bool, not, ◌&&◌, cond, List, [], ◌∷◌, ◌++◌, ℕ, ◌+◌, ◌-◌, ◌^◌, ◌/◌, ◌%◌, length, leb, ltb, eqb}
+use Rattle.std.specs.Prelude.{Bool, not, ◌&&◌, cond, List, ◌∷◌, ◌++◌, ℕ, ◌+◌, ◌-◌, ◌^◌, ◌/◌, ◌%◌, length, leb, ltb, eqb}
 use Rattle.std.proofs.Math.Option.{Option, none, some}
 use Rattle.std.specs.Int.Bits.{bit_or}
 use Rattle.octets.specs.Bytes.{part, same}

@@ -6,14 +6,14 @@ use Prim.Native.Nat.{ℕ, ◌+◌, ◌≤◌}
 use native.Mathlib.Omega.{arith}
 use lib.ListN.{length}
 use lib.Dec.{T}
-use Rattle.octets.specs.Bytes.{part, Has, has_at}
+use Rattle.octets.specs.Bytes.{Has, has_at}
 use Rattle.octets.specs.Span.{Span, span_of}
 use Rattle.octets.proofs.BytesLaws.{has_left, has_right, has_at_yes, yes_has_at, part_has}
 use Rattle.octets.proofs.TruthLaws.{T_true}
 use Rattle.exact.specs.Reads.{got, guard}
 use Rattle.exact.proofs.ReadsLaws.{took, passed}
 use Rattle.entries_spec.specs.declared.Kind.TheVariants.{Bytes}
-use Rattle.entries_spec.specs.Keys.{k_algorithm, k_signature_value, ed25519, ecdsa_p256_sha256, algorithms}
+use Rattle.entries_spec.specs.Keys.{k_algorithm, k_signature_value, ed25519, algorithms}
 use Rattle.entries_spec.specs.Kinds.{is_kind}
 use Rattle.entries_spec.specs.Value.{kind_at, keyed_at}
 use Rattle.entries_spec.specs.Reader.{algorithm_at}

@@ -1,7 +1,7 @@
 -- Values whose heads are known bytes: after a key and such a head, which are compared as one byte string, the value is read without
 -- looking at its head again. Assumes nothing.
 use mathlib.Core.Path.{◌≡◌, refl, sym, ap, ◌∙◌}
-use mathlib.Core.Bool.{Bool, true, false, ◌&&◌}
+use mathlib.Core.Bool.{true, ◌&&◌}
 use mathlib.Core.Logic.{◌≢◌}
 use mathlib.Core.List.{List, [], ◌∷◌, ◌++◌}
 use Prim.Native.Nat.{ℕ, ◌+◌, ◌-◌, ◌/◌, ◌%◌, ◌^◌, ◌≤◌, ◌<◌}
@@ -17,11 +17,11 @@ use Rattle.octets.specs.Number.{number_at, number_in}
 use Rattle.octets.proofs.NumberLaws.{number_in_lem, number_short}
 use Rattle.octets.specs.Span.{Span, span_of}
 use Rattle.octets.proofs.BytesLaws.{has_fits, has_left, has_right, has_at_yes, yes_has_at, has_at_differs}
-use Rattle.exact.specs.Reads.{Got, got, refused, bind, guard}
+use Rattle.exact.specs.Reads.{got, bind, guard}
 use Rattle.exact.proofs.ReadsLaws.{took, passed, flag_yes}
-use Rattle.cbor_item_spec.specs.Head.{Head, head_of, long_head, wide_head, head_at, span_in, span_at}
+use Rattle.cbor_item_spec.specs.Head.{long_head, wide_head, head_at, span_in, span_at}
 use Rattle.entries_spec.specs.declared.Kind.{Kind}
-use Rattle.entries_spec.specs.Kinds.{within, major_of, is_kind}
+use Rattle.entries_spec.specs.Kinds.{major_of, is_kind}
 use Rattle.entries_spec.specs.Value.{count_at, time_at, string_at, kind_at, keyed_at, absent, or_absent}
 use Rattle.entries_spec.specs.Reader.{opt_pairs_at}
 

@@ -9,7 +9,6 @@ use lib.ListN.{length, get_or, set, length-set}
 use lib.Seq.{get_or-set_other}
 use lib.Dec.{eqb}
 use borrow.Author.Tests.{eqb-true, eqb-false}
-use Rattle.octets.specs.Bytes.{same}
 use Rattle.octets.specs.Number.{number_at, number_in}
 use Rattle.octets.proofs.NumberLaws.{number_in_lem, number_part}
 use Rattle.octets.proofs.SameLaws.{not_same}

@@ -1,25 +1,22 @@
 -- A new row after the removal of expired ones: what the writes of both come to, and which bodies are then found (specs/Laws.antt,
 -- `StoredAfterFor`, `StoredHoldsFor`, `LeftFinds`). Assumes nothing.
-use mathlib.Core.Path.{◌≡◌, refl, sym, ap, ap₂, ◌∙◌, subst}
+use mathlib.Core.Path.{◌≡◌, refl, sym, ap, ◌∙◌, subst}
 use mathlib.Core.Logic.{◌⊎◌, inl, inr, ⊎_elim}
-use mathlib.Core.Bool.{Bool, true, false, cond, ◌||◌, false≢true}
+use mathlib.Core.Bool.{Bool, true, false, cond}
 use mathlib.Core.List.{List, [], ◌∷◌, ◌++◌}
-use mathlib.Core.Option.{Option, none, some}
-use Prim.Native.Nat.{ℕ, zero, suc, ◌+◌, ◌-◌, ◌≤◌, ◌<◌}
+use mathlib.Core.Option.{none, some}
+use Prim.Native.Nat.{ℕ, suc, ◌+◌, ◌-◌, ◌≤◌}
 use native.Mathlib.Omega.{arith}
-use lib.ListN.{length, drop, get_or, length-append, length-drop}
+use lib.ListN.{length, drop, length-append, length-drop}
 use lib.Seq.{drop-append-add, drop-drop}
 use borrow.Author.Tests.{leb-true}
 use Rattle.octets.specs.Bytes.{same}
-use Rattle.octets.proofs.SameLaws.{same_equal, equal_same}
 use Rattle.octets.proofs.Tests.{or_true, or_no_left, or_no_right}
 use Rattle.exact.specs.Reads.{AllFrom}
-use Rattle.descriptor_spec.specs.declared.Fields.{Fields}
-use Rattle.descriptor_spec.specs.declared.Reading.TheVariants.{Read}
 use Rattle.image_spec.specs.declared.layout.Layout.{Layout}
 use Rattle.image_spec.specs.declared.Added.TheVariants.{Done, Full}
-use Rattle.image_spec.specs.Layout.{most_rows, row_place, LayoutOk}
-use Rattle.image_spec.specs.Image.{Row, row_of, reading, is_read, id_of, joined, image_of, has_id, BodyOk, seen_with, MomentOk, RowsOk, Holds}
+use Rattle.image_spec.specs.Layout.{LayoutOk}
+use Rattle.image_spec.specs.Image.{Row, id_of, joined, image_of, has_id, BodyOk, seen_with, Holds}
 use Rattle.image_spec.specs.Image.{body_with}
 use Rattle.image_spec.specs.Grow.{added_of, after_add, has_room, with_body}
 use Rattle.image_spec.specs.Close.{keep, stays, kept, closed_up, with_rows}

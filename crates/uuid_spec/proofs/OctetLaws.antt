@@ -12,9 +12,9 @@ use Rattle.octets.specs.Bytes.{AreBytes}
 use Rattle.octets.specs.Number.{number_at}
 use Rattle.octets.proofs.Tests.{and_left, and_right, and_both}
 use Rattle.octets.proofs.NumberLaws.{number_high, number_lt}
-use Rattle.uuid_spec.specs.Uuid.{version, variant, IsVersion7}
+use Rattle.uuid_spec.specs.Uuid.{version, variant}
 use Rattle.uuid_spec.specs.Version7.{version_octet, variant_octet, is_version7}
-use Rattle.uuid_spec.specs.Promises.{OctetsExactly, Layout, LaidOut, LayoutExactly}
+use Rattle.uuid_spec.specs.Promises.{OctetsExactly, Layout, LayoutExactly}
 
 -- ---- which octets have the two fields
 

@@ -28,15 +28,15 @@ small n i h k = omega (arith, mul-le-mul_right i h)
 
 pub returns-then-layout-gt1024 : goal.returns-then-layout-gt1024
 returns-then-layout-gt1024 c = record {
-      value = wide _ _ c.if-layout-gt1024.true;
-      upper_bound = omega arith;
-    }
+  value = wide _ _ c.if-layout-gt1024.true;
+  upper_bound = omega arith;
+}
 
 pub returns-then-i-gt65535 : goal.returns-then-i-gt65535
 returns-then-i-gt65535 c = record {
-      value = many _ _ c.if-i-gt65535.true;
-      upper_bound = omega arith;
-    }
+  value = many _ _ c.if-i-gt65535.true;
+  upper_bound = omega arith;
+}
 
 pub overflow_mul-result : goal.overflow_mul-result
 overflow_mul-result c = record { fits = omega (arith, small _ _ c.if-layout-gt1024.false c.if-i-gt65535.false) }

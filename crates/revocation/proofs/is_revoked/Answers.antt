@@ -1,7 +1,6 @@
 -- `is_revoked` meets its contract. The rows from row i on revoke the id exactly when all do; the measure is the number of rows that are
 -- left.
 use mathlib.Core.Path.{refl, sym, ◌∙◌}
-use Prim.Native.Nat.{◌-◌}
 use native.Mathlib.Omega.{arith}
 use Rattle.revocation.proofs.RevocationCode.{row_hit, row_next, row_none}
 use Rattle.revocation.proofs.is_revoked.Goals as goal

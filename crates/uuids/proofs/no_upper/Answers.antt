@@ -1,7 +1,6 @@
 -- `no_upper` meets its contract. The invariant: the flag and the characters that are left say whether all are no letters of A-Z. The
 -- measure: what is left.
 use mathlib.Core.Path.{refl}
-use Prim.Native.Nat.{◌-◌}
 use native.Mathlib.Omega.{arith}
 use Rattle.uuids.proofs.UuidCode.{left_next, left_end}
 use Rattle.uuids.proofs.no_upper.Goals as goal

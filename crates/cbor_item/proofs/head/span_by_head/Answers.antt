@@ -1,4 +1,3 @@
-
 use Rattle.exact.proofs.ReadsLaws.{took, stopped, passed_eqb, failed_eqb}
 use mathlib.Core.Path.{sym, ap, ◌∙◌}
 use Rattle.cbor_item_spec.specs.Head.{head_read, span_at}

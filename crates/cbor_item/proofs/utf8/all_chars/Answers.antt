@@ -1,6 +1,6 @@
 -- `all_chars` meets its contract. The invariant: what is left from i on decides. The measure: what is left.
 use mathlib.Core.Path.{◌≡◌, sym, ◌∙◌}
-use Prim.Native.Nat.{◌+◌, ◌-◌}
+use Prim.Native.Nat.{◌+◌}
 use native.Mathlib.Omega.{arith}
 use lib.ListN.{drop_of_length-le}
 use Rattle.cbor_item_spec.specs.Utf8.{char_at, chars_from}

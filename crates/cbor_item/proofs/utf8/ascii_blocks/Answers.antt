@@ -1,6 +1,5 @@
 -- `ascii_blocks` meets its contract. The invariant: i is reached over bytes below 128 only. The measure: what is left.
 use mathlib.Core.Path.{sym, ◌∙◌}
-use Prim.Native.Nat.{◌-◌}
 use native.Mathlib.Omega.{arith}
 use Rattle.cbor_item.proofs.AsciiCode.{to_start, to_next}
 use Rattle.cbor_item.proofs.utf8.ascii_blocks.Goals as goal

@@ -1,5 +1,4 @@
 -- `ascii_end` meets its contract. The invariant: the run from i on ends where the run from `from` on ends. The measure: what is left.
-use Prim.Native.Nat.{◌-◌}
 use native.Mathlib.Omega.{arith}
 use Rattle.cbor_item.proofs.AsciiCode.{run_more, run_stop, run_end}
 use Rattle.cbor_item.proofs.utf8.ascii_end.Goals as goal

@@ -1,6 +1,5 @@
 -- `grants_at` meets its contract.
 use mathlib.Core.Path.{◌≡◌, sym, ap, ◌∙◌}
-use mathlib.Core.Bool.{true}
 use Prim.Native.Nat.{◌≤◌}
 use native.Mathlib.Omega.{arith}
 use Rattle.exact.specs.Reads.{got}
@@ -36,9 +35,9 @@ loop-left-init c =
 
 pub more_at-requires : goal.more_at-requires
 more_at-requires c = let i = c.loop-left.invariant in record {
-      terminal_size_in_bounds = (i.0, i.1);
-      pairs_bound = omega (arith, i.2);
-    }
+  terminal_size_in_bounds = (i.0, i.1);
+  pairs_bound = omega (arith, i.2);
+}
 
 pub returns-in-NoSum : goal.returns-in-NoSum
 returns-in-NoSum c =

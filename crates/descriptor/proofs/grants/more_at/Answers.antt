@@ -17,8 +17,12 @@ returns-in_default c =
 
 pub overflow_add-pairs : goal.overflow_add-pairs
 overflow_add-pairs c =
-    omega (arith, (more_room _ _ _ _ ((let the_more : got (add_grant (sum_of c.args.sum) (grant_of c.in-IsGrant.fields)) c.in-IsGrant.next ≡ more_at c.args.s.now c.args.first (sum_of c.args.sum) c.args.at = more_took c.args.s.now c.args.first (sum_of c.args.sum) c.args.at c.requires.terminal_size_in_bounds.1
-    (sym (ap grant_read c.in-IsGrant.is) ∙ c.grant_of.ensures) in the_more))).few, c.requires.pairs_bound)
+    omega (
+      arith,
+      (more_room _ _ _ _ ((let the_more : got (add_grant (sum_of c.args.sum) (grant_of c.in-IsGrant.fields)) c.in-IsGrant.next ≡ more_at c.args.s.now c.args.first (sum_of c.args.sum) c.args.at = more_took c.args.s.now c.args.first (sum_of c.args.sum) c.args.at c.requires.terminal_size_in_bounds.1
+          (sym (ap grant_read c.in-IsGrant.is) ∙ c.grant_of.ensures) in the_more))).few,
+      c.requires.pairs_bound,
+    )
 
 pub returns : goal.returns
 returns c = (let the_more : got (add_grant (sum_of c.args.sum) (grant_of c.in-IsGrant.fields)) c.in-IsGrant.next ≡ more_at c.args.s.now c.args.first (sum_of c.args.sum) c.args.at = more_took c.args.s.now c.args.first (sum_of c.args.sum) c.args.at c.requires.terminal_size_in_bounds.1

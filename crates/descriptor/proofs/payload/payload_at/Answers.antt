@@ -50,11 +50,10 @@ ids_at-requires c =
     ((grants_room _ _ e).first, grants_terminal _ _ e)
 
 pub equal_terminals-requires : goal.equal_terminals-requires
-equal_terminals-requires c =
-    (
-      (grants_room _ _ (sym (ap grants_read c.in-IsGrants.is) ∙ c.grants_at.ensures)).first,
-      (ids_room _ _ (sym (ap ids_read c.in-AreIds.is) ∙ c.ids_at.ensures)).terminal,
-    )
+equal_terminals-requires c = (
+  (grants_room _ _ (sym (ap grants_read c.in-IsGrants.is) ∙ c.grants_at.ensures)).first,
+  (ids_room _ _ (sym (ap ids_read c.in-AreIds.is) ∙ c.ids_at.ensures)).terminal,
+)
 
 pub returns-then-has_keys-equal_terminals : goal.returns-then-has_keys-equal_terminals
 unfolding payload_at

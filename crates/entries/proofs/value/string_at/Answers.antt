@@ -19,12 +19,18 @@ returns-in_default c = stopped _
     ∙ ap (span_at _ _) c.major_of.ensures)
 
 pub overflow_add-end : goal.overflow_add-end
-overflow_add-end c = omega (arith, (let the_fits : c.in-IsSpan.start + c.in-IsSpan.len ≤ length c.args.s.now = span_bound _ _ _ c.in-IsSpan.start c.in-IsSpan.len ((let the_here : got (span_of c.in-IsSpan.start c.in-IsSpan.len) (c.in-IsSpan.start + c.in-IsSpan.len) ≡ span_at c.args.s.now c.args.at (major_of c.args.kind) = sym (ap span_read c.in-IsSpan.is) ∙ c.read_span.ensures
-    ∙ ap (span_at _ _) c.major_of.ensures in the_here)) in the_fits))
+overflow_add-end c = omega (
+  arith,
+  (let the_fits : c.in-IsSpan.start + c.in-IsSpan.len ≤ length c.args.s.now = span_bound _ _ _ c.in-IsSpan.start c.in-IsSpan.len ((let the_here : got (span_of c.in-IsSpan.start c.in-IsSpan.len) (c.in-IsSpan.start + c.in-IsSpan.len) ≡ span_at c.args.s.now c.args.at (major_of c.args.kind) = sym (ap span_read c.in-IsSpan.is) ∙ c.read_span.ensures
+      ∙ ap (span_at _ _) c.major_of.ensures in the_here)) in the_fits),
+)
 
 pub slice_bounds-is_kind-end : goal.slice_bounds-is_kind-end
-slice_bounds-is_kind-end c = omega (arith, (let the_fits : c.in-IsSpan.start + c.in-IsSpan.len ≤ length c.args.s.now = span_bound _ _ _ c.in-IsSpan.start c.in-IsSpan.len ((let the_here : got (span_of c.in-IsSpan.start c.in-IsSpan.len) (c.in-IsSpan.start + c.in-IsSpan.len) ≡ span_at c.args.s.now c.args.at (major_of c.args.kind) = sym (ap span_read c.in-IsSpan.is) ∙ c.read_span.ensures
-    ∙ ap (span_at _ _) c.major_of.ensures in the_here)) in the_fits))
+slice_bounds-is_kind-end c = omega (
+  arith,
+  (let the_fits : c.in-IsSpan.start + c.in-IsSpan.len ≤ length c.args.s.now = span_bound _ _ _ c.in-IsSpan.start c.in-IsSpan.len ((let the_here : got (span_of c.in-IsSpan.start c.in-IsSpan.len) (c.in-IsSpan.start + c.in-IsSpan.len) ≡ span_at c.args.s.now c.args.at (major_of c.args.kind) = sym (ap span_read c.in-IsSpan.is) ∙ c.read_span.ensures
+      ∙ ap (span_at _ _) c.major_of.ensures in the_here)) in the_fits),
+)
 
 pub returns-then-is_kind : goal.returns-then-is_kind
 unfolding kind_at

@@ -12,25 +12,23 @@ pub returns-then-not-header_fits : goal.returns-then-not-header_fits
 returns-then-not-header_fits c = check_header _ _ _ (omega arith) _ c.header_fits.ensures (ap not c.if-not-header_fits.true)
 
 pub row_place-requires : goal.row_place-requires
-row_place-requires c =
-    (
-      c.requires,
-      header_few _ _ _ _ (omega arith) c.header_fits.ensures (ap not c.if-not-header_fits.false)
-          c.number_at-n.ensures.value,
-    )
+row_place-requires c = (
+  c.requires,
+  header_few _ _ _ _ (omega arith) c.header_fits.ensures (ap not c.if-not-header_fits.false)
+      c.number_at-n.ensures.value,
+)
 
 pub returns-then-s-row_place : goal.returns-then-s-row_place
 returns-then-s-row_place c =
     check_long _ _ _ (omega arith) _ c.header_fits.ensures (ap not c.if-not-header_fits.false) _ c.number_at-n.ensures.value (omega arith)
 
 pub all_rows-requires : goal.all_rows-requires
-all_rows-requires c =
-    (
-      c.requires,
-      header_few _ _ _ _ (omega arith) c.header_fits.ensures (ap not c.if-not-header_fits.false)
-          c.number_at-n.ensures.value,
-      omega arith,
-    )
+all_rows-requires c = (
+  c.requires,
+  header_few _ _ _ _ (omega arith) c.header_fits.ensures (ap not c.if-not-header_fits.false)
+      c.number_at-n.ensures.value,
+  omega arith,
+)
 
 pub returns : goal.returns
 returns c =

@@ -1,7 +1,7 @@
 -- `each_row` meets its contract.
 use mathlib.Core.Path.{◌≡◌, sym, ap, ◌∙◌}
 use mathlib.Core.Bool.{false}
-use Prim.Native.Nat.{◌+◌, ◌-◌, ◌≤◌, ◌<◌}
+use Prim.Native.Nat.{◌+◌, ◌≤◌, ◌<◌}
 use native.Mathlib.Omega.{arith}
 use lib.ListN.{length}
 use Rattle.exact.specs.Reads.{got}
@@ -30,23 +30,23 @@ slice_bounds-same_bytes-end c = omega (arith, (let the_inside : c.row_place-r.re
 
 pub row_at-requires : goal.row_at-requires
 row_at-requires c = (let the_ready : let l = c.loop-i in let a = c.args in LayoutOk a.layout × (l.i < most_rows a.layout) × (row_place a.layout l.i + row_size a.layout ≤ length a.s.now) × (l.at ≤ length a.s.now) × (c.mark_id-marked.result ≡ false → id_among a.layout a.s.now (row_id a.s.now (row_place a.layout l.i)) l.i ≡ false) = let p = c.requires in (
-      p.0,
-      omega arith,
-      omega (arith, rows_in_order c.args.layout c.loop-i.i c.args.n c.loop-i-test.true, p.2),
-      c.loop-i.invariant.1,
-      marked_fresh _ p.0 _ _ _ _ _ _ _ _ c.loop-i.invariant.3 c.loop-i-test.true p.2
-          c.row_place-r.ensures.value c.mark_id-marked.ensures,
-    ) in the_ready)
+  p.0,
+  omega arith,
+  omega (arith, rows_in_order c.args.layout c.loop-i.i c.args.n c.loop-i-test.true, p.2),
+  c.loop-i.invariant.1,
+  marked_fresh _ p.0 _ _ _ _ _ _ _ _ c.loop-i.invariant.3 c.loop-i-test.true p.2
+      c.row_place-r.ensures.value c.mark_id-marked.ensures,
+) in the_ready)
 
 pub brief_at-requires : goal.brief_at-requires
 brief_at-requires c = (let the_ready : let l = c.loop-i in let a = c.args in LayoutOk a.layout × (l.i < most_rows a.layout) × (row_place a.layout l.i + row_size a.layout ≤ length a.s.now) × (l.at ≤ length a.s.now) × (c.mark_id-marked.result ≡ false → id_among a.layout a.s.now (row_id a.s.now (row_place a.layout l.i)) l.i ≡ false) = let p = c.requires in (
-      p.0,
-      omega arith,
-      omega (arith, rows_in_order c.args.layout c.loop-i.i c.args.n c.loop-i-test.true, p.2),
-      c.loop-i.invariant.1,
-      marked_fresh _ p.0 _ _ _ _ _ _ _ _ c.loop-i.invariant.3 c.loop-i-test.true p.2
-          c.row_place-r.ensures.value c.mark_id-marked.ensures,
-    ) in the_ready)
+  p.0,
+  omega arith,
+  omega (arith, rows_in_order c.args.layout c.loop-i.i c.args.n c.loop-i-test.true, p.2),
+  c.loop-i.invariant.1,
+  marked_fresh _ p.0 _ _ _ _ _ _ _ _ c.loop-i.invariant.3 c.loop-i-test.true p.2
+      c.row_place-r.ensures.value c.mark_id-marked.ensures,
+) in the_ready)
 
 pub overflow_sub-held : goal.overflow_sub-held
 overflow_sub-held c =
@@ -68,14 +68,13 @@ returns-in-NoRow c =
     ∙ rows_stop _ _ _ _ _ _ _ c.loop-i-test.true (sym (ap row_read c.in-NoRow.is) ∙ c.row_at.ensures)))
 
 pub loop-i-preserved : goal.loop-i-preserved
-loop-i-preserved c =
-    (
-      omega arith,
-      (row_next _ _ _ _ _ _ ((let the_passed : let a = c.args in (f : Fields) × (got f c.in-IsPlace.next ≡ row_at a.layout a.s.now c.loop-i.i c.loop-i.at) = place_read _ _ (sym c.in-IsPlace.is ∙ c.brief_at.ensures) in the_passed)).1).1,
-      c.loop-i.invariant.2 ∙ rows_missed _ _ _ _ _ _ _ _ _ _ c.loop-i-test.true c.row_place-r.ensures.value
-          c.same_bytes.ensures c.if-same_bytes.false ((let the_passed : let a = c.args in (f : Fields) × (got f c.in-IsPlace.next ≡ row_at a.layout a.s.now c.loop-i.i c.loop-i.at) = place_read _ _ (sym c.in-IsPlace.is ∙ c.brief_at.ensures) in the_passed)),
-      (let the_more : Marked c.args.layout c.args.s.now (c.loop-i.i + 1) (length c.args.seen.now) c.mark_id-marked.new.seen = marked_more _ _ _ _ _ _ _ _ c.loop-i.invariant.3 c.row_place-r.ensures.value c.mark_id-marked.ensures in the_more),
-    )
+loop-i-preserved c = (
+  omega arith,
+  (row_next _ _ _ _ _ _ ((let the_passed : let a = c.args in (f : Fields) × (got f c.in-IsPlace.next ≡ row_at a.layout a.s.now c.loop-i.i c.loop-i.at) = place_read _ _ (sym c.in-IsPlace.is ∙ c.brief_at.ensures) in the_passed)).1).1,
+  c.loop-i.invariant.2 ∙ rows_missed _ _ _ _ _ _ _ _ _ _ c.loop-i-test.true c.row_place-r.ensures.value
+      c.same_bytes.ensures c.if-same_bytes.false ((let the_passed : let a = c.args in (f : Fields) × (got f c.in-IsPlace.next ≡ row_at a.layout a.s.now c.loop-i.i c.loop-i.at) = place_read _ _ (sym c.in-IsPlace.is ∙ c.brief_at.ensures) in the_passed)),
+  (let the_more : Marked c.args.layout c.args.s.now (c.loop-i.i + 1) (length c.args.seen.now) c.mark_id-marked.new.seen = marked_more _ _ _ _ _ _ _ _ c.loop-i.invariant.3 c.row_place-r.ensures.value c.mark_id-marked.ensures in the_more),
+)
 
 pub returns-in-NoPlace : goal.returns-in-NoPlace
 returns-in-NoPlace c =

@@ -1,6 +1,6 @@
 -- `id_among` meets its contract.
 use mathlib.Core.Path.{◌≡◌, refl, sym, ap, ◌∙◌}
-use Prim.Native.Nat.{◌+◌, ◌-◌, ◌≤◌}
+use Prim.Native.Nat.{◌+◌, ◌≤◌}
 use native.Mathlib.Omega.{arith}
 use lib.ListN.{length}
 use Rattle.descriptor_spec.specs.Allowed.{id_size}
@@ -13,12 +13,18 @@ pub loop-i-init : goal.loop-i-init
 loop-i-init c = (omega arith, refl)
 
 pub overflow_add-r : goal.overflow_add-r
-overflow_add-r c = omega (arith, (let the_inside : c.row_place-r.result + id_size ≤ length c.args.s.now = let p = c.requires in
-    row_inside _ p.0 _ _ _ _ (omega arith) c.row_place-r.ensures.value p.2 in the_inside))
+overflow_add-r c = omega (
+  arith,
+  (let the_inside : c.row_place-r.result + id_size ≤ length c.args.s.now = let p = c.requires in
+      row_inside _ p.0 _ _ _ _ (omega arith) c.row_place-r.ensures.value p.2 in the_inside),
+)
 
 pub slice_bounds-same_bytes-end : goal.slice_bounds-same_bytes-end
-slice_bounds-same_bytes-end c = omega (arith, (let the_inside : c.row_place-r.result + id_size ≤ length c.args.s.now = let p = c.requires in
-    row_inside _ p.0 _ _ _ _ (omega arith) c.row_place-r.ensures.value p.2 in the_inside))
+slice_bounds-same_bytes-end c = omega (
+  arith,
+  (let the_inside : c.row_place-r.result + id_size ≤ length c.args.s.now = let p = c.requires in
+      row_inside _ p.0 _ _ _ _ (omega arith) c.row_place-r.ensures.value p.2 in the_inside),
+)
 
 pub returns-then-same_bytes : goal.returns-then-same_bytes
 returns-then-same_bytes c =
@@ -26,12 +32,11 @@ returns-then-same_bytes c =
     (sym (id_is _ _ _ _ _ _ c.row_place-r.ensures.value c.same_bytes.ensures) ∙ c.if-same_bytes.true))
 
 pub loop-i-preserved : goal.loop-i-preserved
-loop-i-preserved c =
-    (
-      omega arith,
-      c.loop-i.invariant.1 ∙ among_next _ _ _ _ c.loop-i-test.true
-          (sym (id_is _ _ _ _ _ _ c.row_place-r.ensures.value c.same_bytes.ensures) ∙ c.if-same_bytes.false),
-    )
+loop-i-preserved c = (
+  omega arith,
+  c.loop-i.invariant.1 ∙ among_next _ _ _ _ c.loop-i-test.true
+      (sym (id_is _ _ _ _ _ _ c.row_place-r.ensures.value c.same_bytes.ensures) ∙ c.if-same_bytes.false),
+)
 
 pub returns : goal.returns
 returns c =

@@ -1,6 +1,6 @@
 -- `id_among` meets its contract.
 use mathlib.Core.Path.{◌≡◌}
-use Prim.Native.Nat.{◌-◌, ◌≤◌}
+use Prim.Native.Nat.{◌≤◌}
 use Rattle.image_spec.specs.Check.{id_among}
 use Rattle.image.proofs.rows.id_among.Given as goal
 

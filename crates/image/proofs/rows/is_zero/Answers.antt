@@ -1,7 +1,5 @@
 -- `is_zero` meets its contract.
-use Prim.Native.Nat.{◌-◌}
 use native.Mathlib.Omega.{arith}
-use Rattle.octets.specs.Number.{number_at}
 use Rattle.image.proofs.CheckCode.{zero_few, zero_none, zero_more, zero_not, zero_all}
 use Rattle.image.proofs.rows.is_zero.Goals as goal
 

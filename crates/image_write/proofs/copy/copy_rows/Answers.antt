@@ -1,6 +1,5 @@
 -- `copy_rows` meets its contract.
 use mathlib.Core.Path.{refl, sym, ◌∙◌}
-use Prim.Native.Nat.{◌-◌}
 use native.Mathlib.Omega.{arith}
 use Rattle.image_spec.proofs.Laws.{rows_in_order}
 use Rattle.image_write.proofs.CopyCode.{row_kept_lem, rows_begin, rows_next, rows_end}

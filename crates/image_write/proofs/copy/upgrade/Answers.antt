@@ -10,19 +10,34 @@ use Rattle.image_write.proofs.CopyCode.{upgrade_bad, upgrade_short, upgrade_room
 use Rattle.image_write.proofs.copy.upgrade.Goals as goal
 
 pub row_place-requires : goal.row_place-requires
-row_place-requires c = (edition2_ok, omega (arith, ((let the_bounds : (c.in-Sound.rows ≤ most_rows edition1) × (row_place edition1 c.in-Sound.rows ≤ c.in-Sound.end) × (c.in-Sound.end ≤ length c.args.old.now) × (c.in-Sound.end < 4294967296) = sound_bounds edition1 edition1_ok c.args.old.now _ (are_bytes c.args.old.now c.type_inv.old) _ _ _
-    (sym c.check_first.ensures ∙ c.in-Sound.is) in the_bounds)).0))
+row_place-requires c = (
+  edition2_ok,
+  omega (
+    arith,
+    ((let the_bounds : (c.in-Sound.rows ≤ most_rows edition1) × (row_place edition1 c.in-Sound.rows ≤ c.in-Sound.end) × (c.in-Sound.end ≤ length c.args.old.now) × (c.in-Sound.end < 4294967296) = sound_bounds edition1 edition1_ok c.args.old.now _ (are_bytes c.args.old.now c.type_inv.old) _ _ _
+        (sym c.check_first.ensures ∙ c.in-Sound.is) in the_bounds)).0,
+  ),
+)
 
 pub row_place-requires-in-Sound : goal.row_place-requires-in-Sound
-row_place-requires-in-Sound c = (edition1_ok, ((let the_bounds : (c.in-Sound.rows ≤ most_rows edition1) × (row_place edition1 c.in-Sound.rows ≤ c.in-Sound.end) × (c.in-Sound.end ≤ length c.args.old.now) × (c.in-Sound.end < 4294967296) = sound_bounds edition1 edition1_ok c.args.old.now _ (are_bytes c.args.old.now c.type_inv.old) _ _ _
-    (sym c.check_first.ensures ∙ c.in-Sound.is) in the_bounds)).0)
+row_place-requires-in-Sound c = (
+  edition1_ok,
+  ((let the_bounds : (c.in-Sound.rows ≤ most_rows edition1) × (row_place edition1 c.in-Sound.rows ≤ c.in-Sound.end) × (c.in-Sound.end ≤ length c.args.old.now) × (c.in-Sound.end < 4294967296) = sound_bounds edition1 edition1_ok c.args.old.now _ (are_bytes c.args.old.now c.type_inv.old) _ _ _
+      (sym c.check_first.ensures ∙ c.in-Sound.is) in the_bounds)).0,
+)
 
 pub overflow_sub-len : goal.overflow_sub-len
 overflow_sub-len c = omega (arith, c.row_place-in-Sound.ensures.value, c.row_place.ensures.value, (let the_wider : row_place edition1 c.in-Sound.rows ≤ row_place edition2 c.in-Sound.rows = places_wider edition1 edition2 (omega arith) c.in-Sound.rows in the_wider))
 
 pub overflow_add-len : goal.overflow_add-len
-overflow_add-len c = record { fits = omega (arith, c.row_place.ensures.upper_bound, ((let the_bounds : (c.in-Sound.rows ≤ most_rows edition1) × (row_place edition1 c.in-Sound.rows ≤ c.in-Sound.end) × (c.in-Sound.end ≤ length c.args.old.now) × (c.in-Sound.end < 4294967296) = sound_bounds edition1 edition1_ok c.args.old.now _ (are_bytes c.args.old.now c.type_inv.old) _ _ _
-    (sym c.check_first.ensures ∙ c.in-Sound.is) in the_bounds)).3) }
+overflow_add-len c = record {
+  fits = omega (
+    arith,
+    c.row_place.ensures.upper_bound,
+    ((let the_bounds : (c.in-Sound.rows ≤ most_rows edition1) × (row_place edition1 c.in-Sound.rows ≤ c.in-Sound.end) × (c.in-Sound.end ≤ length c.args.old.now) × (c.in-Sound.end < 4294967296) = sound_bounds edition1 edition1_ok c.args.old.now _ (are_bytes c.args.old.now c.type_inv.old) _ _ _
+        (sym c.check_first.ensures ∙ c.in-Sound.is) in the_bounds)).3,
+  );
+}
 
 pub returns-then-d-len : goal.returns-then-d-len
 returns-then-d-len c =

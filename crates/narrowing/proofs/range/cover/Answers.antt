@@ -33,34 +33,52 @@ returns-in-Finish c =
     (step_decides l.rest_q.now l.rest_p.now ((let the_not_deep : is_deep c.loop-rest_q.rest_q.now ≡ false = sym c.is_deep.ensures ∙ c.if-is_deep.false in the_not_deep)) (sym c.is_deep-in-loop-rest_q.ensures ∙ c.if-is_deep-2.false))))
 
 pub overflow_add-rest_q : goal.overflow_add-rest_q
-overflow_add-rest_q c = omega (arith, ((let the_goes : let l = c.loop-rest_q in Goes l.rest_q.now l.rest_p.now c.in-Next.i c.in-Next.j = (let l = c.loop-rest_q in
-    subst (Stepped l.rest_q.now l.rest_p.now) (sym c.step_levels.ensures ∙ c.in-Next.is)
-    (step_decides l.rest_q.now l.rest_p.now ((let the_not_deep : is_deep c.loop-rest_q.rest_q.now ≡ false = sym c.is_deep.ensures ∙ c.if-is_deep.false in the_not_deep)) (sym c.is_deep-in-loop-rest_q.ensures ∙ c.if-is_deep-2.false))) in the_goes)).in_q)
+overflow_add-rest_q c = omega (
+  arith,
+  ((let the_goes : let l = c.loop-rest_q in Goes l.rest_q.now l.rest_p.now c.in-Next.i c.in-Next.j = (let l = c.loop-rest_q in
+      subst (Stepped l.rest_q.now l.rest_p.now) (sym c.step_levels.ensures ∙ c.in-Next.is)
+      (step_decides l.rest_q.now l.rest_p.now ((let the_not_deep : is_deep c.loop-rest_q.rest_q.now ≡ false = sym c.is_deep.ensures ∙ c.if-is_deep.false in the_not_deep)) (sym c.is_deep-in-loop-rest_q.ensures ∙ c.if-is_deep-2.false))) in the_goes)).in_q,
+)
 
 pub slice_bounds-rest_q-count : goal.slice_bounds-rest_q-count
-slice_bounds-rest_q-count c = omega (arith, ((let the_goes : let l = c.loop-rest_q in Goes l.rest_q.now l.rest_p.now c.in-Next.i c.in-Next.j = (let l = c.loop-rest_q in
-    subst (Stepped l.rest_q.now l.rest_p.now) (sym c.step_levels.ensures ∙ c.in-Next.is)
-    (step_decides l.rest_q.now l.rest_p.now ((let the_not_deep : is_deep c.loop-rest_q.rest_q.now ≡ false = sym c.is_deep.ensures ∙ c.if-is_deep.false in the_not_deep)) (sym c.is_deep-in-loop-rest_q.ensures ∙ c.if-is_deep-2.false))) in the_goes)).in_q)
+slice_bounds-rest_q-count c = omega (
+  arith,
+  ((let the_goes : let l = c.loop-rest_q in Goes l.rest_q.now l.rest_p.now c.in-Next.i c.in-Next.j = (let l = c.loop-rest_q in
+      subst (Stepped l.rest_q.now l.rest_p.now) (sym c.step_levels.ensures ∙ c.in-Next.is)
+      (step_decides l.rest_q.now l.rest_p.now ((let the_not_deep : is_deep c.loop-rest_q.rest_q.now ≡ false = sym c.is_deep.ensures ∙ c.if-is_deep.false in the_not_deep)) (sym c.is_deep-in-loop-rest_q.ensures ∙ c.if-is_deep-2.false))) in the_goes)).in_q,
+)
 
 pub slice_bounds-rest_q-start : goal.slice_bounds-rest_q-start
-slice_bounds-rest_q-start c = omega (arith, ((let the_goes : let l = c.loop-rest_q in Goes l.rest_q.now l.rest_p.now c.in-Next.i c.in-Next.j = (let l = c.loop-rest_q in
-    subst (Stepped l.rest_q.now l.rest_p.now) (sym c.step_levels.ensures ∙ c.in-Next.is)
-    (step_decides l.rest_q.now l.rest_p.now ((let the_not_deep : is_deep c.loop-rest_q.rest_q.now ≡ false = sym c.is_deep.ensures ∙ c.if-is_deep.false in the_not_deep)) (sym c.is_deep-in-loop-rest_q.ensures ∙ c.if-is_deep-2.false))) in the_goes)).in_q)
+slice_bounds-rest_q-start c = omega (
+  arith,
+  ((let the_goes : let l = c.loop-rest_q in Goes l.rest_q.now l.rest_p.now c.in-Next.i c.in-Next.j = (let l = c.loop-rest_q in
+      subst (Stepped l.rest_q.now l.rest_p.now) (sym c.step_levels.ensures ∙ c.in-Next.is)
+      (step_decides l.rest_q.now l.rest_p.now ((let the_not_deep : is_deep c.loop-rest_q.rest_q.now ≡ false = sym c.is_deep.ensures ∙ c.if-is_deep.false in the_not_deep)) (sym c.is_deep-in-loop-rest_q.ensures ∙ c.if-is_deep-2.false))) in the_goes)).in_q,
+)
 
 pub overflow_add-rest_p : goal.overflow_add-rest_p
-overflow_add-rest_p c = omega (arith, ((let the_goes : let l = c.loop-rest_q in Goes l.rest_q.now l.rest_p.now c.in-Next.i c.in-Next.j = (let l = c.loop-rest_q in
-    subst (Stepped l.rest_q.now l.rest_p.now) (sym c.step_levels.ensures ∙ c.in-Next.is)
-    (step_decides l.rest_q.now l.rest_p.now ((let the_not_deep : is_deep c.loop-rest_q.rest_q.now ≡ false = sym c.is_deep.ensures ∙ c.if-is_deep.false in the_not_deep)) (sym c.is_deep-in-loop-rest_q.ensures ∙ c.if-is_deep-2.false))) in the_goes)).in_p)
+overflow_add-rest_p c = omega (
+  arith,
+  ((let the_goes : let l = c.loop-rest_q in Goes l.rest_q.now l.rest_p.now c.in-Next.i c.in-Next.j = (let l = c.loop-rest_q in
+      subst (Stepped l.rest_q.now l.rest_p.now) (sym c.step_levels.ensures ∙ c.in-Next.is)
+      (step_decides l.rest_q.now l.rest_p.now ((let the_not_deep : is_deep c.loop-rest_q.rest_q.now ≡ false = sym c.is_deep.ensures ∙ c.if-is_deep.false in the_not_deep)) (sym c.is_deep-in-loop-rest_q.ensures ∙ c.if-is_deep-2.false))) in the_goes)).in_p,
+)
 
 pub slice_bounds-rest_p-count : goal.slice_bounds-rest_p-count
-slice_bounds-rest_p-count c = omega (arith, ((let the_goes : let l = c.loop-rest_q in Goes l.rest_q.now l.rest_p.now c.in-Next.i c.in-Next.j = (let l = c.loop-rest_q in
-    subst (Stepped l.rest_q.now l.rest_p.now) (sym c.step_levels.ensures ∙ c.in-Next.is)
-    (step_decides l.rest_q.now l.rest_p.now ((let the_not_deep : is_deep c.loop-rest_q.rest_q.now ≡ false = sym c.is_deep.ensures ∙ c.if-is_deep.false in the_not_deep)) (sym c.is_deep-in-loop-rest_q.ensures ∙ c.if-is_deep-2.false))) in the_goes)).in_p)
+slice_bounds-rest_p-count c = omega (
+  arith,
+  ((let the_goes : let l = c.loop-rest_q in Goes l.rest_q.now l.rest_p.now c.in-Next.i c.in-Next.j = (let l = c.loop-rest_q in
+      subst (Stepped l.rest_q.now l.rest_p.now) (sym c.step_levels.ensures ∙ c.in-Next.is)
+      (step_decides l.rest_q.now l.rest_p.now ((let the_not_deep : is_deep c.loop-rest_q.rest_q.now ≡ false = sym c.is_deep.ensures ∙ c.if-is_deep.false in the_not_deep)) (sym c.is_deep-in-loop-rest_q.ensures ∙ c.if-is_deep-2.false))) in the_goes)).in_p,
+)
 
 pub slice_bounds-rest_p-start : goal.slice_bounds-rest_p-start
-slice_bounds-rest_p-start c = omega (arith, ((let the_goes : let l = c.loop-rest_q in Goes l.rest_q.now l.rest_p.now c.in-Next.i c.in-Next.j = (let l = c.loop-rest_q in
-    subst (Stepped l.rest_q.now l.rest_p.now) (sym c.step_levels.ensures ∙ c.in-Next.is)
-    (step_decides l.rest_q.now l.rest_p.now ((let the_not_deep : is_deep c.loop-rest_q.rest_q.now ≡ false = sym c.is_deep.ensures ∙ c.if-is_deep.false in the_not_deep)) (sym c.is_deep-in-loop-rest_q.ensures ∙ c.if-is_deep-2.false))) in the_goes)).in_p)
+slice_bounds-rest_p-start c = omega (
+  arith,
+  ((let the_goes : let l = c.loop-rest_q in Goes l.rest_q.now l.rest_p.now c.in-Next.i c.in-Next.j = (let l = c.loop-rest_q in
+      subst (Stepped l.rest_q.now l.rest_p.now) (sym c.step_levels.ensures ∙ c.in-Next.is)
+      (step_decides l.rest_q.now l.rest_p.now ((let the_not_deep : is_deep c.loop-rest_q.rest_q.now ≡ false = sym c.is_deep.ensures ∙ c.if-is_deep.false in the_not_deep)) (sym c.is_deep-in-loop-rest_q.ensures ∙ c.if-is_deep-2.false))) in the_goes)).in_p,
+)
 
 pub loop-rest_q-smaller : goal.loop-rest_q-smaller
 loop-rest_q-smaller c =
@@ -71,13 +89,21 @@ loop-rest_q-smaller c =
 pub loop-rest_q-preserved : goal.loop-rest_q-preserved
 loop-rest_q-preserved c =
     let l = c.loop-rest_q in (
-      omega (arith, part_shorter l.rest_q.now c.in-Next.i ((let the_goes : let l = c.loop-rest_q in Goes l.rest_q.now l.rest_p.now c.in-Next.i c.in-Next.j = (let l = c.loop-rest_q in
-    subst (Stepped l.rest_q.now l.rest_p.now) (sym c.step_levels.ensures ∙ c.in-Next.is)
-    (step_decides l.rest_q.now l.rest_p.now ((let the_not_deep : is_deep c.loop-rest_q.rest_q.now ≡ false = sym c.is_deep.ensures ∙ c.if-is_deep.false in the_not_deep)) (sym c.is_deep-in-loop-rest_q.ensures ∙ c.if-is_deep-2.false))) in the_goes)).in_q, l.invariant.0),
-      omega (arith, part_shorter l.rest_p.now c.in-Next.j ((let the_goes : let l = c.loop-rest_q in Goes l.rest_q.now l.rest_p.now c.in-Next.i c.in-Next.j = (let l = c.loop-rest_q in
-    subst (Stepped l.rest_q.now l.rest_p.now) (sym c.step_levels.ensures ∙ c.in-Next.is)
-    (step_decides l.rest_q.now l.rest_p.now ((let the_not_deep : is_deep c.loop-rest_q.rest_q.now ≡ false = sym c.is_deep.ensures ∙ c.if-is_deep.false in the_not_deep)) (sym c.is_deep-in-loop-rest_q.ensures ∙ c.if-is_deep-2.false))) in the_goes)).in_p, l.invariant.1),
+      omega (
+        arith,
+        part_shorter l.rest_q.now c.in-Next.i ((let the_goes : let l = c.loop-rest_q in Goes l.rest_q.now l.rest_p.now c.in-Next.i c.in-Next.j = (let l = c.loop-rest_q in
+            subst (Stepped l.rest_q.now l.rest_p.now) (sym c.step_levels.ensures ∙ c.in-Next.is)
+            (step_decides l.rest_q.now l.rest_p.now ((let the_not_deep : is_deep c.loop-rest_q.rest_q.now ≡ false = sym c.is_deep.ensures ∙ c.if-is_deep.false in the_not_deep)) (sym c.is_deep-in-loop-rest_q.ensures ∙ c.if-is_deep-2.false))) in the_goes)).in_q,
+        l.invariant.0,
+      ),
+      omega (
+        arith,
+        part_shorter l.rest_p.now c.in-Next.j ((let the_goes : let l = c.loop-rest_q in Goes l.rest_q.now l.rest_p.now c.in-Next.i c.in-Next.j = (let l = c.loop-rest_q in
+            subst (Stepped l.rest_q.now l.rest_p.now) (sym c.step_levels.ensures ∙ c.in-Next.is)
+            (step_decides l.rest_q.now l.rest_p.now ((let the_not_deep : is_deep c.loop-rest_q.rest_q.now ≡ false = sym c.is_deep.ensures ∙ c.if-is_deep.false in the_not_deep)) (sym c.is_deep-in-loop-rest_q.ensures ∙ c.if-is_deep-2.false))) in the_goes)).in_p,
+        l.invariant.1,
+      ),
       l.invariant.2 ∙ next_same _ _ _ _ ((let the_goes : let l = c.loop-rest_q in Goes l.rest_q.now l.rest_p.now c.in-Next.i c.in-Next.j = (let l = c.loop-rest_q in
-    subst (Stepped l.rest_q.now l.rest_p.now) (sym c.step_levels.ensures ∙ c.in-Next.is)
-    (step_decides l.rest_q.now l.rest_p.now ((let the_not_deep : is_deep c.loop-rest_q.rest_q.now ≡ false = sym c.is_deep.ensures ∙ c.if-is_deep.false in the_not_deep)) (sym c.is_deep-in-loop-rest_q.ensures ∙ c.if-is_deep-2.false))) in the_goes)),
+          subst (Stepped l.rest_q.now l.rest_p.now) (sym c.step_levels.ensures ∙ c.in-Next.is)
+          (step_decides l.rest_q.now l.rest_p.now ((let the_not_deep : is_deep c.loop-rest_q.rest_q.now ≡ false = sym c.is_deep.ensures ∙ c.if-is_deep.false in the_not_deep)) (sym c.is_deep-in-loop-rest_q.ensures ∙ c.if-is_deep-2.false))) in the_goes)),
     )

@@ -67,17 +67,16 @@ returns-in-NoGrant c =
     }
 
 pub loop-left-preserved : goal.loop-left-preserved
-loop-left-preserved c =
-    (
-      written_length c.loop-left.table c.loop-left.i _ _ _ ∙ c.loop-left.invariant.0,
-      begun_next _ _ _ _ _ _ _ c.loop-left.invariant.1 c.loop-left-test.true (sym (ap grant_read c.in-IsGrant.is) ∙ c.read_grant.ensures),
-    )
+loop-left-preserved c = (
+  written_length c.loop-left.table c.loop-left.i _ _ _ ∙ c.loop-left.invariant.0,
+  begun_next _ _ _ _ _ _ _ c.loop-left.invariant.1 c.loop-left-test.true (sym (ap grant_read c.in-IsGrant.is) ∙ c.read_grant.ensures),
+)
 
 pub shape_of-table : goal.shape_of-table
 shape_of-table c = c.loop-left.invariant.0
 
 pub returns : goal.returns
 returns c = record {
-      filled = begun_done _ _ _ _ _ _ _ c.loop-left.invariant.1 c.loop-left-test.false;
-      length = c.loop-left.invariant.0;
-    }
+  filled = begun_done _ _ _ _ _ _ _ c.loop-left.invariant.1 c.loop-left-test.false;
+  length = c.loop-left.invariant.0;
+}

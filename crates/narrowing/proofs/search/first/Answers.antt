@@ -1,6 +1,6 @@
 -- `first` meets its contract.
 use mathlib.Core.Path.{◌≡◌, sym, ap, ◌∙◌}
-use Prim.Native.Nat.{◌+◌, ◌-◌, ◌≤◌}
+use Prim.Native.Nat.{◌+◌, ◌≤◌}
 use native.Mathlib.Omega.{arith}
 use lib.ListN.{length}
 use Rattle.resource_spec.specs.Identifier.{levels_place}
@@ -40,12 +40,11 @@ returns-in-At c =
     ∙ c.loop-i.invariant.1 count at f
 
 pub loop-i-preserved : goal.loop-i-preserved
-loop-i-preserved c =
-    (
-      omega (arith, c.loop-i-test.true),
-      λ count at f. first_next _ _ _ _ _ _ _ _ c.loop-i-test.true ((let the_seen : grant_read (IsGrant c.in-IsGrant.fields c.in-IsGrant.next) ≡ grant_at c.args.child.now c.loop-i.here = sym (ap grant_read c.in-IsGrant.is) ∙ c.read_grant.ensures in the_seen))
-          (sym c.in_default-found.is ∙ c.escape_near-found.ensures count at f) ∙ c.loop-i.invariant.1 count at f,
-    )
+loop-i-preserved c = (
+  omega (arith, c.loop-i-test.true),
+  λ count at f. first_next _ _ _ _ _ _ _ _ c.loop-i-test.true ((let the_seen : grant_read (IsGrant c.in-IsGrant.fields c.in-IsGrant.next) ≡ grant_at c.args.child.now c.loop-i.here = sym (ap grant_read c.in-IsGrant.is) ∙ c.read_grant.ensures in the_seen))
+      (sym c.in_default-found.is ∙ c.escape_near-found.ensures count at f) ∙ c.loop-i.invariant.1 count at f,
+)
 
 pub returns : goal.returns
 returns c = λ count at f. first_done _ _ _ _ _ _ _ _ c.loop-i-test.false ∙ c.loop-i.invariant.1 count at f

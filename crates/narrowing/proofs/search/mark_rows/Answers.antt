@@ -1,7 +1,6 @@
 -- `mark_rows` meets its contract. The invariant: the rows so far are marked, but for those that add no mode. The measure: the rows left.
 use mathlib.Core.Path.{◌≡◌, sym, ◌∙◌}
-use mathlib.Core.Logic.{⊎_elim}
-use Prim.Native.Nat.{◌+◌, ◌*◌, ◌-◌, ◌<◌}
+use Prim.Native.Nat.{◌+◌, ◌*◌, ◌<◌}
 use native.Mathlib.Omega.{arith}
 use lib.ListN.{length}
 use Rattle.narrowing.proofs.MarkingLaws.{marking_begin, marking_met, marking_skip, marking_next, marking_covered}
@@ -43,15 +42,14 @@ returns-then-done-mask c =
     }
 
 pub loop-i-preserved : goal.loop-i-preserved
-loop-i-preserved c =
-    (
-      omega (arith, c.loop-i-test.true),
-      elim c.if-modes-mask.branch [
-        then-modes-mask+else-done-mask w ↦ marking_met _ _ _ _ _ _ _ _ _
-            (marking_next _ _ _ _ _ _ _ _ _ c.loop-i.invariant.1 _ _ w.mark_row-done.ensures.marks w.mark_row-done.ensures.modes) _ _ w.d-is w.done-is
-      | else-modes-mask w ↦ marking_met _ _ _ _ _ _ _ _ _ (marking_skip _ _ _ _ _ _ _ _ _ c.loop-i.invariant.1 w.if-modes-mask.false) _ _ w.d-is w.done-is
-      ],
-    )
+loop-i-preserved c = (
+  omega (arith, c.loop-i-test.true),
+  elim c.if-modes-mask.branch [
+    | then-modes-mask+else-done-mask w ↦ marking_met _ _ _ _ _ _ _ _ _
+        (marking_next _ _ _ _ _ _ _ _ _ c.loop-i.invariant.1 _ _ w.mark_row-done.ensures.marks w.mark_row-done.ensures.modes) _ _ w.d-is w.done-is
+    | else-modes-mask w ↦ marking_met _ _ _ _ _ _ _ _ _ (marking_skip _ _ _ _ _ _ _ _ _ c.loop-i.invariant.1 w.if-modes-mask.false) _ _ w.d-is w.done-is
+  ],
+)
 
 pub shape_of-d : goal.shape_of-d
 shape_of-d c = c.loop-i.invariant.1.size ∙ sym c.loop-i.invariant.1.whole

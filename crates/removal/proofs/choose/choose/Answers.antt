@@ -1,6 +1,6 @@
 -- `choose` meets its contract. The invariant: choosing from here comes to the same as choosing from the beginning.
 use mathlib.Core.Path.{refl, sym, ◌∙◌}
-use Prim.Native.Nat.{◌-◌, ◌<◌}
+use Prim.Native.Nat.{◌<◌}
 use native.Mathlib.Omega.{arith}
 use lib.ListN.{length, length-set}
 use Rattle.image_spec.specs.Choose.{ask_at}

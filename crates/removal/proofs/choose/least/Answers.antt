@@ -1,6 +1,5 @@
 -- `least` meets its contract. The invariant: the least of the rows that are left and of the one found so far is the least of all.
 use mathlib.Core.Path.{refl, sym, ◌∙◌}
-use Prim.Native.Nat.{◌-◌}
 use native.Mathlib.Omega.{arith}
 use Rattle.removal.proofs.ChooseCode.{least_next, least_end}
 use Rattle.removal.proofs.choose.least.Goals as goal

@@ -1,6 +1,5 @@
 -- `mark_all` meets its contract. The invariant: the marks so far and those of the rows that are left are the marks of all rows.
 use mathlib.Core.Path.{refl, sym, ◌∙◌}
-use Prim.Native.Nat.{◌-◌}
 use native.Mathlib.Omega.{arith}
 use lib.ListN.{length, length-set}
 use Rattle.removal.proofs.ChooseCode.{marks_begin, marks_next, marks_end}

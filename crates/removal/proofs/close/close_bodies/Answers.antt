@@ -1,7 +1,6 @@
 -- `close_bodies` meets its contract. The invariant: closing up what is left comes to the same as closing up all. The measure is the number
 -- of bodies that are left.
 use mathlib.Core.Path.{refl, sym, ◌∙◌}
-use Prim.Native.Nat.{◌-◌}
 use native.Mathlib.Omega.{arith}
 use Rattle.removal.proofs.CloseCode.{body_moved_length, bodies_begin, bodies_next, bodies_end}
 use Rattle.removal.proofs.close.close_bodies.Goals as goal

@@ -1,7 +1,6 @@
 -- `close_rows` meets its contract. The invariant: closing up what is left comes to the same as closing up all. The measure is the number of
 -- rows that are left.
 use mathlib.Core.Path.{refl, sym, ◌∙◌}
-use Prim.Native.Nat.{◌-◌}
 use native.Mathlib.Omega.{arith}
 use lib.ListN.{get_or}
 use Rattle.image_spec.specs.Close.{stays}

@@ -1,6 +1,5 @@
 -- `same16` meets its contract. The invariant: the flag says it of the first i bytes. The measure: what is left.
 use mathlib.Core.Path.{◌≡◌, sym, ◌∙◌}
-use Prim.Native.Nat.{◌-◌}
 use native.Mathlib.Omega.{arith}
 use Rattle.resource.specs.Code.{same_at}
 use Rattle.resource.proofs.EachCode.{each_none, byte_next}

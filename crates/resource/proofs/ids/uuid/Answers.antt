@@ -1,5 +1,4 @@
 -- `uuid` meets its contract. The invariant: the flag and the places from i on decide. The measure: what is left.
-use Prim.Native.Nat.{◌-◌}
 use native.Mathlib.Omega.{arith}
 use Rattle.resource.proofs.FormCode.{form_first, form_next, form_none}
 use Rattle.resource.proofs.ids.uuid.Goals as goal

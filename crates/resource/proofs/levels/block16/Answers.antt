@@ -1,6 +1,5 @@
 -- `block16` meets its contract. The invariant: the flag says it of the first i pairs. The measure: what is left.
 use mathlib.Core.Path.{◌≡◌, sym, ◌∙◌}
-use Prim.Native.Nat.{◌-◌}
 use native.Mathlib.Omega.{arith}
 use Rattle.resource.specs.Code.{may_follow_at}
 use Rattle.resource.proofs.EachCode.{each_none}

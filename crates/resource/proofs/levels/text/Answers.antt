@@ -1,7 +1,6 @@
 -- `text` meets its contract.
 use mathlib.Core.Path.{sym, ◌∙◌}
 use native.Mathlib.Omega.{arith}
-use borrow.Author.Tests.{not-false}
 use Rattle.resource.proofs.TextCode.{below_says, text_not, text_form}
 use Rattle.resource.proofs.levels.text.Goals as goal
 

@@ -1,6 +1,6 @@
 -- `levels_at` meets its contract. It calls itself on the remaining levels, whose count falls.
-use mathlib.Core.Path.{sym, subst, ◌∙◌}
-use Prim.Native.Nat.{ℕ, ◌≤◌}
+use mathlib.Core.Path.{subst, ◌∙◌}
+use Prim.Native.Nat.{◌≤◌}
 use native.Mathlib.Omega.{arith}
 use lib.ListN.{length}
 use Rattle.resource.specs.Code.{up_to}

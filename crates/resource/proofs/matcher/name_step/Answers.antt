@@ -1,6 +1,5 @@
 -- `name_step` meets its contract. The invariant: what is left from i on decides. The measure: what is left.
 use mathlib.Core.Path.{refl, sym, ◌∙◌}
-use Prim.Native.Nat.{◌-◌}
 use native.Mathlib.Omega.{arith}
 use Rattle.resource.proofs.FirstLevelLaws.{name_next, name_slash, name_differ, name_short, name_long, name_end}
 use Rattle.resource.proofs.matcher.name_step.Goals as goal

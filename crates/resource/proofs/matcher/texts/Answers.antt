@@ -3,7 +3,6 @@ use mathlib.Core.Path.{◌≡◌, sym, ◌∙◌}
 use mathlib.Core.Bool.{true}
 use native.Mathlib.Omega.{arith}
 use lib.ListN.{take}
-use borrow.Author.Tests.{not-true, not-false}
 use Rattle.resource_spec.specs.Identifier.{terminal_size, levels_place}
 use Rattle.octets.specs.Bytes.{same}
 use Rattle.octets.proofs.PartLaws.{part_no_longer}

@@ -5,7 +5,6 @@ use mathlib.Core.List.{List}
 use Prim.Native.Nat.{ℕ, ◌≤◌}
 use native.Mathlib.Omega.{arith}
 use lib.ListN.{length}
-use lib.Dec.{eqb}
 use borrow.Author.Tests.{eq-eqb, ne_eqb}
 use Rattle.octets.specs.Number.{number_at, number_in}
 use Rattle.octets.proofs.NumberLaws.{number_in_lem}
@@ -22,7 +21,7 @@ use Rattle.image_spec.proofs.FindLaws.{editions_checked}
 -- `NamedOk`
 pub named_ok : (s : List ℕ) → LayoutOk (layout_of s)
 unfolding layout_of
-named_ok s = by_cond LayoutOk (eqb (number_in s edition_place header_width) edition2.edition) (λ e. edition2_ok) (λ e. edition1_ok)
+named_ok s = by_cond LayoutOk _ (λ e. edition2_ok) (λ e. edition1_ok)
 
 -- a buffer that holds rows in an edition has its number in the header
 edition_in : (l : Layout) → LayoutOk l → (s : List ℕ) (rs : List Row) → Holds l s rs → number_in s edition_place header_width ≡ l.edition
@@ -47,7 +46,7 @@ names_2 s rs h = rw (eq-eqb (number_in s edition_place header_width) 2 (edition_
 named_either : (s : List ℕ) → (layout_of s ≡ edition1) ⊎ (layout_of s ≡ edition2)
 unfolding layout_of
 named_either s =
-    by_cond (λ (l : Layout). (l ≡ edition1) ⊎ (l ≡ edition2)) (eqb (number_in s edition_place header_width) edition2.edition)
+    by_cond (λ (l : Layout). (l ≡ edition1) ⊎ (l ≡ edition2)) _
     (λ e. inr refl) (λ e. inl refl)
 
 -- bytes whose image edition is neither 1 nor 2 do not have the edition that is named

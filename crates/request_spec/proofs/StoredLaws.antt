@@ -3,7 +3,7 @@ use mathlib.Core.Path.{◌≡◌, refl, sym, ap, ◌∙◌, subst}
 use mathlib.Core.Logic.{◌⊎◌, inl, inr, ⊎_elim}
 use mathlib.Core.Bool.{Bool, true, false, false≢true}
 use mathlib.Core.List.{List}
-use mathlib.Core.Option.{none, some}
+use mathlib.Core.Option.{some}
 use Prim.Native.Nat.{ℕ, ◌^◌, ◌≤◌, ◌<◌}
 use native.Mathlib.Omega.{arith}
 use lib.Dec.{eqb}
@@ -22,7 +22,7 @@ use Rattle.image_spec.specs.Check.{layout_of}
 use Rattle.image_spec.specs.Choose.{end_in, end_of}
 use Rattle.image_spec.specs.Readable.{Holds}
 use Rattle.image_spec.specs.Edition2 as edition2
-use Rattle.image_spec.specs.Laws.{HeldBody, HeldIs}
+use Rattle.image_spec.specs.Laws.{HeldIs}
 use Rattle.image_spec.proofs.Laws.{named_ok, check_tells, body_read, encoding_read}
 use Rattle.image_spec.proofs.Promises.{rows_once, not_in_both, readable_exactly}
 use Rattle.submission_spec.specs.Submission.{submitted, after_of, number_of}

@@ -3,13 +3,13 @@ use mathlib.Core.Path.{◌≡◌, refl, sym, ap, ap₂, ◌∙◌, subst}
 use mathlib.Core.Logic.{◌↔◌}
 use mathlib.Core.Bool.{Bool, true, cond, ◌&&◌, false≢true}
 use mathlib.Core.List.{List, [], ◌∷◌, ◌++◌}
-use Prim.Native.Nat.{ℕ, ◌+◌, ◌-◌}
+use Prim.Native.Nat.{ℕ, ◌-◌}
 use native.Mathlib.Omega.{arith}
 use lib.ListN.{length, drop}
 use lib.Seq.{drop_at}
 use lib.Dec.{leb, eqb}
 use borrow.Author.Tests.{eqb-true}
-use Rattle.octets.specs.Bytes.{AreBytes, part}
+use Rattle.octets.specs.Bytes.{AreBytes}
 use Rattle.octets.proofs.Tests.{by_cond, and_left, and_right, and_both, no_flag}
 use Rattle.octets.proofs.PartLaws.{part_later, part_bytes}
 use Rattle.resource_spec.specs.Characters.{codes}
@@ -32,7 +32,7 @@ use Rattle.descriptor_spec.specs.Numbers.{number_of}
 use Rattle.descriptor_spec.proofs.Laws.{formed_exactly, read_by_period, seen_handed}
 use Rattle.image_spec.specs.Image.{reading, is_read}
 use Rattle.submission_spec.specs.Submission.{fay_text, terminal_text, ids_in, entering_by, entering}
-use Rattle.submission_spec.specs.Promises.{Version7After, AreVersion7, version7_ids, IdsExactly}
+use Rattle.submission_spec.specs.Promises.{Version7After, version7_ids, IdsExactly}
 
 -- ---- a prefix and a UUID text
 

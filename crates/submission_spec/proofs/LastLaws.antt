@@ -3,12 +3,12 @@
 use mathlib.Core.Path.{◌≡◌, refl, sym, ap, ◌∙◌, subst}
 use mathlib.Core.Logic.{◌⊎◌, inl, inr, ⊎_elim}
 use mathlib.Core.Bool.{Bool, true, false, not, ◌&&◌, ◌||◌, false≢true}
-use mathlib.Core.List.{List, [], ◌∷◌, ◌++◌}
+use mathlib.Core.List.{List, [], ◌∷◌}
 use mathlib.Core.Option.{Option, none, some}
 use Prim.Native.Nat.{ℕ, ◌+◌, ◌-◌, ◌≤◌, ◌<◌}
 use native.Mathlib.Omega.{arith}
-use lib.ListN.{length, drop, length-append}
-use lib.Dec.{leb, ltb}
+use lib.ListN.{length, length-append}
+use lib.Dec.{leb}
 use borrow.Author.Tests.{lt-ltb, le-ltb, le-leb, lt-leb}
 use Rattle.octets.specs.Bytes.{part, same}
 use Rattle.descriptor_spec.specs.Model.{Descriptor, encode}
@@ -20,7 +20,7 @@ use Rattle.steps.proofs.Laws.{passed_end, all_pass_lem, failed_by}
 use Rattle.image_spec.specs.declared.StoredNumbers.{StoredNumbers}
 use Rattle.descriptor_spec.specs.Allowed.{id_size}
 use Rattle.image_spec.specs.Layout.{edition2}
-use Rattle.image_spec.specs.Image.{Row, row_of, reading, id_of, body_with}
+use Rattle.image_spec.specs.Image.{Row, reading, id_of, body_with}
 use Rattle.image_spec.specs.Choose.{end_in, end_of, is_expired, unexpired, staying_of}
 use Rattle.image_spec.specs.Close.{keep}
 use Rattle.image_spec.specs.Removal.{left, Removal}

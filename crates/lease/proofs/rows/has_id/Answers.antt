@@ -1,6 +1,5 @@
 -- `has_id` meets its contract. The rows from row i on have the id exactly when all do; the measure is the number of rows that are left.
 use mathlib.Core.Path.{refl, sym, ◌∙◌}
-use Prim.Native.Nat.{◌-◌}
 use native.Mathlib.Omega.{arith}
 use Rattle.lease.proofs.RowCode.{id_hit, id_next, id_none}
 use Rattle.lease.proofs.rows.has_id.Goals as goal

@@ -2,7 +2,6 @@
 -- grants left. The inner one: the levels left match as all do, the names counted are those of the levels before, and both are no longer
 -- than the bytes and the resource; its measure: the bytes left of the pattern.
 use mathlib.Core.Path.{◌≡◌, refl, sym, ap, subst, ◌∙◌}
-use mathlib.Core.Bool.{true}
 use Prim.Native.Nat.{◌+◌, ◌-◌, ◌^◌, ◌≤◌, ◌<◌}
 use native.Mathlib.Nat.{zero-add}
 use native.Mathlib.Omega.{arith}
@@ -33,45 +32,73 @@ returns-in_default c =
     sym (c.read_known_grant.ensures w.0 w.1 w.2) ∙ w.2 in the_read_before)))
 
 pub overflow_add-p : goal.overflow_add-p
-overflow_add-p c = omega (arith, ((let the_inside : (levels_place ≤ c.in-IsGrant.fields.len) × (c.in-IsGrant.fields.pattern + c.in-IsGrant.fields.len ≤ length c.args.s.now) = pattern_room _ _ _ _ ((let the_seen : grant_read (IsGrant c.in-IsGrant.fields c.in-IsGrant.next) ≡ grant_at c.args.s.now c.loop-i.at = sym (ap grant_read c.in-IsGrant.is) ∙ (let the_read_before : grant_read c.read_known_grant.result ≡ grant_at c.args.s.now c.loop-i.at = let a = c.args in
-    let w = first_reads a.s.now (a.count - c.loop-i.i) c.loop-i.at (omega (arith, c.loop-i-test.true)) c.loop-i.invariant.2 in
-    sym (c.read_known_grant.ensures w.0 w.1 w.2) ∙ w.2 in the_read_before) in the_seen)) in the_inside)).0, ((let the_inside : (levels_place ≤ c.in-IsGrant.fields.len) × (c.in-IsGrant.fields.pattern + c.in-IsGrant.fields.len ≤ length c.args.s.now) = pattern_room _ _ _ _ ((let the_seen : grant_read (IsGrant c.in-IsGrant.fields c.in-IsGrant.next) ≡ grant_at c.args.s.now c.loop-i.at = sym (ap grant_read c.in-IsGrant.is) ∙ (let the_read_before : grant_read c.read_known_grant.result ≡ grant_at c.args.s.now c.loop-i.at = let a = c.args in
-    let w = first_reads a.s.now (a.count - c.loop-i.i) c.loop-i.at (omega (arith, c.loop-i-test.true)) c.loop-i.invariant.2 in
-    sym (c.read_known_grant.ensures w.0 w.1 w.2) ∙ w.2 in the_read_before) in the_seen)) in the_inside)).1)
+overflow_add-p c = omega (
+  arith,
+  ((let the_inside : (levels_place ≤ c.in-IsGrant.fields.len) × (c.in-IsGrant.fields.pattern + c.in-IsGrant.fields.len ≤ length c.args.s.now) = pattern_room _ _ _ _ ((let the_seen : grant_read (IsGrant c.in-IsGrant.fields c.in-IsGrant.next) ≡ grant_at c.args.s.now c.loop-i.at = sym (ap grant_read c.in-IsGrant.is) ∙ (let the_read_before : grant_read c.read_known_grant.result ≡ grant_at c.args.s.now c.loop-i.at = let a = c.args in
+      let w = first_reads a.s.now (a.count - c.loop-i.i) c.loop-i.at (omega (arith, c.loop-i-test.true)) c.loop-i.invariant.2 in
+      sym (c.read_known_grant.ensures w.0 w.1 w.2) ∙ w.2 in the_read_before) in the_seen)) in the_inside)).0,
+  ((let the_inside : (levels_place ≤ c.in-IsGrant.fields.len) × (c.in-IsGrant.fields.pattern + c.in-IsGrant.fields.len ≤ length c.args.s.now) = pattern_room _ _ _ _ ((let the_seen : grant_read (IsGrant c.in-IsGrant.fields c.in-IsGrant.next) ≡ grant_at c.args.s.now c.loop-i.at = sym (ap grant_read c.in-IsGrant.is) ∙ (let the_read_before : grant_read c.read_known_grant.result ≡ grant_at c.args.s.now c.loop-i.at = let a = c.args in
+      let w = first_reads a.s.now (a.count - c.loop-i.i) c.loop-i.at (omega (arith, c.loop-i-test.true)) c.loop-i.invariant.2 in
+      sym (c.read_known_grant.ensures w.0 w.1 w.2) ∙ w.2 in the_read_before) in the_seen)) in the_inside)).1,
+)
 
 pub overflow_add-p-then-is_eligible : goal.overflow_add-p-then-is_eligible
-overflow_add-p-then-is_eligible c = omega (arith, ((let the_inside : (levels_place ≤ c.in-IsGrant.fields.len) × (c.in-IsGrant.fields.pattern + c.in-IsGrant.fields.len ≤ length c.args.s.now) = pattern_room _ _ _ _ ((let the_seen : grant_read (IsGrant c.in-IsGrant.fields c.in-IsGrant.next) ≡ grant_at c.args.s.now c.loop-i.at = sym (ap grant_read c.in-IsGrant.is) ∙ (let the_read_before : grant_read c.read_known_grant.result ≡ grant_at c.args.s.now c.loop-i.at = let a = c.args in
-    let w = first_reads a.s.now (a.count - c.loop-i.i) c.loop-i.at (omega (arith, c.loop-i-test.true)) c.loop-i.invariant.2 in
-    sym (c.read_known_grant.ensures w.0 w.1 w.2) ∙ w.2 in the_read_before) in the_seen)) in the_inside)).1)
+overflow_add-p-then-is_eligible c = omega (
+  arith,
+  ((let the_inside : (levels_place ≤ c.in-IsGrant.fields.len) × (c.in-IsGrant.fields.pattern + c.in-IsGrant.fields.len ≤ length c.args.s.now) = pattern_room _ _ _ _ ((let the_seen : grant_read (IsGrant c.in-IsGrant.fields c.in-IsGrant.next) ≡ grant_at c.args.s.now c.loop-i.at = sym (ap grant_read c.in-IsGrant.is) ∙ (let the_read_before : grant_read c.read_known_grant.result ≡ grant_at c.args.s.now c.loop-i.at = let a = c.args in
+      let w = first_reads a.s.now (a.count - c.loop-i.i) c.loop-i.at (omega (arith, c.loop-i-test.true)) c.loop-i.invariant.2 in
+      sym (c.read_known_grant.ensures w.0 w.1 w.2) ∙ w.2 in the_read_before) in the_seen)) in the_inside)).1,
+)
 
 pub slice_bounds-p-count : goal.slice_bounds-p-count
-slice_bounds-p-count c = omega (arith, ((let the_inside : (levels_place ≤ c.in-IsGrant.fields.len) × (c.in-IsGrant.fields.pattern + c.in-IsGrant.fields.len ≤ length c.args.s.now) = pattern_room _ _ _ _ ((let the_seen : grant_read (IsGrant c.in-IsGrant.fields c.in-IsGrant.next) ≡ grant_at c.args.s.now c.loop-i.at = sym (ap grant_read c.in-IsGrant.is) ∙ (let the_read_before : grant_read c.read_known_grant.result ≡ grant_at c.args.s.now c.loop-i.at = let a = c.args in
-    let w = first_reads a.s.now (a.count - c.loop-i.i) c.loop-i.at (omega (arith, c.loop-i-test.true)) c.loop-i.invariant.2 in
-    sym (c.read_known_grant.ensures w.0 w.1 w.2) ∙ w.2 in the_read_before) in the_seen)) in the_inside)).0, ((let the_inside : (levels_place ≤ c.in-IsGrant.fields.len) × (c.in-IsGrant.fields.pattern + c.in-IsGrant.fields.len ≤ length c.args.s.now) = pattern_room _ _ _ _ ((let the_seen : grant_read (IsGrant c.in-IsGrant.fields c.in-IsGrant.next) ≡ grant_at c.args.s.now c.loop-i.at = sym (ap grant_read c.in-IsGrant.is) ∙ (let the_read_before : grant_read c.read_known_grant.result ≡ grant_at c.args.s.now c.loop-i.at = let a = c.args in
-    let w = first_reads a.s.now (a.count - c.loop-i.i) c.loop-i.at (omega (arith, c.loop-i-test.true)) c.loop-i.invariant.2 in
-    sym (c.read_known_grant.ensures w.0 w.1 w.2) ∙ w.2 in the_read_before) in the_seen)) in the_inside)).1)
+slice_bounds-p-count c = omega (
+  arith,
+  ((let the_inside : (levels_place ≤ c.in-IsGrant.fields.len) × (c.in-IsGrant.fields.pattern + c.in-IsGrant.fields.len ≤ length c.args.s.now) = pattern_room _ _ _ _ ((let the_seen : grant_read (IsGrant c.in-IsGrant.fields c.in-IsGrant.next) ≡ grant_at c.args.s.now c.loop-i.at = sym (ap grant_read c.in-IsGrant.is) ∙ (let the_read_before : grant_read c.read_known_grant.result ≡ grant_at c.args.s.now c.loop-i.at = let a = c.args in
+      let w = first_reads a.s.now (a.count - c.loop-i.i) c.loop-i.at (omega (arith, c.loop-i-test.true)) c.loop-i.invariant.2 in
+      sym (c.read_known_grant.ensures w.0 w.1 w.2) ∙ w.2 in the_read_before) in the_seen)) in the_inside)).0,
+  ((let the_inside : (levels_place ≤ c.in-IsGrant.fields.len) × (c.in-IsGrant.fields.pattern + c.in-IsGrant.fields.len ≤ length c.args.s.now) = pattern_room _ _ _ _ ((let the_seen : grant_read (IsGrant c.in-IsGrant.fields c.in-IsGrant.next) ≡ grant_at c.args.s.now c.loop-i.at = sym (ap grant_read c.in-IsGrant.is) ∙ (let the_read_before : grant_read c.read_known_grant.result ≡ grant_at c.args.s.now c.loop-i.at = let a = c.args in
+      let w = first_reads a.s.now (a.count - c.loop-i.i) c.loop-i.at (omega (arith, c.loop-i-test.true)) c.loop-i.invariant.2 in
+      sym (c.read_known_grant.ensures w.0 w.1 w.2) ∙ w.2 in the_read_before) in the_seen)) in the_inside)).1,
+)
 
 pub slice_bounds-p-start : goal.slice_bounds-p-start
-slice_bounds-p-start c = omega (arith, ((let the_inside : (levels_place ≤ c.in-IsGrant.fields.len) × (c.in-IsGrant.fields.pattern + c.in-IsGrant.fields.len ≤ length c.args.s.now) = pattern_room _ _ _ _ ((let the_seen : grant_read (IsGrant c.in-IsGrant.fields c.in-IsGrant.next) ≡ grant_at c.args.s.now c.loop-i.at = sym (ap grant_read c.in-IsGrant.is) ∙ (let the_read_before : grant_read c.read_known_grant.result ≡ grant_at c.args.s.now c.loop-i.at = let a = c.args in
-    let w = first_reads a.s.now (a.count - c.loop-i.i) c.loop-i.at (omega (arith, c.loop-i-test.true)) c.loop-i.invariant.2 in
-    sym (c.read_known_grant.ensures w.0 w.1 w.2) ∙ w.2 in the_read_before) in the_seen)) in the_inside)).0, ((let the_inside : (levels_place ≤ c.in-IsGrant.fields.len) × (c.in-IsGrant.fields.pattern + c.in-IsGrant.fields.len ≤ length c.args.s.now) = pattern_room _ _ _ _ ((let the_seen : grant_read (IsGrant c.in-IsGrant.fields c.in-IsGrant.next) ≡ grant_at c.args.s.now c.loop-i.at = sym (ap grant_read c.in-IsGrant.is) ∙ (let the_read_before : grant_read c.read_known_grant.result ≡ grant_at c.args.s.now c.loop-i.at = let a = c.args in
-    let w = first_reads a.s.now (a.count - c.loop-i.i) c.loop-i.at (omega (arith, c.loop-i-test.true)) c.loop-i.invariant.2 in
-    sym (c.read_known_grant.ensures w.0 w.1 w.2) ∙ w.2 in the_read_before) in the_seen)) in the_inside)).1)
+slice_bounds-p-start c = omega (
+  arith,
+  ((let the_inside : (levels_place ≤ c.in-IsGrant.fields.len) × (c.in-IsGrant.fields.pattern + c.in-IsGrant.fields.len ≤ length c.args.s.now) = pattern_room _ _ _ _ ((let the_seen : grant_read (IsGrant c.in-IsGrant.fields c.in-IsGrant.next) ≡ grant_at c.args.s.now c.loop-i.at = sym (ap grant_read c.in-IsGrant.is) ∙ (let the_read_before : grant_read c.read_known_grant.result ≡ grant_at c.args.s.now c.loop-i.at = let a = c.args in
+      let w = first_reads a.s.now (a.count - c.loop-i.i) c.loop-i.at (omega (arith, c.loop-i-test.true)) c.loop-i.invariant.2 in
+      sym (c.read_known_grant.ensures w.0 w.1 w.2) ∙ w.2 in the_read_before) in the_seen)) in the_inside)).0,
+  ((let the_inside : (levels_place ≤ c.in-IsGrant.fields.len) × (c.in-IsGrant.fields.pattern + c.in-IsGrant.fields.len ≤ length c.args.s.now) = pattern_room _ _ _ _ ((let the_seen : grant_read (IsGrant c.in-IsGrant.fields c.in-IsGrant.next) ≡ grant_at c.args.s.now c.loop-i.at = sym (ap grant_read c.in-IsGrant.is) ∙ (let the_read_before : grant_read c.read_known_grant.result ≡ grant_at c.args.s.now c.loop-i.at = let a = c.args in
+      let w = first_reads a.s.now (a.count - c.loop-i.i) c.loop-i.at (omega (arith, c.loop-i-test.true)) c.loop-i.invariant.2 in
+      sym (c.read_known_grant.ensures w.0 w.1 w.2) ∙ w.2 in the_read_before) in the_seen)) in the_inside)).1,
+)
 
 pub slice_bounds-p-end : goal.slice_bounds-p-end
-slice_bounds-p-end c = omega (arith, ((let the_inside : (levels_place ≤ c.in-IsGrant.fields.len) × (c.in-IsGrant.fields.pattern + c.in-IsGrant.fields.len ≤ length c.args.s.now) = pattern_room _ _ _ _ ((let the_seen : grant_read (IsGrant c.in-IsGrant.fields c.in-IsGrant.next) ≡ grant_at c.args.s.now c.loop-i.at = sym (ap grant_read c.in-IsGrant.is) ∙ (let the_read_before : grant_read c.read_known_grant.result ≡ grant_at c.args.s.now c.loop-i.at = let a = c.args in
-    let w = first_reads a.s.now (a.count - c.loop-i.i) c.loop-i.at (omega (arith, c.loop-i-test.true)) c.loop-i.invariant.2 in
-    sym (c.read_known_grant.ensures w.0 w.1 w.2) ∙ w.2 in the_read_before) in the_seen)) in the_inside)).0, ((let the_inside : (levels_place ≤ c.in-IsGrant.fields.len) × (c.in-IsGrant.fields.pattern + c.in-IsGrant.fields.len ≤ length c.args.s.now) = pattern_room _ _ _ _ ((let the_seen : grant_read (IsGrant c.in-IsGrant.fields c.in-IsGrant.next) ≡ grant_at c.args.s.now c.loop-i.at = sym (ap grant_read c.in-IsGrant.is) ∙ (let the_read_before : grant_read c.read_known_grant.result ≡ grant_at c.args.s.now c.loop-i.at = let a = c.args in
-    let w = first_reads a.s.now (a.count - c.loop-i.i) c.loop-i.at (omega (arith, c.loop-i-test.true)) c.loop-i.invariant.2 in
-    sym (c.read_known_grant.ensures w.0 w.1 w.2) ∙ w.2 in the_read_before) in the_seen)) in the_inside)).1)
+slice_bounds-p-end c = omega (
+  arith,
+  ((let the_inside : (levels_place ≤ c.in-IsGrant.fields.len) × (c.in-IsGrant.fields.pattern + c.in-IsGrant.fields.len ≤ length c.args.s.now) = pattern_room _ _ _ _ ((let the_seen : grant_read (IsGrant c.in-IsGrant.fields c.in-IsGrant.next) ≡ grant_at c.args.s.now c.loop-i.at = sym (ap grant_read c.in-IsGrant.is) ∙ (let the_read_before : grant_read c.read_known_grant.result ≡ grant_at c.args.s.now c.loop-i.at = let a = c.args in
+      let w = first_reads a.s.now (a.count - c.loop-i.i) c.loop-i.at (omega (arith, c.loop-i-test.true)) c.loop-i.invariant.2 in
+      sym (c.read_known_grant.ensures w.0 w.1 w.2) ∙ w.2 in the_read_before) in the_seen)) in the_inside)).0,
+  ((let the_inside : (levels_place ≤ c.in-IsGrant.fields.len) × (c.in-IsGrant.fields.pattern + c.in-IsGrant.fields.len ≤ length c.args.s.now) = pattern_room _ _ _ _ ((let the_seen : grant_read (IsGrant c.in-IsGrant.fields c.in-IsGrant.next) ≡ grant_at c.args.s.now c.loop-i.at = sym (ap grant_read c.in-IsGrant.is) ∙ (let the_read_before : grant_read c.read_known_grant.result ≡ grant_at c.args.s.now c.loop-i.at = let a = c.args in
+      let w = first_reads a.s.now (a.count - c.loop-i.i) c.loop-i.at (omega (arith, c.loop-i-test.true)) c.loop-i.invariant.2 in
+      sym (c.read_known_grant.ensures w.0 w.1 w.2) ∙ w.2 in the_read_before) in the_seen)) in the_inside)).1,
+)
 
 pub levels-init : goal.levels-init
-levels-init c =
-    (omega arith, c.requires.1, refl, sym (zero-add _), omega (arith, ((let the_inside : (levels_place ≤ c.in-IsGrant.fields.len) × (c.in-IsGrant.fields.pattern + c.in-IsGrant.fields.len ≤ length c.args.s.now) = pattern_room _ _ _ _ ((let the_seen : grant_read (IsGrant c.in-IsGrant.fields c.in-IsGrant.next) ≡ grant_at c.args.s.now c.loop-i.at = sym (ap grant_read c.in-IsGrant.is) ∙ (let the_read_before : grant_read c.read_known_grant.result ≡ grant_at c.args.s.now c.loop-i.at = let a = c.args in
-    let w = first_reads a.s.now (a.count - c.loop-i.i) c.loop-i.at (omega (arith, c.loop-i-test.true)) c.loop-i.invariant.2 in
-    sym (c.read_known_grant.ensures w.0 w.1 w.2) ∙ w.2 in the_read_before) in the_seen)) in the_inside)).0, ((let the_inside : (levels_place ≤ c.in-IsGrant.fields.len) × (c.in-IsGrant.fields.pattern + c.in-IsGrant.fields.len ≤ length c.args.s.now) = pattern_room _ _ _ _ ((let the_seen : grant_read (IsGrant c.in-IsGrant.fields c.in-IsGrant.next) ≡ grant_at c.args.s.now c.loop-i.at = sym (ap grant_read c.in-IsGrant.is) ∙ (let the_read_before : grant_read c.read_known_grant.result ≡ grant_at c.args.s.now c.loop-i.at = let a = c.args in
-    let w = first_reads a.s.now (a.count - c.loop-i.i) c.loop-i.at (omega (arith, c.loop-i-test.true)) c.loop-i.invariant.2 in
-    sym (c.read_known_grant.ensures w.0 w.1 w.2) ∙ w.2 in the_read_before) in the_seen)) in the_inside)).1))
+levels-init c = (
+  omega arith,
+  c.requires.1,
+  refl,
+  sym (zero-add _),
+  omega (
+    arith,
+    ((let the_inside : (levels_place ≤ c.in-IsGrant.fields.len) × (c.in-IsGrant.fields.pattern + c.in-IsGrant.fields.len ≤ length c.args.s.now) = pattern_room _ _ _ _ ((let the_seen : grant_read (IsGrant c.in-IsGrant.fields c.in-IsGrant.next) ≡ grant_at c.args.s.now c.loop-i.at = sym (ap grant_read c.in-IsGrant.is) ∙ (let the_read_before : grant_read c.read_known_grant.result ≡ grant_at c.args.s.now c.loop-i.at = let a = c.args in
+        let w = first_reads a.s.now (a.count - c.loop-i.i) c.loop-i.at (omega (arith, c.loop-i-test.true)) c.loop-i.invariant.2 in
+        sym (c.read_known_grant.ensures w.0 w.1 w.2) ∙ w.2 in the_read_before) in the_seen)) in the_inside)).0,
+    ((let the_inside : (levels_place ≤ c.in-IsGrant.fields.len) × (c.in-IsGrant.fields.pattern + c.in-IsGrant.fields.len ≤ length c.args.s.now) = pattern_room _ _ _ _ ((let the_seen : grant_read (IsGrant c.in-IsGrant.fields c.in-IsGrant.next) ≡ grant_at c.args.s.now c.loop-i.at = sym (ap grant_read c.in-IsGrant.is) ∙ (let the_read_before : grant_read c.read_known_grant.result ≡ grant_at c.args.s.now c.loop-i.at = let a = c.args in
+        let w = first_reads a.s.now (a.count - c.loop-i.i) c.loop-i.at (omega (arith, c.loop-i-test.true)) c.loop-i.invariant.2 in
+        sym (c.read_known_grant.ensures w.0 w.1 w.2) ∙ w.2 in the_read_before) in the_seen)) in the_inside)).1,
+  ),
+)
 
 pub overflow_add-found : goal.overflow_add-found
 overflow_add-found c =
@@ -81,34 +108,61 @@ overflow_add-found c =
 
 pub overflow_add-p-in-Next : goal.overflow_add-p-in-Next
 overflow_add-p-in-Next c =
-    omega (arith, ((let the_goes : let l = c.levels in Goes l.p.now l.q.now c.in-Next.a c.in-Next.b c.in-Next.names = (let l = c.levels in
-    subst (Stepped l.p.now l.q.now) (sym c.match_step.ensures ∙ c.in-Next.is) (step_decides l.p.now l.q.now l.invariant.1)) in the_goes)).in_p, (let the_room : c.levels.k + length c.levels.p.now + levels_place ≤ length c.args.s.now = c.levels.invariant.4 in the_room), ((let the_small : (length c.args.s.now < 2 ^ 64) × (length c.args.r.now < 2 ^ 64) = (omega arith, omega arith) in the_small)).0)
+    omega (
+      arith,
+      ((let the_goes : let l = c.levels in Goes l.p.now l.q.now c.in-Next.a c.in-Next.b c.in-Next.names = (let l = c.levels in
+          subst (Stepped l.p.now l.q.now) (sym c.match_step.ensures ∙ c.in-Next.is) (step_decides l.p.now l.q.now l.invariant.1)) in the_goes)).in_p,
+      (let the_room : c.levels.k + length c.levels.p.now + levels_place ≤ length c.args.s.now = c.levels.invariant.4 in the_room),
+      ((let the_small : (length c.args.s.now < 2 ^ 64) × (length c.args.r.now < 2 ^ 64) = (omega arith, omega arith) in the_small)).0,
+    )
 
 pub slice_bounds-p-count-in-Next : goal.slice_bounds-p-count-in-Next
-slice_bounds-p-count-in-Next c = omega (arith, ((let the_goes : let l = c.levels in Goes l.p.now l.q.now c.in-Next.a c.in-Next.b c.in-Next.names = (let l = c.levels in
-    subst (Stepped l.p.now l.q.now) (sym c.match_step.ensures ∙ c.in-Next.is) (step_decides l.p.now l.q.now l.invariant.1)) in the_goes)).in_p)
+slice_bounds-p-count-in-Next c = omega (
+  arith,
+  ((let the_goes : let l = c.levels in Goes l.p.now l.q.now c.in-Next.a c.in-Next.b c.in-Next.names = (let l = c.levels in
+      subst (Stepped l.p.now l.q.now) (sym c.match_step.ensures ∙ c.in-Next.is) (step_decides l.p.now l.q.now l.invariant.1)) in the_goes)).in_p,
+)
 
 pub slice_bounds-p-start-in-Next : goal.slice_bounds-p-start-in-Next
-slice_bounds-p-start-in-Next c = omega (arith, ((let the_goes : let l = c.levels in Goes l.p.now l.q.now c.in-Next.a c.in-Next.b c.in-Next.names = (let l = c.levels in
-    subst (Stepped l.p.now l.q.now) (sym c.match_step.ensures ∙ c.in-Next.is) (step_decides l.p.now l.q.now l.invariant.1)) in the_goes)).in_p)
+slice_bounds-p-start-in-Next c = omega (
+  arith,
+  ((let the_goes : let l = c.levels in Goes l.p.now l.q.now c.in-Next.a c.in-Next.b c.in-Next.names = (let l = c.levels in
+      subst (Stepped l.p.now l.q.now) (sym c.match_step.ensures ∙ c.in-Next.is) (step_decides l.p.now l.q.now l.invariant.1)) in the_goes)).in_p,
+)
 
 pub overflow_add-q : goal.overflow_add-q
 overflow_add-q c =
-    omega (arith, ((let the_goes : let l = c.levels in Goes l.p.now l.q.now c.in-Next.a c.in-Next.b c.in-Next.names = (let l = c.levels in
-    subst (Stepped l.p.now l.q.now) (sym c.match_step.ensures ∙ c.in-Next.is) (step_decides l.p.now l.q.now l.invariant.1)) in the_goes)).in_r, c.levels.invariant.0, ((let the_small : (length c.args.s.now < 2 ^ 64) × (length c.args.r.now < 2 ^ 64) = (omega arith, omega arith) in the_small)).1)
+    omega (
+      arith,
+      ((let the_goes : let l = c.levels in Goes l.p.now l.q.now c.in-Next.a c.in-Next.b c.in-Next.names = (let l = c.levels in
+          subst (Stepped l.p.now l.q.now) (sym c.match_step.ensures ∙ c.in-Next.is) (step_decides l.p.now l.q.now l.invariant.1)) in the_goes)).in_r,
+      c.levels.invariant.0,
+      ((let the_small : (length c.args.s.now < 2 ^ 64) × (length c.args.r.now < 2 ^ 64) = (omega arith, omega arith) in the_small)).1,
+    )
 
 pub slice_bounds-q-count : goal.slice_bounds-q-count
-slice_bounds-q-count c = omega (arith, ((let the_goes : let l = c.levels in Goes l.p.now l.q.now c.in-Next.a c.in-Next.b c.in-Next.names = (let l = c.levels in
-    subst (Stepped l.p.now l.q.now) (sym c.match_step.ensures ∙ c.in-Next.is) (step_decides l.p.now l.q.now l.invariant.1)) in the_goes)).in_r)
+slice_bounds-q-count c = omega (
+  arith,
+  ((let the_goes : let l = c.levels in Goes l.p.now l.q.now c.in-Next.a c.in-Next.b c.in-Next.names = (let l = c.levels in
+      subst (Stepped l.p.now l.q.now) (sym c.match_step.ensures ∙ c.in-Next.is) (step_decides l.p.now l.q.now l.invariant.1)) in the_goes)).in_r,
+)
 
 pub slice_bounds-q-start : goal.slice_bounds-q-start
-slice_bounds-q-start c = omega (arith, ((let the_goes : let l = c.levels in Goes l.p.now l.q.now c.in-Next.a c.in-Next.b c.in-Next.names = (let l = c.levels in
-    subst (Stepped l.p.now l.q.now) (sym c.match_step.ensures ∙ c.in-Next.is) (step_decides l.p.now l.q.now l.invariant.1)) in the_goes)).in_r)
+slice_bounds-q-start c = omega (
+  arith,
+  ((let the_goes : let l = c.levels in Goes l.p.now l.q.now c.in-Next.a c.in-Next.b c.in-Next.names = (let l = c.levels in
+      subst (Stepped l.p.now l.q.now) (sym c.match_step.ensures ∙ c.in-Next.is) (step_decides l.p.now l.q.now l.invariant.1)) in the_goes)).in_r,
+)
 
 pub overflow_add-k : goal.overflow_add-k
 overflow_add-k c =
-    omega (arith, ((let the_goes : let l = c.levels in Goes l.p.now l.q.now c.in-Next.a c.in-Next.b c.in-Next.names = (let l = c.levels in
-    subst (Stepped l.p.now l.q.now) (sym c.match_step.ensures ∙ c.in-Next.is) (step_decides l.p.now l.q.now l.invariant.1)) in the_goes)).one, (let the_room : c.levels.k + length c.levels.p.now + levels_place ≤ length c.args.s.now = c.levels.invariant.4 in the_room), ((let the_small : (length c.args.s.now < 2 ^ 64) × (length c.args.r.now < 2 ^ 64) = (omega arith, omega arith) in the_small)).0)
+    omega (
+      arith,
+      ((let the_goes : let l = c.levels in Goes l.p.now l.q.now c.in-Next.a c.in-Next.b c.in-Next.names = (let l = c.levels in
+          subst (Stepped l.p.now l.q.now) (sym c.match_step.ensures ∙ c.in-Next.is) (step_decides l.p.now l.q.now l.invariant.1)) in the_goes)).one,
+      (let the_room : c.levels.k + length c.levels.p.now + levels_place ≤ length c.args.s.now = c.levels.invariant.4 in the_room),
+      ((let the_small : (length c.args.s.now < 2 ^ 64) × (length c.args.r.now < 2 ^ 64) = (omega arith, omega arith) in the_small)).0,
+    )
 
 pub levels-smaller : goal.levels-smaller
 levels-smaller c =
@@ -120,14 +174,23 @@ levels-preserved c =
     let l = c.levels in
     let later = next_same _ _ _ _ _ ((let the_goes : let l = c.levels in Goes l.p.now l.q.now c.in-Next.a c.in-Next.b c.in-Next.names = (let l = c.levels in
     subst (Stepped l.p.now l.q.now) (sym c.match_step.ensures ∙ c.in-Next.is) (step_decides l.p.now l.q.now l.invariant.1)) in the_goes)) l.invariant.1 in (
-      omega (arith, part_shorter l.q.now c.in-Next.b ((let the_goes : let l = c.levels in Goes l.p.now l.q.now c.in-Next.a c.in-Next.b c.in-Next.names = (let l = c.levels in
-    subst (Stepped l.p.now l.q.now) (sym c.match_step.ensures ∙ c.in-Next.is) (step_decides l.p.now l.q.now l.invariant.1)) in the_goes)).in_r, l.invariant.0),
+      omega (
+        arith,
+        part_shorter l.q.now c.in-Next.b ((let the_goes : let l = c.levels in Goes l.p.now l.q.now c.in-Next.a c.in-Next.b c.in-Next.names = (let l = c.levels in
+            subst (Stepped l.p.now l.q.now) (sym c.match_step.ensures ∙ c.in-Next.is) (step_decides l.p.now l.q.now l.invariant.1)) in the_goes)).in_r,
+        l.invariant.0,
+      ),
       later.starless,
       l.invariant.2 ∙ later.decides,
       l.invariant.3 ∙ next_counts l.k _ _ _ later.counts,
-      omega (arith, part_shorter l.p.now c.in-Next.a ((let the_goes : let l = c.levels in Goes l.p.now l.q.now c.in-Next.a c.in-Next.b c.in-Next.names = (let l = c.levels in
-    subst (Stepped l.p.now l.q.now) (sym c.match_step.ensures ∙ c.in-Next.is) (step_decides l.p.now l.q.now l.invariant.1)) in the_goes)).in_p, ((let the_goes : let l = c.levels in Goes l.p.now l.q.now c.in-Next.a c.in-Next.b c.in-Next.names = (let l = c.levels in
-    subst (Stepped l.p.now l.q.now) (sym c.match_step.ensures ∙ c.in-Next.is) (step_decides l.p.now l.q.now l.invariant.1)) in the_goes)).one, (let the_room : c.levels.k + length c.levels.p.now + levels_place ≤ length c.args.s.now = c.levels.invariant.4 in the_room)),
+      omega (
+        arith,
+        part_shorter l.p.now c.in-Next.a ((let the_goes : let l = c.levels in Goes l.p.now l.q.now c.in-Next.a c.in-Next.b c.in-Next.names = (let l = c.levels in
+            subst (Stepped l.p.now l.q.now) (sym c.match_step.ensures ∙ c.in-Next.is) (step_decides l.p.now l.q.now l.invariant.1)) in the_goes)).in_p,
+        ((let the_goes : let l = c.levels in Goes l.p.now l.q.now c.in-Next.a c.in-Next.b c.in-Next.names = (let l = c.levels in
+            subst (Stepped l.p.now l.q.now) (sym c.match_step.ensures ∙ c.in-Next.is) (step_decides l.p.now l.q.now l.invariant.1)) in the_goes)).one,
+        (let the_room : c.levels.k + length c.levels.p.now + levels_place ≤ length c.args.s.now = c.levels.invariant.4 in the_room),
+      ),
     )
 
 pub loop-i-preserved : goal.loop-i-preserved
@@ -142,20 +205,20 @@ loop-i-preserved c =
     let passed : pick_from a.s.now a.r.now a.mode (a.count - c.loop-i.i) c.loop-i.at c.loop-i.i c.loop-i.best
     ≡ pick_from a.s.now a.r.now a.mode (a.count - (c.loop-i.i + 1)) c.in-IsGrant.next (c.loop-i.i + 1) c.if-is_eligible.best
     = elim c.if-is_eligible.branch [
-      then-is_eligible w ↦
-        let l = w.levels in
-        let yields : w.match-match_step.found ≡ found_of (lent_levels a.s.now g.pattern g.len) a.r.now c.loop-i.i g.mask
-        = elim w.match-match_step.branch [
-          in-Differ v ↦ v.found-is
-              ∙ found_none _ _ _ _ (l.invariant.2
-              ∙ subst (Stepped l.p.now l.q.now) (sym w.match_step.ensures ∙ v.in-Differ.is) (step_decides l.p.now l.q.now l.invariant.1))
-        | in-Finish v ↦
-            let e : Stepped l.p.now l.q.now (Finish v.in-Finish.names)
-            = subst (Stepped l.p.now l.q.now) (sym w.match_step.ensures ∙ v.in-Finish.is) (step_decides l.p.now l.q.now l.invariant.1) in
-            v.found-is ∙ found_one _ _ _ _ _ (l.invariant.2 ∙ e.0.match) (l.invariant.3 ∙ ap (λ n. l.k + n) e.0.named)
-        ] in
-        pick_found _ _ _ _ _ _ _ h seen f w.if-is_eligible.true yields (w.best-is ∙ w.more_exact-best.ensures)
-    | else-is_eligible w ↦ pick_not _ _ _ _ _ _ _ h seen f w.if-is_eligible.false ∙ ap (pick_from _ _ _ _ _ _) (sym w.best-is)
+      | then-is_eligible w ↦
+          let l = w.levels in
+          let yields : w.match-match_step.found ≡ found_of (lent_levels a.s.now g.pattern g.len) a.r.now c.loop-i.i g.mask
+          = elim w.match-match_step.branch [
+            | in-Differ v ↦ v.found-is
+                ∙ found_none _ _ _ _ (l.invariant.2
+                ∙ subst (Stepped l.p.now l.q.now) (sym w.match_step.ensures ∙ v.in-Differ.is) (step_decides l.p.now l.q.now l.invariant.1))
+            | in-Finish v ↦
+                let e : Stepped l.p.now l.q.now (Finish v.in-Finish.names)
+                = subst (Stepped l.p.now l.q.now) (sym w.match_step.ensures ∙ v.in-Finish.is) (step_decides l.p.now l.q.now l.invariant.1) in
+                v.found-is ∙ found_one _ _ _ _ _ (l.invariant.2 ∙ e.0.match) (l.invariant.3 ∙ ap (λ n. l.k + n) e.0.named)
+          ] in
+          pick_found _ _ _ _ _ _ _ h seen f w.if-is_eligible.true yields (w.best-is ∙ w.more_exact-best.ensures)
+      | else-is_eligible w ↦ pick_not _ _ _ _ _ _ _ h seen f w.if-is_eligible.false ∙ ap (pick_from _ _ _ _ _ _) (sym w.best-is)
     ] in (
       omega (arith, h),
       c.loop-i.invariant.1 ∙ passed,

@@ -24,25 +24,22 @@ choose_read-requires c =
     (check_inside edition2 edition2_ok _ _ ((let the_bytes : AreBytes c.args.image.now = are_bytes c.args.image.now c.type_inv.image in the_bytes)))
 
 pub returns-in-Read : goal.returns-in-Read
-returns-in-Read c =
-    (
-      choice_read _ _ _ _ _ (omega arith) _ c.read_entering.ensures _ _ _ c.in-Read.is c.check_latest-found.ensures
-          c.choose_read.ensures,
-      (let the_bytes : AreBytes c.args.image.now = are_bytes c.args.image.now c.type_inv.image in the_bytes),
-    )
+returns-in-Read c = (
+  choice_read _ _ _ _ _ (omega arith) _ c.read_entering.ensures _ _ _ c.in-Read.is c.check_latest-found.ensures
+      c.choose_read.ensures,
+  (let the_bytes : AreBytes c.args.image.now = are_bytes c.args.image.now c.type_inv.image in the_bytes),
+)
 
 pub returns-in-Structure : goal.returns-in-Structure
-returns-in-Structure c =
-    (
-      choice_structure _ _ _ _ _ (omega arith) _ c.read_entering.ensures ((let the_bytes : AreBytes c.args.image.now = are_bytes c.args.image.now c.type_inv.image in the_bytes)) _ c.in-Structure.is
-          c.choose_unread.ensures,
-      (let the_bytes : AreBytes c.args.image.now = are_bytes c.args.image.now c.type_inv.image in the_bytes),
-    )
+returns-in-Structure c = (
+  choice_structure _ _ _ _ _ (omega arith) _ c.read_entering.ensures ((let the_bytes : AreBytes c.args.image.now = are_bytes c.args.image.now c.type_inv.image in the_bytes)) _ c.in-Structure.is
+      c.choose_unread.ensures,
+  (let the_bytes : AreBytes c.args.image.now = are_bytes c.args.image.now c.type_inv.image in the_bytes),
+)
 
 pub returns-in-Validity : goal.returns-in-Validity
-returns-in-Validity c =
-    (
-      choice_validity _ _ _ _ _ (omega arith) _ c.read_entering.ensures ((let the_bytes : AreBytes c.args.image.now = are_bytes c.args.image.now c.type_inv.image in the_bytes)) _ c.in-Validity.is
-          c.choose_unread-in-Validity.ensures,
-      (let the_bytes : AreBytes c.args.image.now = are_bytes c.args.image.now c.type_inv.image in the_bytes),
-    )
+returns-in-Validity c = (
+  choice_validity _ _ _ _ _ (omega arith) _ c.read_entering.ensures ((let the_bytes : AreBytes c.args.image.now = are_bytes c.args.image.now c.type_inv.image in the_bytes)) _ c.in-Validity.is
+      c.choose_unread-in-Validity.ensures,
+  (let the_bytes : AreBytes c.args.image.now = are_bytes c.args.image.now c.type_inv.image in the_bytes),
+)

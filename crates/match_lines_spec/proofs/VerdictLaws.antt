@@ -13,10 +13,8 @@ use borrow.Author.Tests.{eqb-true, leb-true, leb-false, le-leb, lt-leb}
 use Rattle.resource_spec.specs.declared.Matching.{Matching}
 use Rattle.resource_spec.specs.declared.Matching.TheVariants.{Yes, No, Malformed}
 use Rattle.resource_spec.specs.Characters.{codes}
-use Rattle.resource_spec.specs.Identifier.{fits}
 use Rattle.octets.specs.Scan.{bytes_before}
 use Rattle.resource_spec.specs.Pattern.{Path, path_text, Pattern, pattern_text, admits, names_matched}
-use Rattle.resource_spec.specs.Pattern.{spelled}
 use Rattle.resource_spec.specs.Text.{is_pattern, is_resource, pattern_ok, resource_ok, numbers_of, yes_with, matching}
 use Rattle.octets.proofs.Tests.{by_cond, and_left, and_right, no_flag}
 use Rattle.octets.proofs.ScanLaws.{before_all}

@@ -6,8 +6,8 @@ use Rattle.cap.proofs.cap_grant_at.Goals as goal
 
 pub returns : goal.returns
 returns c = record {
-      answer = c.of_grant.ensures
+  answer = c.of_grant.ensures
       ∙ ap grant_numbers c.nth.ensures;
-      lent = are_bytes c.args.bytes.now
+  lent = are_bytes c.args.bytes.now
       c.type_inv.bytes;
-    }
+}

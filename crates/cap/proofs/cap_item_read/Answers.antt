@@ -6,8 +6,8 @@ use Rattle.cap.proofs.cap_item_read.Goals as goal
 
 pub returns : goal.returns
 returns c = record {
-      answer = c.of_item.ensures
+  answer = c.of_item.ensures
       ∙ ap numbers_of c.read_item.ensures;
-      lent = are_bytes c.args.bytes.now
+  lent = are_bytes c.args.bytes.now
       c.type_inv.bytes;
-    }
+}

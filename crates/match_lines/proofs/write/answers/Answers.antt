@@ -1,7 +1,7 @@
 -- `answers` meets its contract. The invariant: what is left to be answered leads to the same as the whole block, and at most four bytes
 -- are written for each byte before. The measure: what is left.
 use mathlib.Core.Path.{refl, ◌∙◌}
-use Prim.Native.Nat.{◌-◌, ◌≤◌}
+use Prim.Native.Nat.{◌≤◌}
 use native.Mathlib.Omega.{arith}
 use lib.ListN.{length}
 use Rattle.match_lines_spec.proofs.Laws.{word_le}

@@ -1,7 +1,6 @@
 pub mod RoomCode
 pub mod ModeCode
 pub mod GrantCode
-pub mod IdsCode
 pub mod UnderCode
 pub mod PayloadCode
 pub mod ReadCode

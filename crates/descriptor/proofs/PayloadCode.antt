@@ -11,11 +11,11 @@ use Rattle.descriptor_spec.specs.Reader.{payload_fits}
 use Rattle.descriptor.specs.declared.payload.PayloadFields.{PayloadFields}
 use Rattle.descriptor.specs.Code.{payload_of}
 
--- the code's tests of a payload are the reader's
-pub fits_test : (s : List ℕ) (p : PayloadFields) (a b c : Bool)
-    → a ≡ eqb p.keys (8 + (flag p.issue.metadata.there + flag p.grantor.grantor.there))
-    → b ≡ same (part s p.grants.first terminal_size) (part s p.ids.terminal terminal_size)
-    → c ≡ (leb p.issue.issued_at p.grantor.not_before && ltb p.grantor.not_before p.issue.not_after)
-    → (a && (b && c)) ≡ payload_fits s (payload_of p)
+-- the code's test of a payload is the reader's
+pub fits_test : (s : List ℕ) (p : PayloadFields) (k l : ℕ) (o : Bool) → k ≡ flag p.issue.metadata.there
+    → l ≡ flag p.grantor.grantor.there → o ≡ same (part s p.grants.first terminal_size) (part s p.ids.terminal terminal_size)
+    → (eqb p.keys (8 + (k + l)) &&
+    (o && (leb p.issue.issued_at p.grantor.not_before && ltb p.grantor.not_before p.issue.not_after)))
+    ≡ payload_fits s (payload_of p)
 unfolding payload_fits
-fits_test s p a b c e f g = rw (e, f, g) refl
+fits_test s p k l o e f g = rw (e, f, g) refl

@@ -12,8 +12,8 @@ use Rattle.octets.specs.Span.{Span}
 use Rattle.octets.proofs.TruthLaws.{T_true}
 use Rattle.exact.specs.Reads.{Got, got, refused, bind, guard}
 use Rattle.exact.specs.Holds.{Holds}
-use Rattle.exact.proofs.HoldsLaws.{held, holds_of, holds_bind, holds_then, holds_guard}
-use Rattle.exact.proofs.ReadsLaws.{took, stopped, passed}
+use Rattle.exact.proofs.HoldsLaws.{held, holds_bind, holds_then, holds_guard}
+use Rattle.exact.proofs.ReadsLaws.{took, stopped}
 use Rattle.cbor_item_spec.specs.Head.{span_at}
 use Rattle.cbor_item_spec.specs.Laws.{SpanTo}
 use Rattle.cbor_item_spec.proofs.Laws.{spans_end}
@@ -26,11 +26,11 @@ use Rattle.entries_spec.specs.Kinds.{is_kind}
 use Rattle.entries_spec.specs.Keys.{k_modes, k_constraints, k_resource_pattern}
 use Rattle.entries_spec.specs.Value.{count_at, string_at, kind_at, flag}
 use Rattle.entries_spec.specs.Reader.{opt_pairs_at}
-use Rattle.descriptor_spec.specs.Reader.{modes_at, GrantSeen, grant_at, Sum, add_grant, more_at, GrantsSeen, grants_at}
+use Rattle.descriptor_spec.specs.Reader.{modes_at, GrantSeen, grant_at, Sum, add_grant, more_at}
 use Rattle.descriptor_spec.specs.Laws.{GrantIn}
 use Rattle.descriptor_spec.proofs.Laws.{grant_bounds}
 use Rattle.descriptor.specs.declared.grants.TerminalId.{TerminalId}
-use Rattle.descriptor.specs.declared.grants.TerminalId.TheVariants.{Any, At, Known}
+use Rattle.descriptor.specs.declared.grants.TerminalId.TheVariants.{Any, At}
 use Rattle.descriptor.specs.Code.{pattern_at, grant_under}
 
 -- ---- any terminal id
@@ -49,48 +49,6 @@ pattern_ends s terminal at e =
     (λ t. holds_bind (SpanTo s (at + length k_resource_pattern)) (λ c n. n ≤ length s) _ _ (spans_end s (at + length k_resource_pattern) 3)
     (λ c n i. holds_guard (λ c n. n ≤ length s) _ _ (λ u. i.fits))))
     e
-
--- ---- a grant that was read before
-
--- a text of which nothing is asked
-pub known_pattern : (s : List ℕ) (at : ℕ) → guard (has_at s at k_resource_pattern) (span_at s (at + length k_resource_pattern) 3) ≡ pattern_at s Known at
-unfolding string_at bind guard
-known_pattern s at = ap (guard (has_at s at k_resource_pattern)) (go (span_at s (at + length k_resource_pattern) 3))
-  where
-    go : (o : Got Span) → o ≡ bind o (λ c n. guard true (got c n))
-    go (got c n) = refl
-    go refused = refl
-
--- a pattern that was read is the text that stands there
-pattern_known : {c : Span} {n : ℕ} (s : List ℕ) (at : ℕ) → got c n ≡ pattern_at s Any at → got c n ≡ pattern_at s Known at
-unfolding string_at
-pattern_known s at e =
-    held P
-    (holds_guard P _ _ (λ t.
-    holds_bind Q P _ _ (holds_of Q (span_at s (at + length k_resource_pattern) 3) (λ c n f. f))
-    (λ c n f. holds_guard P _ _ (λ u. passed _ t (took _ f (passed true tt refl))))))
-    e
-  where
-    P : Span → ℕ → Type 0
-    P c n = got c n ≡ pattern_at s Known at
-
-    Q : Span → ℕ → Type 0
-    Q c n = got c n ≡ span_at s (at + length k_resource_pattern) 3
-
--- a grant that was read is found again without looking at its pattern
-pub known_grant : {g : GrantSeen} {n : ℕ} (s : List ℕ) (at : ℕ) → got g n ≡ grant_at s at → got g n ≡ grant_under s Known at
-unfolding grant_under grant_at kind_at is_kind
-known_grant s at e =
-    held P
-    (holds_bind _ P _ _ (holds_of _ (count_at s at 5 2 3) (λ c n f. f)) (λ c n f.
-    holds_bind _ P _ _ (holds_of _ (modes_at s n) (λ m n₁ f. f)) (λ mask n₁ f₁.
-    holds_bind _ P _ _ (holds_of _ (opt_pairs_at s n₁ k_constraints 8) (λ v n₂ f. f)) (λ constraints n₂ f₂.
-    holds_bind _ P _ _ (holds_of _ (pattern_at s Any n₂) (λ v n₃ f. f)) (λ pattern n₃ f₃.
-    holds_guard P _ _ (λ t. took _ f (took _ f₁ (took _ f₂ (took _ (pattern_known s n₂ f₃) (passed _ t refl))))))))))
-    e
-  where
-    P : GrantSeen → ℕ → Type 0
-    P g n = got g n ≡ grant_under s Known at
 
 -- ---- the terminal id of a grant that was read
 
@@ -125,21 +83,6 @@ grant_terminal s at e =
     begins c i =
         let long : terminal_size ≤ c.len = omega (arith, (pattern_short _ i).0, part_le s c.start c.len) in
         ap is_terminal (sym (front_part s c.start c.len terminal_size long)) ∙ pattern_terminal _ i
-
--- the first pattern of grants that were read begins with a terminal id
-pub grants_terminal : {g : GrantsSeen} {n : ℕ} (s : List ℕ) (at : ℕ) → got g n ≡ grants_at s at → is_terminal (part s g.first terminal_size) ≡ true
-unfolding grants_at
-grants_terminal s at e =
-    held P
-    (holds_then P _ _ (λ c n.
-    holds_bind Q P _ _ (holds_of Q (grant_at s n) (λ g n₁ f. grant_terminal s n f)) (λ g n₁ i. holds_then P _ _ (λ sum n₂. i))))
-    e
-  where
-    P : GrantsSeen → ℕ → Type 0
-    P g n = is_terminal (part s g.first terminal_size) ≡ true
-
-    Q : GrantSeen → ℕ → Type 0
-    Q g n = is_terminal (part s g.pattern.start terminal_size) ≡ true
 
 -- ---- one more grant
 

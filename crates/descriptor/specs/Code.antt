@@ -1,6 +1,6 @@
 -- A reader of the promises does not need this page.
 -- What the answers of the reader of a grant and of the inner functions say, as answers of exact readers.
-use Rattle.std.specs.Prelude.{Bool, true, not, List, ℕ, ◌+◌, ◌/◌, ◌%◌, ◌≤◌, length, eqb}
+use Rattle.std.specs.Prelude.{Bool, not, List, ℕ, ◌+◌, ◌/◌, ◌%◌, ◌≤◌, length, eqb}
 use Rattle.octets.specs.Bytes.{part}
 use Rattle.octets.specs.Span.{Span, span_of}
 use Rattle.exact.specs.Reads.{Got, got, refused, bind, guard}
@@ -17,7 +17,7 @@ use Rattle.descriptor.specs.declared.GrantFields.{GrantFields}
 use Rattle.descriptor.specs.declared.GrantRead.{GrantRead}
 use Rattle.descriptor.specs.declared.GrantRead.TheVariants.{IsGrant, NoGrant}
 use Rattle.descriptor.specs.declared.grants.TerminalId.{TerminalId}
-use Rattle.descriptor.specs.declared.grants.TerminalId.TheVariants.{Any, At, Known}
+use Rattle.descriptor.specs.declared.grants.TerminalId.TheVariants.{Any, At}
 use Rattle.descriptor.specs.declared.grants.Sum as sums
 use Rattle.descriptor.specs.declared.grants.SumRead.{SumRead}
 use Rattle.descriptor.specs.declared.grants.SumRead.TheVariants.{IsSum, NoSum}
@@ -49,13 +49,11 @@ with_mode mask bit next = guard (not (eqb (mask / bit % 2) 1)) (got (mask + bit)
 abbrev pub TerminalFits : List ℕ → TerminalId → Type 0
 TerminalFits s Any = Unit {0}
 TerminalFits s (At first) = first + terminal_size ≤ length s
-TerminalFits s Known = Unit {0}
 
 -- a pattern of the terminal id that is asked for; the test of one that stands in s does not look at the form of this id
 abbrev pub is_pattern_of : List ℕ → TerminalId → List ℕ → Bool
 is_pattern_of s Any c = pattern_ok c
 is_pattern_of s (At first) c = pattern_under (part s first terminal_size) c
-is_pattern_of s Known c = true
 
 -- the pattern of a grant after its key, of the terminal id that is asked for
 abbrev pub pattern_at : List ℕ → TerminalId → ℕ → Got Span
@@ -140,10 +138,6 @@ grantor_read NoGrantor = refused
 -- terminal_id, descriptor_id and subject_fay_id
 abbrev pub ids_of : IdsFields → Ids
 ids_of f = record { terminal = f.terminal; id = f.id; fay = f.fay }
-
--- the three at the place `at`: their keys and heads have 14, 15 and 17 bytes, the ids 45, 16 and 40
-abbrev pub ids_here : ℕ → Ids
-ids_here at = record { terminal = at + 14; id = at + 74; fay = at + 107 }
 
 -- that and the place after it, or a refusal
 abbrev pub ids_read : IdsRead → Got Ids

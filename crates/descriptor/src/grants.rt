@@ -1,13 +1,10 @@
 // Grants.
 ghost use Rattle.std.specs.Prelude.{◌≡◌, true, ◌+◌, ◌≤◌, ◌<◌, length, eqb};
 ghost use Rattle.exact.specs.Reads.{got, guard};
-ghost use Rattle.entries_spec.specs.Value.{count_at, keyed_at, flag};
+ghost use Rattle.entries_spec.specs.Value.{flag};
 ghost use Rattle.octets.specs.Bytes.{part};
 ghost use Rattle.cbor_item_spec.specs.Head.{span_read};
 ghost use Rattle.resource_spec.specs.Identifier.{is_terminal, terminal_size};
-ghost use Rattle.entries_spec.specs.Keys.{k_grants, k_constraints};
-ghost use Rattle.entries_spec.specs.Reader.{opt_pairs_at};
-ghost use Rattle.entries.specs.Code.{count_read, optional_read};
 ghost use Rattle.descriptor_spec.specs.Reader.{grant_at, more_at, grants_at};
 ghost use Rattle.descriptor.specs.declared.grants.TerminalId.TheVariants as TerminalId;
 ghost use Rattle.descriptor.specs.Code.{TerminalFits, pattern_at, grant_under, grant_of, grant_read, sum_of, sum_read, grants_read};
@@ -17,18 +14,16 @@ use crate::{GrantFields, GrantRead};
 use cbor_item::SpanRead;
 use entries::keys;
 use entries::pairs::opt_pairs;
-use entries::value::{ABSENT, CountRead, Kind, OptionalRead, count_at, keyed, keys_of};
+use entries::value::{CountRead, Kind, OptionalRead, count_at, keyed, keyed_count, keys_of};
 use octets::has_at;
 use resource::is_pattern_under;
 use resource_spec::sizes::TERMINAL_SIZE;
 
-// Which terminal id the pattern of a grant is to have: any, or the one that stands at a place; or the pattern was read before, and nothing
-// is asked of it.
+// Which terminal id the pattern of a grant is to have: any, or the one that stands at a place.
 #[derive(Clone, Copy)]
 pub(crate) enum TerminalId {
     Any,
     At { first: usize },
-    Known,
 }
 
 // The union of masks and the number of constraint pairs.
@@ -88,16 +83,6 @@ fn pattern_under_at(s: &[u8], at: usize, first: usize) -> SpanRead
     SpanRead::NoSpan
 }
 
-// The text after the key of a pattern, of which nothing is asked.
-fn known_pattern_at(s: &[u8], at: usize) -> SpanRead
-    ensures { span_read result ≡ pattern_at s.now TerminalId.Known at }
-{
-    if !has_at(s, at, &keys::RESOURCE_PATTERN) {
-        return SpanRead::NoSpan;
-    }
-    cbor_item::read_span(s, at + 17, 3)
-}
-
 // The pattern of a grant after its key, of the terminal id that is asked for.
 fn pattern_at(s: &[u8], at: usize, terminal: TerminalId) -> SpanRead
     requires { TerminalFits s.now terminal }
@@ -106,24 +91,7 @@ fn pattern_at(s: &[u8], at: usize, terminal: TerminalId) -> SpanRead
     match terminal {
         TerminalId::Any => keyed(s, at, &keys::RESOURCE_PATTERN, Kind::Pattern),
         TerminalId::At { first } => pattern_under_at(s, at, first),
-        TerminalId::Known => known_pattern_at(s, at),
     }
-}
-
-// The constraints at a place, which most grants have not: then another byte than the first of their key stands there.
-fn constraints_at(s: &[u8], at: usize) -> OptionalRead
-    ensures { optional_read result ≡ opt_pairs_at s.now at k_constraints 8 }
-{
-    if s.len() <= at {
-        return opt_pairs(s, at, &keys::CONSTRAINTS, 8);
-    }
-    if s[at] != b'k' {
-        return OptionalRead::IsOptional {
-            value: ABSENT,
-            next: at,
-        };
-    }
-    opt_pairs(s, at, &keys::CONSTRAINTS, 8)
 }
 
 // The grant at a place, whose pattern has the terminal id that is asked for.
@@ -141,7 +109,7 @@ fn grant_of(s: &[u8], at: usize, terminal: TerminalId) -> GrantRead
     let CountRead::IsCount { value: mask, next } = modes_at(s, n) else {
         return GrantRead::NoGrant;
     };
-    let OptionalRead::IsOptional { value, next } = constraints_at(s, next) else {
+    let OptionalRead::IsOptional { value, next } = opt_pairs(s, next, &keys::CONSTRAINTS, 8) else {
         return GrantRead::NoGrant;
     };
     let SpanRead::IsSpan { start, len } = pattern_at(s, next, terminal) else {
@@ -165,13 +133,6 @@ pub(crate) fn grant_at(s: &[u8], at: usize) -> GrantRead
     grant_of(s, at, TerminalId::Any)
 }
 
-// The grant at a place at which one was read before.
-pub(crate) fn known_grant_at(s: &[u8], at: usize) -> GrantRead
-    ensures { grant_read result ≡ grant_under s.now TerminalId.Known at }
-{
-    grant_of(s, at, TerminalId::Known)
-}
-
 // One more grant, whose pattern has the terminal id that stands at `first`.
 fn more_at(s: &[u8], first: usize, sum: Sum, at: usize) -> SumRead
     requires terminal_size_in_bounds { (first + terminal_size ≤ length s.now) × (is_terminal (part s.now first terminal_size) ≡ true) }
@@ -189,31 +150,11 @@ fn more_at(s: &[u8], first: usize, sum: Sum, at: usize) -> SumRead
     }
 }
 
-// The number of grants after their key. Fewer than 24 are told by one byte.
-fn grant_count(s: &[u8], at: usize) -> CountRead
-    ensures { count_read result ≡ keyed_at s.now at k_grants (λ n. count_at s.now n 4 1 256) }
-{
-    if !has_at(s, at, &keys::GRANTS) {
-        return CountRead::NoCount;
-    }
-    let head = at + 7;
-    if head < s.len() {
-        let count = s[head] % 32;
-        if (s[head] / 32 == 4) & ((1 <= count) & (count < 24)) {
-            return CountRead::IsCount {
-                value: count as u64,
-                next: head + 1,
-            };
-        }
-    }
-    count_at(s, head, 4, 1, 256)
-}
-
 // 1 to 256 grants after their key.
 pub(crate) fn grants_at(s: &[u8], at: usize) -> GrantsRead
     ensures { grants_read result ≡ grants_at s.now at }
 {
-    let CountRead::IsCount { value, next } = grant_count(s, at) else {
+    let CountRead::IsCount { value, next } = keyed_count(s, at, &keys::GRANTS, 4, 1, 256) else {
         return GrantsRead::NoGrants;
     };
     let start = next;

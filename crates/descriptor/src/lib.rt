@@ -7,10 +7,9 @@ mod modes;
 mod payload;
 mod whole;
 
-ghost use Rattle.std.specs.Prelude.{◌≡◌, ℕ};
+ghost use Rattle.std.specs.Prelude.{◌≡◌};
 ghost use Rattle.octets.specs.Bytes.{PartOf};
-ghost use Rattle.exact.specs.Reads.{got};
-ghost use Rattle.descriptor_spec.specs.Reader.{formed_in, read_of, GrantSeen, grant_at};
+ghost use Rattle.descriptor_spec.specs.Reader.{formed_in, read_of, grant_at};
 ghost use Rattle.descriptor_spec.specs.Code.{reading_of, form_of, within_period};
 ghost use Rattle.descriptor.specs.Code.{grant_read};
 ghost use Rattle.descriptor_spec.specs.Numbers.{payload_span};
@@ -76,11 +75,4 @@ pub fn read_grant(s: &[u8], at: usize) -> GrantRead
     ensures { grant_read result ≡ grant_at s.now at }
 {
     grants::grant_at(s, at)
-}
-
-// The grant at a place at which one reads, as it was read; its pattern is not checked again.
-pub fn read_known_grant(s: &[u8], at: usize) -> GrantRead
-    ensures { (g : GrantSeen) (n : ℕ) → got g n ≡ grant_at s.now at → got g n ≡ grant_read result }
-{
-    grants::known_grant_at(s, at)
 }

@@ -3,17 +3,15 @@
 use mathlib.Core.Path.{◌≡◌, refl, sym, ap, ap₂, ◌∙◌}
 use mathlib.Core.Logic.{◌⊎◌, inl, inr}
 use mathlib.Core.Bool.{Bool, true, false, not, ◌&&◌, and_assoc}
-use mathlib.Core.List.{List, []}
+use mathlib.Core.List.{List}
 use Prim.Native.Nat.{ℕ, zero, suc, ◌+◌, ◌-◌, ◌≤◌, ◌<◌}
 use native.Mathlib.Omega.{arith}
 use native.Mathlib.Nat.{add-zero, add-suc}
 use native.Mathlib.Numerals.{add-one}
 use lib.ListN.{length, take, drop, get_or}
-use lib.Seq.{take-take}
-use lib.Dec.{ltb, leb, eqb}
-use borrow.Author.Tests.{not-true, not-false, ltb-true, ltb-false, leb-true, leb-false, lt-ltb, le-ltb, eq-eqb, ne_eqb}
+use lib.Dec.{leb, eqb}
+use borrow.Author.Tests.{not-true, not-false, leb-true, eq-eqb, ne_eqb}
 use Rattle.octets.specs.Bytes.{part, same}
-use Rattle.octets.specs.Span.{inside}
 use Rattle.octets.specs.Number.{number_at, number_in}
 use Rattle.exact.specs.Reads.{Got, got, refused, guard}
 use Rattle.octets.proofs.Tests.{and_left, and_right}
@@ -21,14 +19,13 @@ use Rattle.octets.proofs.BytesLaws.{T_of_not, not_T_of, part_has}
 use Rattle.exact.proofs.ReadsLaws.{guard_yes, guard_no, guard_leb, passed, failed, passed_leb, failed_leb}
 use Rattle.octets.proofs.NumberLaws.{number_in_lem}
 use Rattle.octets.proofs.PartLaws.{lent_part}
-use Rattle.octets.proofs.SameLaws.{start_answer}
 use Rattle.descriptor_spec.specs.declared.Fields.{Fields}
 use Rattle.descriptor_spec.specs.declared.Reading.{Reading}
 use Rattle.descriptor_spec.specs.declared.Reading.TheVariants.{Read, Structure, Validity}
 use Rattle.descriptor_spec.specs.Reader.{read_of}
 use Rattle.descriptor_spec.specs.Code.{reading_of}
 use Rattle.image_spec.specs.declared.Held.{Held}
-use Rattle.image_spec.specs.declared.Held.TheVariants.{Missing, Body}
+use Rattle.image_spec.specs.declared.Held.TheVariants.{Missing}
 use Rattle.image_spec.specs.declared.ImageCheck.{ImageCheck}
 use Rattle.image_spec.specs.declared.ImageCheck.TheVariants.{Unsound}
 use Rattle.image_spec.specs.declared.Finding.TheVariants.{Malformed}
@@ -41,9 +38,6 @@ use Rattle.image_spec.specs.Image.{reading}
 use Rattle.image_spec.specs.Check.{row_count, row_id, row_length, header_fits, id_among, row_fits, on_read, row_at, held_with, rows_from, checked}
 use Rattle.image_spec.specs.Check.{check_answer, check_of, found_in, find_of}
 use Rattle.image_spec.proofs.Laws.{row_next, read_in}
-use Rattle.image.specs.Code.{place_of, body_at, FitsAs, SoundAs}
-use Rattle.image.specs.declared.rows.PlaceRead.{PlaceRead}
-use Rattle.image.specs.declared.rows.PlaceRead.TheVariants.{IsPlace, NoPlace}
 use Rattle.image.proofs.RowsCode.{rows_next}
 
 -- ---- bytes that are zero
@@ -77,98 +71,27 @@ zero_not s at i n h o =
 pub zero_all : (s : List ℕ) (at i n : ℕ) → i ≤ n → n ≤ i → number_at s at i ≡ 0 → true ≡ eqb (number_at s at n) 0
 zero_all s at i n h k e = let m : n ≡ i = omega arith in sym (eq-eqb (number_at s at n) 0 (ap (number_at s at) m ∙ e))
 
--- few bytes are read as one number
-pub zero_few : (s : List ℕ) (at n w x : ℕ) → n ≡ w → w ≤ 8 → at + n ≤ length s → x ≡ number_in s at w
-    → eqb x 0 ≡ eqb (number_at s at n) 0
-zero_few s at n w x e h k f =
-    ap (λ (m : ℕ). eqb m 0) (f ∙ number_in_lem s at w h (omega arith) ∙ ap (number_at s at) (sym e))
-
 -- ---- what the code reads
 
 -- four tests in either grouping
 and_four : (a b c d : Bool) → (((a && b) && c) && d) ≡ (a && (b && (c && d)))
 and_four a b c d = and_assoc (a && b) c d ∙ and_assoc a b (c && d)
 
--- the first n bytes of the part that code lends from a place up to n places on are that part
-lent_start : (s : List ℕ) (at n : ℕ) → take n (take (at + n - at) (drop at s)) ≡ part s at n
-unfolding part
-lent_start s at n = take-take n (at + n - at) (drop at s) (omega arith)
-
--- the part that code lends has its bytes
-lent_long : (s : List ℕ) (at n : ℕ) → at + n ≤ length s → n ≤ length (take (at + n - at) (drop at s))
-lent_long s at n h = omega (arith, ap length (lent_part s at n), (part_has s at n h).1)
-
 -- the two ids that the code compares are those of the row and of the body
-ids_are : (s : List ℕ) (r id : ℕ) (b : Bool) → r + id_size ≤ length s → id + id_size ≤ length s
-    → b
-    ≡ (leb id_size (length (take (r + id_size - r) (drop r s)))
-    && (leb id_size (length (take (id + id_size - id) (drop id s)))
-    && same (take id_size (take (r + id_size - r) (drop r s))) (take id_size (take (id + id_size - id) (drop id s)))))
+ids_are : (s : List ℕ) (r id : ℕ) (b : Bool) → b ≡ same (take (r + id_size - r) (drop r s)) (take (id + id_size - id) (drop id s))
     → b ≡ same (part s r id_size) (part s id id_size)
-ids_are s r id b h k e =
-    start_answer (take (r + id_size - r) (drop r s)) (take (id + id_size - id) (drop id s)) id_size (lent_long s r id_size h)
-    (lent_long s id id_size k) e
-    ∙ ap₂ same (lent_start s r id_size) (lent_start s id id_size)
+ids_are s r id b e = e ∙ ap₂ same (lent_part s r id_size) (lent_part s id id_size)
 
--- two tests, one after the other
-guard_both : (a b : Bool) (o : Got Fields) → guard a (guard b o) ≡ guard (a && b) o
-unfolding guard
-guard_both true b o = refl
-guard_both false b o = refl
-
--- 1 for a place, 0 for none
-abbrev is_place : PlaceRead → ℕ
-is_place (IsPlace next) = 1
-is_place NoPlace = 0
-
--- where the place after a body was answered, the body was read
-pub place_read : (o : Got Fields) (next : ℕ) → IsPlace next ≡ place_of o → (f : Fields) × (got f next ≡ o)
-place_read (got f k) next e = (f, cc)
-place_read refused next e = absurd (omega (arith, ap is_place e))
-
--- where none was, it was not
-pub place_none : (o : Got Fields) → NoPlace ≡ place_of o → refused ≡ o
-place_none (got f k) e = absurd (omega (arith, ap is_place e))
-place_none refused e = refl
-
--- ---- the body that a row names
-
--- the part that the code takes is the body
-pub body_is : (s : List ℕ) (r at n : ℕ) (b : List ℕ) → r + mask_place ≤ length s → n ≡ number_in s (r + length_place) body_width
-    → b ≡ part s (inside s at n).start (inside s at n).len → b ≡ body_at s r at
-unfolding body_at
-body_is s r at n b h e f =
-    f ∙ ap (λ (m : ℕ). part s (inside s at m).start (inside s at m).len)
-    (e ∙ number_in_lem s (r + length_place) body_width (omega arith) (omega arith))
-
--- where s has the bytes, they are the body
-body_some : (s : List ℕ) (r at : ℕ) → at + row_length s r ≤ length s → body_at s r at ≡ part s at (row_length s r)
-unfolding body_at inside
-body_some s r at h =
-    rw (le-ltb (length s) at (omega arith), le-ltb (length s - at) (row_length s r) (omega arith))
-
--- where s does not have them, it has no bytes
-body_none : (s : List ℕ) (r at : ℕ) → at ≤ length s → length s < at + row_length s r → body_at s r at ≡ []
-unfolding body_at inside part
-body_none s r at h k =
-    rw (le-ltb (length s) at h, lt-ltb (length s - at) (row_length s r) (omega arith))
-
--- the body ends within the bytes
-pub body_inside : (s : List ℕ) (r at : ℕ) (b : List ℕ) → at ≤ length s → b ≡ body_at s r at → at + length b ≤ length s
-body_inside s r at b h e = go (ltb (length s) (at + row_length s r)) refl
-  where
-    go : (t : Bool) → ltb (length s) (at + row_length s r) ≡ t → at + length b ≤ length s
-    go true f =
-        omega (arith, ap length (e ∙ body_none s r at h (ltb-true (length s) (at + row_length s r) f)))
-    go false f =
-        let k : at + row_length s r ≤ length s = ltb-false (length s) (at + row_length s r) f in
-        omega (arith, ap length (e ∙ body_some s r at k), (part_has s at (row_length s r) k).1)
+-- what the code reads is the reading of the body
+reading_is : (s : List ℕ) (at n : ℕ) (o : Reading) → o ≡ reading_of (read_of (take (at + n - at) (drop at s))) → o ≡ reading (part s at n)
+unfolding reading
+reading_is s at n o e = e ∙ ap (λ (b : List ℕ). reading_of (read_of b)) (lent_part s at n)
 
 -- the id of a body that was read lies in it
-pub id_room : (s : List ℕ) (r at : ℕ) (b : List ℕ) (o : Reading) (f : Fields) → at ≤ length s → b ≡ body_at s r at
-    → o ≡ reading_of (read_of b) → o ≡ Read f → at + (f.id + id_size) ≤ length s
-unfolding reading
-id_room s r at b o f h e k g = omega (arith, (read_in b f (sym k ∙ g)).id, body_inside s r at b h e)
+pub id_room : (s : List ℕ) (at n : ℕ) (o : Reading) (f : Fields) → at ≤ length s → n ≤ length s - at
+    → o ≡ reading_of (read_of (take (at + n - at) (drop at s))) → o ≡ Read f → at + (f.id + id_size) ≤ length s
+id_room s at n o f m g k e =
+    omega (arith, (read_in (part s at n) f (sym (reading_is s at n o k) ∙ e)).id, (part_has s at n (omega arith)).1)
 
 -- the row count is the number that the code reads
 count_is : (s : List ℕ) (n : ℕ) → header_size ≤ length s → n ≡ number_in s count_place header_width → n ≡ row_count s
@@ -196,35 +119,27 @@ module _ (l : Layout) where
 
   -- ---- one row
 
-  -- the four tests of the code are those of the row
-  pub fits_is : (s : List ℕ) (r at id mask : ℕ) (b : Bool) (x y : ℕ) (t : Bool) → LayoutOk l → r + row_size l ≤ length s
-      → at + id + id_size ≤ length s
-      → b
-      ≡ (leb id_size (length (take (r + id_size - r) (drop r s)))
-      && (leb id_size (length (take (at + id + id_size - (at + id)) (drop (at + id) s)))
-      && same (take id_size (take (r + id_size - r) (drop r s))) (take id_size (take (at + id + id_size - (at + id)) (drop (at + id) s)))))
-      → x ≡ number_in s (r + offset_place) body_width → y ≡ number_in s (r + mask_place) mask_width
-      → t ≡ eqb (number_at s (r + zero_place) (zero_size l)) 0
-      → FitsAs l s r at id mask (((b && eqb x at) && eqb y mask) && t)
+  -- a row with another id does not fit
+  pub fits_not : (s : List ℕ) (r at : ℕ) (f : Fields) (b : Bool)
+      → b ≡ same (take (r + id_size - r) (drop r s)) (take (at + f.id + id_size - (at + f.id)) (drop (at + f.id) s)) → not b ≡ true
+      → false ≡ row_fits l s r at f
   unfolding row_fits
-  fits_is s r at id mask b x y t ok h k e ex ey ez f ei em =
+  fits_not s r at f b e t = rw (sym (ids_are s r (at + f.id) b e) ∙ not-true b t)
+
+  -- a row with the body's id fits when the three tests of the code hold
+  pub fits_is : (s : List ℕ) (r at : ℕ) (f : Fields) (b : Bool) (x y : ℕ) (t : Bool) → LayoutOk l → r + row_size l ≤ length s
+      → b ≡ same (take (r + id_size - r) (drop r s)) (take (at + f.id + id_size - (at + f.id)) (drop (at + f.id) s)) → not b ≡ false
+      → x ≡ number_in s (r + offset_place) body_width → y ≡ number_in s (r + mask_place) mask_width
+      → t ≡ eqb (number_at s (r + zero_place) (zero_size l)) 0 → ((eqb x at && eqb y f.mask) && t) ≡ row_fits l s r at f
+  unfolding row_fits
+  fits_is s r at f b x y t ok h e n ex ey ez =
       let fx : x ≡ number_at s (r + offset_place) body_width = ex ∙ number_in_lem s (r + offset_place) body_width (omega arith) (omega arith) in
       let fy : y ≡ number_at s (r + mask_place) mask_width = ey ∙ number_in_lem s (r + mask_place) mask_width (omega arith) (omega arith) in
-      and_four b (eqb x at) (eqb y mask) t
-      ∙ ap₂ (λ (u v : ℕ). b && (eqb u at && (eqb v mask && t))) fx fy
-      ∙ ap₂ (λ (u v : Bool). u && (eqb (number_at s (r + offset_place) body_width) at &&
-      (eqb (number_at s (r + mask_place) mask_width) mask && v))) (ids_are s r (at + id) b (omega arith) k e) ez
-      ∙ ap₂ (λ (u v : ℕ). same (row_id s r) (part s (at + u) id_size) && (eqb (number_at s (r + offset_place) body_width) at &&
-      (eqb (number_at s (r + mask_place) mask_width) v && eqb (number_at s (r + zero_place) (zero_size l)) 0))) (sym ei) (sym em)
-
-  module _ (s : List ℕ) (i r at id mask : ℕ) (b : Bool) (p : FitsAs l s r at id mask b) where
-    -- a row that does not fit is not sound
-    pub sound_not : not b ≡ true → SoundAs l s i r at id mask false
-    sound_not t f ei em = rw (sym (p f ei em) ∙ not-true b t)
-
-    -- one that fits is where none of the rows before has its id
-    pub sound_is : not b ≡ false → (c : Bool) → c ≡ id_among l s (row_id s r) i → SoundAs l s i r at id mask (not c)
-    sound_is t c q f ei em = rw (sym (p f ei em) ∙ not-false b t) (ap not q)
+      rw (sym (ids_are s r (at + f.id) b e) ∙ not-false b n)
+      (and_assoc (eqb x at) (eqb y f.mask) t
+      ∙ ap₂ (λ (u v : ℕ). eqb u at && (eqb v f.mask && t)) fx fy
+      ∙ ap (λ (u : Bool). eqb (number_at s (r + offset_place) body_width) at &&
+      (eqb (number_at s (r + mask_place) mask_width) f.mask && u)) ez)
 
   -- the code compares the id of row i with the id
   pub id_is : (s id : List ℕ) (i r : ℕ) (b : Bool) → r ≡ row_place l i → b ≡ same (take (r + id_size - r) (drop r s)) id
@@ -235,30 +150,30 @@ module _ (l : Layout) where
   abbrev pub after_read : List ℕ → ℕ → ℕ → ℕ → Fields → Got Fields
   after_read s i at n f = guard (row_fits l s (row_place l i) at f) (guard (not (id_among l s (row_id s (row_place l i)) i)) (got f (at + n)))
 
-  -- no bytes are no body
-  none_read : (k : Fields → Got Fields) (o : Reading) → o ≡ reading [] → on_read o k ≡ refused
-  none_read k (Read f) e = absurd (omega (arith, (read_in [] f (sym e)).filled))
-  none_read k Structure e = refl
-  none_read k Validity e = refl
+  -- row i, with the body's length as a number of its own
+  row_long : (s : List ℕ) (i r at n : ℕ) → LayoutOk l → r ≡ row_place l i → r + row_size l ≤ length s
+      → n ≡ number_in s (r + length_place) body_width
+      → row_at l s i at ≡ guard (leb (at + n) (length s)) (on_read (reading (part s at n)) (after_read s i at n))
+  unfolding row_at
+  row_long s i r at n ok p h e =
+      let k : n ≡ row_length s (row_place l i)
+      = e ∙ number_in_lem s (r + length_place) body_width (omega arith) (omega arith) ∙ ap (row_length s) p in
+      ap (λ (m : ℕ). guard (leb (at + m) (length s)) (on_read (reading (part s at m)) (after_read s i at m))) (sym k)
 
-  -- row i answers what its body says
-  pub row_read_lem : (s : List ℕ) (i r at : ℕ) (b : List ℕ) (o : Reading) → r ≡ row_place l i → at ≤ length s → b ≡ body_at s r at
-      → o ≡ reading_of (read_of b) → row_at l s i at ≡ on_read o (after_read s i at (length b))
-  unfolding row_at reading
-  row_read_lem s i r at b o p h e k = go (leb (at + row_length s (row_place l i)) (length s)) refl (e ∙ ap (λ (x : ℕ). body_at s x at) p)
-    where
-      go : (t : Bool) → leb (at + row_length s (row_place l i)) (length s) ≡ t → b ≡ body_at s (row_place l i) at
-          → row_at l s i at ≡ on_read o (after_read s i at (length b))
-      go true f g =
-          let m : at + row_length s (row_place l i) ≤ length s = leb-true (at + row_length s (row_place l i)) (length s) f in
-          let q : b ≡ part s at (row_length s (row_place l i)) = g ∙ body_some s (row_place l i) at m in
-          let w : length b ≡ row_length s (row_place l i) = ap length q ∙ (part_has s at (row_length s (row_place l i)) m).1 in
-          guard_leb (at + row_length s (row_place l i)) (length s) _ m
-          ∙ ap₂ (λ (x : Reading) (y : ℕ). on_read x (after_read s i at y)) (ap reading (sym q) ∙ sym k) (sym w)
-      go false f g =
-          let m : length s < at + row_length s (row_place l i) = leb-false (at + row_length s (row_place l i)) (length s) f in
-          sym (failed_leb (at + row_length s (row_place l i)) (length s) _ m)
-          ∙ sym (none_read (after_read s i at (length b)) o (k ∙ ap reading (g ∙ body_none s (row_place l i) at h m)))
+  -- a body that would end after the bytes is refused
+  pub row_short : (s : List ℕ) (i r at n : ℕ) → LayoutOk l → r ≡ row_place l i → r + row_size l ≤ length s
+      → n ≡ number_in s (r + length_place) body_width → at ≤ length s → length s - at < n → refused ≡ row_at l s i at
+  row_short s i r at n ok p h e m g = failed_leb (at + n) (length s) _ (omega arith) ∙ sym (row_long s i r at n ok p h e)
+
+  -- a body that ends within the bytes is read
+  pub row_read_lem : (s : List ℕ) (i r at n : ℕ) (o : Reading) → LayoutOk l → r ≡ row_place l i → r + row_size l ≤ length s
+      → n ≡ number_in s (r + length_place) body_width
+      → at ≤ length s → n ≤ length s - at
+      → o ≡ reading_of (read_of (take (at + n - at) (drop at s))) → row_at l s i at ≡ on_read o (after_read s i at n)
+  row_read_lem s i r at n o ok p h e m g k =
+      row_long s i r at n ok p h e
+      ∙ guard_leb (at + n) (length s) _ (omega arith)
+      ∙ ap (λ (x : Reading). on_read x (after_read s i at n)) (sym (reading_is s at n o k))
 
   -- a body that does not read with 0 is refused
   pub read_not : (s : List ℕ) (i at n : ℕ) (o : Reading) → (o ≡ Structure) ⊎ (o ≡ Validity) → on_read o (after_read s i at n) ≡ refused
@@ -266,49 +181,45 @@ module _ (l : Layout) where
   read_not s i at n o (inr e) = ap (λ (x : Reading). on_read x (after_read s i at n)) e
 
   module _ (s : List ℕ) (i r at n : ℕ) (place : r ≡ row_place l i) (o : Reading) (f : Fields) (e : o ≡ Read f) (b : Bool)
-      (p : b ≡ (row_fits l s r at f && not (id_among l s (row_id s r) i))) where
-    -- what was read goes on with both tests
-    goes : on_read o (after_read s i at n) ≡ guard b (got f (at + n))
+      (p : b ≡ row_fits l s r at f) where
+    -- what was read goes on
+    goes : on_read o (after_read s i at n) ≡ guard (row_fits l s r at f) (guard (not (id_among l s (row_id s r) i)) (got f (at + n)))
     goes = ap (λ (x : Reading). on_read x (after_read s i at n)) e
         ∙ ap (λ (x : ℕ). guard (row_fits l s x at f) (guard (not (id_among l s (row_id s x) i)) (got f (at + n)))) (sym place)
-        ∙ guard_both (row_fits l s r at f) (not (id_among l s (row_id s r) i)) (got f (at + n))
-        ∙ ap (λ (t : Bool). guard t (got f (at + n))) (sym p)
 
-    -- a row that is not that of the body, or whose id a row before has, is refused
+    -- a row that is not that of the body is refused
     pub row_other : not b ≡ true → on_read o (after_read s i at n) ≡ refused
-    row_other t = goes ∙ guard_no b _ (not_T_of b refl t)
+    row_other t = goes ∙ guard_no (row_fits l s r at f) _ (not_T_of b p t)
+
+    -- the code looks for the row's id among those before
+    row_among : not b ≡ false → (c t : Bool) → c ≡ id_among l s (row_id s r) i → c ≡ t
+        → on_read o (after_read s i at n) ≡ guard (not t) (got f (at + n))
+    row_among u c t q v =
+        goes
+        ∙ guard_yes (row_fits l s r at f) _ (T_of_not b p u)
+        ∙ ap (λ (x : Bool). guard (not x) (got f (at + n))) (sym q ∙ v)
+
+    -- a row whose id a row before has is refused
+    pub row_twice : not b ≡ false → (c : Bool) → c ≡ id_among l s (row_id s r) i → c ≡ true
+        → on_read o (after_read s i at n) ≡ refused
+    row_twice u c q v = row_among u c true q v ∙ guard_no false (got f (at + n)) tt
 
     -- another row is answered with what was read of its body, and the place after the body
-    pub row_good : not b ≡ false → on_read o (after_read s i at n) ≡ got f (at + n)
-    row_good t = goes ∙ guard_yes b _ (T_of_not b refl t)
+    pub row_good : not b ≡ false → (c : Bool) → c ≡ id_among l s (row_id s r) i → c ≡ false
+        → on_read o (after_read s i at n) ≡ got f (at + n)
+    row_good u c q v = row_among u c false q v ∙ guard_yes true (got f (at + n)) tt
 
   -- ---- all rows
 
-  -- a row that passes leaves the rows after it, with what is held by the code's own test of the id
-  rows_kept : (s id : List ℕ) (n i r at : ℕ) (h : Held) (f : Fields) (next : ℕ) (hit : Bool) → i < n → got f next ≡ row_at l s i at
-      → r ≡ row_place l i → hit ≡ same (take (r + id_size - r) (drop r s)) id
-      → rows_from l s id (n - i) i at h ≡ rows_from l s id (n - (i + 1)) (i + 1) next (held_with hit h i at (next - at) f)
-  rows_kept s id n i r at h f next hit m e place p =
+  -- a row that passes leaves the rows after it, with what the code keeps
+  pub rows_kept : (s id : List ℕ) (n i r at : ℕ) (h h' : Held) (f : Fields) (next : ℕ) (hit : Bool) → i < n → got f next ≡ row_at l s i at
+      → r ≡ row_place l i → hit ≡ same (take (r + id_size - r) (drop r s)) id → h' ≡ held_with hit h i at (next - at) f
+      → rows_from l s id (n - i) i at h ≡ rows_from l s id (n - (i + 1)) (i + 1) next h'
+  rows_kept s id n i r at h h' f next hit m e place p q =
       let len : row_length s (row_place l i) ≡ next - at = omega (arith, (row_next l s i at f next e).0) in
       rows_next l s id n i at h f next m e
       ∙ ap (rows_from l s id (n - (i + 1)) (i + 1) next)
-      (ap₂ (λ (b : Bool) (k : ℕ). held_with b h i at k f) (sym (id_is s id i r hit place p)) len)
-
-  module _ (s id : List ℕ) (n i r at : ℕ) (h : Held) (next : ℕ) (hit : Bool) (m : i < n) (place : r ≡ row_place l i)
-      (p : hit ≡ same (take (r + id_size - r) (drop r s)) id) where
-    -- the body of a row with the id is held
-    pub rows_hit : (f : Fields) → hit ≡ true → got f next ≡ row_at l s i at
-        → rows_from l s id (n - i) i at h ≡ rows_from l s id (n - (i + 1)) (i + 1) next (Body i at (next - at) f)
-    rows_hit f t e =
-        rows_kept s id n i r at h f next hit m e place p
-        ∙ ap (λ (b : Bool). rows_from l s id (n - (i + 1)) (i + 1) next (held_with b h i at (next - at) f)) t
-
-    -- that of another row is not
-    pub rows_missed : hit ≡ false → (f : Fields) × (got f next ≡ row_at l s i at)
-        → rows_from l s id (n - i) i at h ≡ rows_from l s id (n - (i + 1)) (i + 1) next h
-    rows_missed t (f, e) =
-        rows_kept s id n i r at h f next hit m e place p
-        ∙ ap (λ (b : Bool). rows_from l s id (n - (i + 1)) (i + 1) next (held_with b h i at (next - at) f)) t
+      (ap₂ (λ (b : Bool) (k : ℕ). held_with b h i at k f) (sym (id_is s id i r hit place p)) len ∙ sym q)
 
   -- ---- the whole image
 

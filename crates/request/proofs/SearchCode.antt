@@ -1,5 +1,5 @@
 -- Laws of the search for the grant that is picked (specs/Decision.antt of `request_spec`), in the code's own form. Assumes nothing.
-use mathlib.Core.Path.{◌≡◌, refl, sym, ap, ap₂, subst, ◌∙◌}
+use mathlib.Core.Path.{◌≡◌, refl, sym, ap, ap₂, ◌∙◌}
 use mathlib.Core.Bool.{Bool, true, false, cond, ◌&&◌, and-false, and-true, and_assoc}
 use mathlib.Core.List.{List}
 use Prim.Native.Nat.{ℕ, suc, ◌+◌, ◌-◌, ◌/◌, ◌%◌, ◌^◌, ◌≤◌, ◌<◌}
@@ -9,16 +9,14 @@ use lib.Dec.{eqb}
 use borrow.Author.Tests.{eq-eqb, ne_eqb}
 use Rattle.resource_spec.specs.Identifier.{levels_place}
 use Rattle.octets.specs.Bytes.{part}
-use Rattle.exact.specs.Reads.{Got, got, refused}
+use Rattle.exact.specs.Reads.{got, refused}
 use Rattle.resource_spec.specs.Text.{levels_match, levels_named}
-use Rattle.descriptor_spec.specs.Model.{Grant}
 use Rattle.descriptor_spec.specs.Reader.{has_mode, GrantSeen, grant_at}
-use Rattle.descriptor_spec.specs.Laws.{InTurn, no_more, one_more}
 use Rattle.octets.proofs.PartLaws.{lent_later}
 use Rattle.request_spec.specs.declared.Matched.{Matched}
 use Rattle.request_spec.specs.declared.Matched.TheVariants.{IsAt, Nothing}
 use Rattle.request_spec.specs.Decision.{serves, names_of, picked_with, pick_from}
-use Rattle.request.specs.Code.{GrantsRead, eligible, picked_of}
+use Rattle.request.specs.Code.{eligible, picked_of}
 
 -- ---- the mode and the constraint pairs
 
@@ -123,39 +121,3 @@ module _ (s r : List ℕ) (mode count at i : ℕ) (best : Matched) where
           ∙ ap (pick_from s r mode (count - (i + 1)) next (i + 1))
           (ap (picked_with (levels_match p r) best i g.mask) (lent_names s r g)
           ∙ found_picked best i g.mask (levels_named p r) (levels_match p r) ∙ sym (n ∙ ap (picked_of best) m))
-
--- ---- grants that were read before
-
--- the place after a grant
-after : Got GrantSeen → ℕ
-after (got g n) = n
-after refused = 0
-
--- the first of some grants reads
-turn_first : {b t : List ℕ} {n at : ℕ} {gs : List Grant} → 0 < n → InTurn b t n at gs → (g : GrantSeen) × (next : ℕ) × (got g next ≡ grant_at b at)
-turn_first h (no_more at) = absurd (omega arith)
-turn_first h (one_more n at next v g gs e f rest) = (v, next, sym e)
-
--- and so do the others, from the place after it on
-turn_rest : {b t : List ℕ} {n at : ℕ} {gs : List Grant} (next : ℕ) → 0 < n → InTurn b t n at gs → next ≡ after (grant_at b at)
-    → GrantsRead b (n - 1) next
-unfolding after
-turn_rest next₂ h (no_more at) x = absurd (omega arith)
-turn_rest {b} {t} next₂ h (one_more n at next v g gs e f rest) x =
-    let same : next₂ ≡ next = x ∙ ap after e in
-    let less : suc n - 1 ≡ n = omega arith in
-    (t, gs, subst (λ k. InTurn b t k next₂ gs) (sym less) (subst (λ p. InTurn b t n p gs) (sym same) rest))
-
--- the first of some grants
-pub first_reads : (b : List ℕ) (n at : ℕ) → 0 < n → GrantsRead b n at → (g : GrantSeen) × (next : ℕ) × (got g next ≡ grant_at b at)
-first_reads b n at h r = turn_first h r.2
-
--- those after it, of which it is known what it is
-pub rest_reads : (b : List ℕ) (n m at : ℕ) {g : GrantSeen} {next : ℕ} → 0 < n → m ≡ n - 1 → GrantsRead b n at → got g next ≡ grant_at b at
-    → GrantsRead b m next
-unfolding after
-rest_reads b n m at {next = next} h e r f = subst (λ k. GrantsRead b k next) (sym e) (turn_rest next h r.2 (ap after f))
-
--- all of them
-pub all_read : (b : List ℕ) (n at : ℕ) → GrantsRead b n at → GrantsRead b (n - 0) at
-all_read b n at r = let e : n - 0 ≡ n = omega arith in subst (λ k. GrantsRead b k at) (sym e) r

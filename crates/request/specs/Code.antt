@@ -2,8 +2,6 @@
 use Rattle.std.specs.Prelude.{◌≡◌, Bool, true, false, cond, ◌&&◌, List, ℕ, ◌+◌, ◌≤◌, length, eqb}
 use Rattle.resource_spec.specs.Identifier.{fay_size, terminal_size}
 use Rattle.descriptor_spec.specs.declared.Fields.{Fields}
-use Rattle.descriptor_spec.specs.Model.{Grant}
-use Rattle.descriptor_spec.specs.Laws.{InTurn}
 use Rattle.descriptor_spec.specs.Reader.{has_mode}
 use Rattle.time.specs.declared.Seconds.{Seconds}
 use Rattle.time.specs.Time.{whole_seconds, plus_at_most}
@@ -31,15 +29,10 @@ use Rattle.image_spec.specs.Readable.{check_of}
 use Rattle.request.specs.declared.examine.Examined.{Examined}
 use Rattle.request.specs.declared.examine.Examined.TheVariants.{On, Apart}
 
--- n grants read one after the other from a place of b on
-abbrev pub GrantsRead : List ℕ → ℕ → ℕ → Type 0
-GrantsRead b n at = (t : List ℕ) × (gs : List Grant) × InTurn b t n at gs
-
--- the identifiers that the steps look at lie in the body, and its grants read
+-- the identifiers that the steps look at lie in the body
 pub record BodyFits (b : List ℕ) (f : Fields) : Type 0 where
   pub fay : f.fay + fay_size ≤ length b
   pub terminal : f.terminal + terminal_size ≤ length b
-  pub grants : GrantsRead b f.grants f.first
 
 -- ---- the arguments
 

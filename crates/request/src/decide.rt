@@ -1,5 +1,5 @@
 // The steps of a request, one after the other.
-ghost use Rattle.std.specs.Prelude.{◌≡◌, true, [], ◌≤◌, length};
+ghost use Rattle.std.specs.Prelude.{◌≡◌, true, [], ◌+◌, ◌≤◌, length};
 ghost use Rattle.resource_spec.specs.Identifier.{terminal_size};
 ghost use Rattle.resource_spec.specs.Text.{resource_ok};
 ghost use Rattle.descriptor_spec.specs.Modes.{highest_mode};
@@ -26,7 +26,7 @@ pub(crate) enum Applicability {
 
 // The grant of the body that is picked; none where the resource is another terminal's.
 fn match_grant(body: &[u8], fields: Fields, resource: &[u8], mode: u64) -> Matched
-    requires { (resource_ok resource.now ≡ true) × (mode ≤ highest_mode) × BodyFits body.now fields }
+    requires { (resource_ok resource.now ≡ true) × (mode ≤ highest_mode) × (fields.terminal + terminal_size ≤ length body.now) }
     ensures { result ≡ matched_on body.now fields resource.now mode }
 {
     let t = fields.terminal;

@@ -5,7 +5,7 @@ ghost use Rattle.descriptor_spec.specs.Modes.{highest_mode};
 ghost use Rattle.octets.specs.Scan.{without};
 ghost use Rattle.request_spec.specs.declared.Matched.TheVariants.{Nothing};
 ghost use Rattle.request_spec.specs.Decision.{pick_from};
-ghost use Rattle.request.specs.Code.{GrantsRead, eligible, picked_of};
+ghost use Rattle.request.specs.Code.{eligible, picked_of};
 
 use descriptor::{GrantFields, GrantRead};
 use request_spec::Matched;
@@ -55,17 +55,17 @@ fn more_exact(best: Matched, found: Matched) -> Matched
     }
 }
 
-// The grant that is picked of the `count` grants from `first` on, which were read before: for each that is eligible, its levels are
-// compared with those of the resource, r.
+// The grant that is picked of the `count` grants from `first` on: for each that is eligible, its levels are compared with those of the
+// resource, r.
 pub(crate) fn pick_grant(s: &[u8], first: usize, count: u64, mode: u64, r: &[u8]) -> Matched
-    requires { (mode ≤ highest_mode) × (without 42 r.now ≡ true) × GrantsRead s.now count first }
+    requires { (mode ≤ highest_mode) × (without 42 r.now ≡ true) }
     ensures { result ≡ pick_from s.now r.now mode count first 0 Nothing }
 {
     let mut i: u64 = 0;
     let mut at = first;
     let mut best = Matched::Nothing;
     while i < count {
-        let GrantRead::IsGrant { fields, next } = descriptor::read_known_grant(s, at) else {
+        let GrantRead::IsGrant { fields, next } = descriptor::read_grant(s, at) else {
             return best;
         };
         if is_eligible(fields.mask, fields.pairs, mode) {

@@ -3,21 +3,20 @@
 use mathlib.Core.Path.{◌≡◌, refl, sym, ap, subst, ◌∙◌}
 use mathlib.Core.Bool.{Bool, true, false, cond, not, ◌&&◌, ◌||◌, and_assoc, and-true, and-false, or-false}
 use mathlib.Core.List.{List, [], ◌∷◌, ◌++◌}
-use Prim.Native.Nat.{ℕ, zero, suc, ◌+◌, ◌-◌, ◌≤◌, ◌<◌}
+use Prim.Native.Nat.{ℕ, suc, ◌+◌, ◌-◌, ◌≤◌, ◌<◌}
 use native.Mathlib.Numerals.{add-one}
 use native.Mathlib.Omega.{arith}
 use lib.ListN.{length, get_or, take, drop, length-append, drop_of_length-le}
 use lib.Seq.{drop-cons, get_or-take, length-take-le, take-length, take-append-add}
 use lib.Dec.{leb, eqb}
-use borrow.Author.Tests.{le-leb, lt-leb, eq-eqb, ne_eqb, eqb-true, eqb-false, leb-true, leb-false}
+use borrow.Author.Tests.{le-leb, lt-leb, eqb-true, eqb-false, leb-true, leb-false}
 use Rattle.octets.specs.Bytes.{same}
 use Rattle.octets.specs.Scan.{without}
-use Rattle.octets.proofs.Tests.{and_right, or_assoc, or_true, or_elim, or_no_left, or_no_right, no_flag}
+use Rattle.octets.proofs.Tests.{or_assoc, or_true, or_elim, or_no_left, or_no_right, no_flag}
 use Rattle.octets.proofs.SameLaws.{same_equal, same_long}
 use Rattle.resource_spec.specs.Level.{is_name_char, all_name_chars, is_name, is_star, is_deep, prefixed, levels, levels_ok}
 use Rattle.resource_spec.proofs.Laws.{levels_one}
-use Rattle.resource.specs.Code.{each_from, is_level_char, may_follow, may_follow_at, follows_from, follows, ends_deep}
-use Rattle.resource.proofs.EachCode.{each_none, each_next}
+use Rattle.resource.specs.Code.{is_level_char, may_follow, follows_from, ends_deep}
 
 -- ---- the characters of a name and "/", by the code's tests
 
@@ -260,7 +259,8 @@ pub ends_long : (s : List ℕ) → ends_deep s ≡ true → 2 ≤ length s
 ends_long s e = let r = deep_parted s e in omega (arith, ap length r.1, length-append r.0 two_stars)
 
 -- where wildcards may stand its levels are well formed exactly where they are without its last byte
-ok_deep : (wild : Bool) (s : List ℕ) → (wild && ends_deep s) ≡ true → levels_ok wild (levels s) ≡ follows_from wild 47 (take (length s - 1) s)
+pub ok_deep : (wild : Bool) (s : List ℕ) → (wild && ends_deep s) ≡ true
+    → levels_ok wild (levels s) ≡ follows_from wild 47 (take (length s - 1) s)
 ok_deep true s e =
     let r = deep_parted s e in
     let t : List ℕ = r.0 in
@@ -269,40 +269,20 @@ ok_deep true s e =
 ok_deep false s e = no_flag e
 
 -- those of another text, or where no wildcard may stand, exactly where its bytes may stand after one another
-ok_flat : (wild : Bool) (s : List ℕ) → (wild && ends_deep s) ≡ false → levels_ok wild (levels s) ≡ follows_from wild 47 s
+pub ok_flat : (wild : Bool) (s : List ℕ) → (wild && ends_deep s) ≡ false → levels_ok wild (levels s) ≡ follows_from wild 47 (take (length s) s)
 ok_flat wild s e =
     let k = leveled s in
-    rw (follows_each wild s, levels_are k.2) (each_ok_lem wild k.0 k.1 (go wild k.2 e))
+    rw (take-length s, follows_each wild s, levels_are k.2) (each_ok_lem wild k.0 k.1 (go wild k.2 e))
   where
     go : (w : Bool) {l : List ℕ} {ls : List (List ℕ)} → Leveled s l ls → (w && ends_deep s) ≡ false → (w && last_deep l ls) ≡ false
     go true k f = not_deep k f
     go false k f = refl
 
--- ---- the same of a text that begins with "/", and of the levels after it
-
--- it has a byte at least
-pub slash_long : (s : List ℕ) → get_or s 0 0 ≡ 47 → 0 < length s
-slash_long [] e = absurd (omega (arith, e))
-slash_long (b ∷ s) e = omega arith
-
--- where wildcards may stand, and it ends with "**", its bytes decide without the last
-pub after_deep : (wild : Bool) (s : List ℕ) → get_or s 0 0 ≡ 47 → (wild && ends_deep s) ≡ true
-    → levels_ok wild (levels (drop 1 s)) ≡ follows wild (take (length s - 1) s)
-unfolding ends_deep same follows
-after_deep wild [] e f = absurd (omega (arith, e))
-after_deep wild (b ∷ s) e f =
-    let g : (wild && ends_deep s) ≡ true = rw e at f in
-    let n : suc (length s) - 1 ≡ suc (length s - 1) = omega (arith, ends_long s (and_right wild (ends_deep s) g)) in
-    rw (n, e) (ok_deep wild s g)
-
--- else all its bytes do
-pub after_flat : (wild : Bool) (s : List ℕ) → get_or s 0 0 ≡ 47 → (wild && ends_deep s) ≡ false
-    → levels_ok wild (levels (drop 1 s)) ≡ follows wild (take (length s) s)
-unfolding ends_deep same follows
-after_flat wild [] e f = absurd (omega (arith, e))
-after_flat wild (b ∷ s) e f =
-    let g : (wild && ends_deep s) ≡ false = rw e at f in
-    rw (take-length s, e) (ok_flat wild s g)
+-- those of an empty text are not
+pub ok_none : (wild : Bool) (s : List ℕ) → length s ≡ 0 → levels_ok wild (levels s) ≡ false
+unfolding ends_deep follows_from
+ok_none wild [] e = ok_flat wild [] (and-false wild)
+ok_none wild (b ∷ s) e = absurd (omega arith)
 
 -- ---- the code's tests
 
@@ -326,34 +306,11 @@ ends_two (a ∷ b ∷ c ∷ s) h =
     let n : suc (suc (suc (length s))) - 1 ≡ suc (suc (suc (length s)) - 1) = omega arith in
     rw (m, n, same_long (a ∷ b ∷ c ∷ s) two_stars (λ q. omega arith)) (ends_two (b ∷ c ∷ s) (omega arith))
 
--- ---- the first n bytes, pair by pair
+-- ---- the first n bytes, as a loop takes them
 
-module _ (wild : Bool) (s : List ℕ) where
-  -- one pair more, from a place on
-  pub pair_next : (at i : ℕ) → each_from (may_follow_at wild s) at (i + 1)
-      ≡ (each_from (may_follow_at wild s) at i && may_follow wild (get_or s (at + i) 0) (get_or s (at + i + 1) 0))
-  unfolding may_follow_at
-  pair_next at i = each_next (may_follow_at wild s) at i
-
-  -- the pair whose second byte is at i
-  pub pair_before : (i : ℕ) → 1 ≤ i → each_from (may_follow_at wild s) 0 (i + 1 - 1)
-      ≡ (each_from (may_follow_at wild s) 0 (i - 1) && may_follow wild (get_or s (i - 1) 0) (get_or s i 0))
-  pair_before i h =
-      let last : i + 1 - 1 ≡ i - 1 + 1 = omega arith in
-      let here : 0 + (i - 1) ≡ i - 1 = omega arith in
-      let next : i - 1 + 1 ≡ i = omega arith in
-      ap (each_from (may_follow_at wild s) 0) last ∙ pair_next 0 (i - 1) ∙ rw (here, next)
-
--- a text that has a byte
-follows_first : (wild : Bool) (s : List ℕ) → 0 < length s → follows wild s ≡ follows_from wild (get_or s 0 0) (drop 1 s)
-unfolding follows
-follows_first wild [] h = absurd (omega arith)
-follows_first wild (b ∷ s) h = refl
-
--- the first n bytes may stand after one another exactly where the first k pairs may, and the bytes after them after the last of these
-abbrev Left : Bool → List ℕ → ℕ → ℕ → Type 0
-Left wild s n k = follows wild (take n s)
-    ≡ (each_from (may_follow_at wild s) 0 k && follows_from wild (get_or s k 0) (drop (k + 1) (take n s)))
+-- they are well-formed levels exactly where `ok`, and the bytes from i on may stand after the one before them
+abbrev pub Left : Bool → List ℕ → ℕ → Bool → ℕ → Type 0
+Left wild s n ok i = follows_from wild 47 (take n s) ≡ (ok && follows_from wild (get_or s (i - 1) 0) (drop i (take n s)))
 
 module _ (wild : Bool) (s : List ℕ) (n : ℕ) (h : n ≤ length s) where
   -- the byte at i, and those after it
@@ -362,36 +319,20 @@ module _ (wild : Bool) (s : List ℕ) (n : ℕ) (h : n ≤ length s) where
   unfolding follows_from
   follow_byte a i k = rw (drop-cons (take n s) i 0 (omega (arith, length-take-le n s h)), get_or-take n s i 0 k, add-one i)
 
-  -- before the first pair
-  left_first : 0 < n → Left wild s n 0
-  left_first k =
-      follows_first wild (take n s) (omega (arith, length-take-le n s h))
-      ∙ rw (← each_none (may_follow_at wild s) 0, get_or-take n s 0 0 k)
+  -- the first byte
+  pub left_first : 0 < n → Left wild s n (may_follow wild 47 (get_or s 0 0)) 1
+  left_first k = follow_byte 47 0 k
 
-  -- one pair more
-  left_next : (k : ℕ) → k + 1 < n → Left wild s n k → Left wild s n (k + 1)
-  left_next k l e =
-      let here : 0 + k ≡ k = omega arith in
-      e ∙ rw (follow_byte (get_or s k 0) (k + 1) l, pair_next wild s 0 k, here)
-      (sym (and_assoc (each_from (may_follow_at wild s) 0 k) (may_follow wild (get_or s k 0) (get_or s (k + 1) 0))
-      (follows_from wild (get_or s (k + 1) 0) (drop (k + 1 + 1) (take n s)))))
+  -- the next one
+  pub left_next : (ok : Bool) (i : ℕ) → i < n → Left wild s n ok i
+      → Left wild s n (ok && may_follow wild (get_or s (i - 1) 0) (get_or s i 0)) (i + 1)
+  left_next ok i k e =
+      let here : i + 1 - 1 ≡ i = omega arith in
+      e ∙ rw (here, follow_byte (get_or s (i - 1) 0) i k)
+      (sym (and_assoc ok (may_follow wild (get_or s (i - 1) 0) (get_or s i 0)) (follows_from wild (get_or s i 0) (drop (i + 1) (take n s)))))
 
-  -- so it is of any number of pairs
-  left_any : (k : ℕ) → k < n → Left wild s n k
-  left_any zero l = left_first l
-  left_any (suc k) l = subst (Left wild s n) (add-one k) (left_next k (omega arith) (left_any k (omega arith)))
-
-  -- with all of them the last byte decides
-  left_none : 0 < n → follows wild (take n s) ≡ (each_from (may_follow_at wild s) 0 (n - 1) && not (eqb (get_or s (n - 1) 0) 47))
+  -- no more
+  pub left_none : (ok : Bool) (i : ℕ) → i ≡ n → Left wild s n ok i
+      → (ok && not (eqb (get_or s (n - 1) 0) 47)) ≡ follows_from wild 47 (take n s)
   unfolding follows_from
-  left_none k =
-      let all : n - 1 + 1 ≡ n = omega arith in
-      left_any (n - 1) (omega arith) ∙ rw (all, drop_of_length-le (take n s) {i = n} (omega (arith, length-take-le n s h)))
-
-  -- which may not be "/"
-  pub ends_slash : 0 < n → get_or s (n - 1) 0 ≡ 47 → follows wild (take n s) ≡ false
-  ends_slash k e = left_none k ∙ rw (eq-eqb (get_or s (n - 1) 0) 47 e) (and-false (each_from (may_follow_at wild s) 0 (n - 1)))
-
-  -- and where it is not the pairs decide
-  pub ends_byte : 0 < n → (get_or s (n - 1) 0 ≡ 47 → ⊥) → follows wild (take n s) ≡ each_from (may_follow_at wild s) 0 (n - 1)
-  ends_byte k e = left_none k ∙ rw (ne_eqb (get_or s (n - 1) 0) 47 e) (and-true (each_from (may_follow_at wild s) 0 (n - 1)))
+  left_none ok i k e = sym (e ∙ rw (k, drop_of_length-le (take n s) {i = n} (omega (arith, length-take-le n s h))))

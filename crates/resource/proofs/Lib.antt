@@ -1,5 +1,4 @@
 pub mod FormCode
-pub mod EachCode
 pub mod FollowCode
 pub mod TextCode
 pub mod FirstLevelLaws

@@ -6,7 +6,7 @@ use mathlib.Core.List.{List, [], ◌∷◌, ◌++◌}
 use Prim.Native.Nat.{ℕ, ◌+◌, ◌-◌, ◌≤◌}
 use native.Mathlib.Omega.{arith}
 use lib.ListN.{length, get_or, drop, take, length-take, get_or-append}
-use lib.Seq.{length-take-le, split_at, take_all, get_or-drop, drop-drop}
+use lib.Seq.{length-take-le, split_at, take_all}
 use lib.Dec.{leb, eqb}
 use borrow.Author.Tests.{leb-true, eqb-true, le-leb, eq-eqb}
 use Rattle.octets.specs.Bytes.{same}
@@ -65,14 +65,6 @@ below_says wild s e =
 below_known : (wild : Bool) (s : List ℕ) → Below wild s → below_ok wild s ≡ true
 unfolding below_ok
 below_known wild s b = rw (b.short, le-leb levels_place (length s) b.long, eq-eqb (get_or s terminal_size 0) 47 b.slash, b.fine)
-
--- the part that the code hands on begins with the byte after the first 45
-pub slash_first : (s : List ℕ) → get_or s terminal_size 0 ≡ 47 → get_or (take (length s - terminal_size) (drop terminal_size s)) 0 0 ≡ 47
-slash_first s e = rw (part_to_end s terminal_size, get_or-drop terminal_size s 0 0) e
-
--- and has the levels after it
-pub after_slash : (s : List ℕ) → drop 1 (take (length s - terminal_size) (drop terminal_size s)) ≡ drop levels_place s
-after_slash s = ap (drop 1) (part_to_end s terminal_size) ∙ drop-drop 1 terminal_size s
 
 -- two tests of which each holds where the other does are the same
 both_hold : (a b : Bool) → (a ≡ true → b ≡ true) → (b ≡ true → a ≡ true) → a ≡ b

@@ -16,22 +16,24 @@ use Rattle.descriptor.proofs.GrantCode.{grants_begin, grants_next, grants_stop, 
 use Rattle.descriptor.proofs.grants.grants_at.Goals as goal
 
 pub returns-in_default : goal.returns-in_default
-unfolding grants_at
-returns-in_default c = stopped _ (sym (ap count_read c.in_default.is) ∙ c.grant_count.ensures)
+unfolding grants_at k_grants
+returns-in_default c = stopped _ (sym (ap count_read c.in_default.is) ∙ c.keyed_count.ensures)
 
 pub returns-in_default-grant_at : goal.returns-in_default-grant_at
-unfolding grants_at
-returns-in_default-grant_at c = took _ ((let the_counted : got c.in-IsCount.value c.in-IsCount.next ≡ keyed_at c.args.s.now c.args.at k_grants (λ n. count_at c.args.s.now n 4 1 256) = sym (ap count_read c.in-IsCount.is) ∙ c.grant_count.ensures in the_counted))
+unfolding grants_at k_grants
+returns-in_default-grant_at c = took _ ((let the_counted : got c.in-IsCount.value c.in-IsCount.next ≡ keyed_at c.args.s.now c.args.at k_grants (λ n. count_at c.args.s.now n 4 1 256) = sym (ap count_read c.in-IsCount.is) ∙ c.keyed_count.ensures in the_counted))
     (stopped _ (sym (ap grant_read c.in_default-grant_at.is) ∙ c.grant_at.ensures))
 
 pub overflow_sub-left : goal.overflow_sub-left
-overflow_sub-left c = omega (arith, ((let the_limits : (1 ≤ c.in-IsCount.value) × (c.in-IsCount.value ≤ 256) = count_room _ _ k_grants 4 1 256 ((let the_counted : got c.in-IsCount.value c.in-IsCount.next ≡ keyed_at c.args.s.now c.args.at k_grants (λ n. count_at c.args.s.now n 4 1 256) = sym (ap count_read c.in-IsCount.is) ∙ c.grant_count.ensures in the_counted)) in the_limits)).0)
+unfolding k_grants
+overflow_sub-left c = omega (arith, ((let the_limits : (1 ≤ c.in-IsCount.value) × (c.in-IsCount.value ≤ 256) = count_room _ _ k_grants 4 1 256 ((let the_counted : got c.in-IsCount.value c.in-IsCount.next ≡ keyed_at c.args.s.now c.args.at k_grants (λ n. count_at c.args.s.now n 4 1 256) = sym (ap count_read c.in-IsCount.is) ∙ c.keyed_count.ensures in the_counted)) in the_limits)).0)
 
 pub loop-left-init : goal.loop-left-init
+unfolding k_grants
 loop-left-init c =
     let e = sym (ap grant_read c.in-IsGrant.is) ∙ c.grant_at.ensures in
     let r = grant_room _ _ e in
-    (omega (arith, r.long, r.fits), grant_terminal _ _ e, omega (arith, r.few, ((let the_limits : (1 ≤ c.in-IsCount.value) × (c.in-IsCount.value ≤ 256) = count_room _ _ k_grants 4 1 256 ((let the_counted : got c.in-IsCount.value c.in-IsCount.next ≡ keyed_at c.args.s.now c.args.at k_grants (λ n. count_at c.args.s.now n 4 1 256) = sym (ap count_read c.in-IsCount.is) ∙ c.grant_count.ensures in the_counted)) in the_limits)).1), grants_begin _ _ ((let the_counted : got c.in-IsCount.value c.in-IsCount.next ≡ keyed_at c.args.s.now c.args.at k_grants (λ n. count_at c.args.s.now n 4 1 256) = sym (ap count_read c.in-IsCount.is) ∙ c.grant_count.ensures in the_counted)) e)
+    (omega (arith, r.long, r.fits), grant_terminal _ _ e, omega (arith, r.few, ((let the_limits : (1 ≤ c.in-IsCount.value) × (c.in-IsCount.value ≤ 256) = count_room _ _ k_grants 4 1 256 ((let the_counted : got c.in-IsCount.value c.in-IsCount.next ≡ keyed_at c.args.s.now c.args.at k_grants (λ n. count_at c.args.s.now n 4 1 256) = sym (ap count_read c.in-IsCount.is) ∙ c.keyed_count.ensures in the_counted)) in the_limits)).1), grants_begin _ _ ((let the_counted : got c.in-IsCount.value c.in-IsCount.next ≡ keyed_at c.args.s.now c.args.at k_grants (λ n. count_at c.args.s.now n 4 1 256) = sym (ap count_read c.in-IsCount.is) ∙ c.keyed_count.ensures in the_counted)) e)
 
 pub more_at-requires : goal.more_at-requires
 more_at-requires c = let i = c.loop-left.invariant in record {

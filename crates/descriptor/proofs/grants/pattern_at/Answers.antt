@@ -21,8 +21,3 @@ pub returns-in-At : goal.returns-in-At
 returns-in-At c =
     let a = c.args in
     c.pattern_under_at.ensures ∙ ap (λ (t : TerminalId). pattern_at a.s.now t a.at) (sym c.in-At.is)
-
-pub returns-in-Known : goal.returns-in-Known
-returns-in-Known c =
-    let a = c.args in
-    c.known_pattern_at.ensures ∙ ap (λ (t : TerminalId). pattern_at a.s.now t a.at) (sym c.in-Known.is)

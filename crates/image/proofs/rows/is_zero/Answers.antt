@@ -1,10 +1,7 @@
 -- `is_zero` meets its contract.
 use native.Mathlib.Omega.{arith}
-use Rattle.image.proofs.CheckCode.{zero_few, zero_none, zero_more, zero_not, zero_all}
+use Rattle.image.proofs.CheckCode.{zero_none, zero_more, zero_not, zero_all}
 use Rattle.image.proofs.rows.is_zero.Goals as goal
-
-pub returns-then-n-eq-ZERO_SIZE : goal.returns-then-n-eq-ZERO_SIZE
-returns-then-n-eq-ZERO_SIZE c = zero_few _ _ _ _ _ c.if-n-eq-ZERO_SIZE.true (omega arith) (omega arith) c.number_at.ensures.value
 
 pub loop-i-init : goal.loop-i-init
 loop-i-init c = (omega arith, zero_none _ _)

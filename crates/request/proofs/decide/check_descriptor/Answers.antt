@@ -39,7 +39,7 @@ returns-then-not-same_bytes-2 c =
     (fails (lent_same _ _ c.args.fields.terminal terminal_size c.same_bytes-2.ensures ∙ c.if-not-same_bytes-2.true)))))
 
 pub match_grant-requires : goal.match_grant-requires
-match_grant-requires c = c.requires
+match_grant-requires c = let p = c.requires in (p.0, p.1, p.2.terminal)
 
 pub returns-in-IsAt : goal.returns-in-IsAt
 unfolding descriptor_steps

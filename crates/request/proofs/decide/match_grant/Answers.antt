@@ -24,7 +24,7 @@ slice_bounds-pick_grant-start c = omega (arith, (resource_short _ c.requires.0).
 
 pub pick_grant-requires : goal.pick_grant-requires
 pick_grant-requires c =
-    (c.requires.1, ap (without 42) (part_to_end c.args.resource.now levels_place) ∙ resource_starless _ c.requires.0, c.requires.2.grants)
+    (c.requires.1, ap (without 42) (part_to_end c.args.resource.now levels_place) ∙ resource_starless _ c.requires.0)
 
 pub returns : goal.returns
 returns c =

@@ -17,88 +17,36 @@ use Rattle.descriptor_spec.proofs.Laws.{pattern_room}
 use Rattle.resource.specs.declared.LevelStep.TheVariants.{Finish}
 use Rattle.request_spec.specs.Decision.{pick_from}
 use Rattle.request.proofs.SearchCode.{pick_begin, pick_done, pick_stop, pick_not, pick_found, found_of, found_none, found_one}
-use Rattle.request.proofs.SearchCode.{lent_levels, next_counts, first_reads, rest_reads, all_read}
+use Rattle.request.proofs.SearchCode.{lent_levels, next_counts}
 use Rattle.request.proofs.search.pick_grant.Goals as goal
 use Rattle.request.proofs.search.pick_grant.Goals.{then-is_eligible, in-Differ, in-Finish, else-is_eligible}
 
 pub loop-i-init : goal.loop-i-init
-loop-i-init c = (omega arith, pick_begin _ _ _ _ _, all_read _ _ _ c.requires.2)
+loop-i-init c = (omega arith, pick_begin _ _ _ _ _)
 
 pub returns-in_default : goal.returns-in_default
 returns-in_default c =
     sym (c.loop-i.invariant.1
-    ∙ pick_stop _ _ _ _ _ _ _ c.loop-i-test.true (sym (ap grant_read c.in_default.is) ∙ (let the_read_before : grant_read c.read_known_grant.result ≡ grant_at c.args.s.now c.loop-i.at = let a = c.args in
-    let w = first_reads a.s.now (a.count - c.loop-i.i) c.loop-i.at (omega (arith, c.loop-i-test.true)) c.loop-i.invariant.2 in
-    sym (c.read_known_grant.ensures w.0 w.1 w.2) ∙ w.2 in the_read_before)))
+    ∙ pick_stop _ _ _ _ _ _ _ c.loop-i-test.true (sym (ap grant_read c.in_default.is) ∙ c.read_grant.ensures))
 
 pub overflow_add-p : goal.overflow_add-p
-overflow_add-p c = omega (
-  arith,
-  ((let the_inside : (levels_place ≤ c.in-IsGrant.fields.len) × (c.in-IsGrant.fields.pattern + c.in-IsGrant.fields.len ≤ length c.args.s.now) = pattern_room _ _ _ _ ((let the_seen : grant_read (IsGrant c.in-IsGrant.fields c.in-IsGrant.next) ≡ grant_at c.args.s.now c.loop-i.at = sym (ap grant_read c.in-IsGrant.is) ∙ (let the_read_before : grant_read c.read_known_grant.result ≡ grant_at c.args.s.now c.loop-i.at = let a = c.args in
-      let w = first_reads a.s.now (a.count - c.loop-i.i) c.loop-i.at (omega (arith, c.loop-i-test.true)) c.loop-i.invariant.2 in
-      sym (c.read_known_grant.ensures w.0 w.1 w.2) ∙ w.2 in the_read_before) in the_seen)) in the_inside)).0,
-  ((let the_inside : (levels_place ≤ c.in-IsGrant.fields.len) × (c.in-IsGrant.fields.pattern + c.in-IsGrant.fields.len ≤ length c.args.s.now) = pattern_room _ _ _ _ ((let the_seen : grant_read (IsGrant c.in-IsGrant.fields c.in-IsGrant.next) ≡ grant_at c.args.s.now c.loop-i.at = sym (ap grant_read c.in-IsGrant.is) ∙ (let the_read_before : grant_read c.read_known_grant.result ≡ grant_at c.args.s.now c.loop-i.at = let a = c.args in
-      let w = first_reads a.s.now (a.count - c.loop-i.i) c.loop-i.at (omega (arith, c.loop-i-test.true)) c.loop-i.invariant.2 in
-      sym (c.read_known_grant.ensures w.0 w.1 w.2) ∙ w.2 in the_read_before) in the_seen)) in the_inside)).1,
-)
+overflow_add-p c = omega (arith, ((let the_inside : (levels_place ≤ c.in-IsGrant.fields.len) × (c.in-IsGrant.fields.pattern + c.in-IsGrant.fields.len ≤ length c.args.s.now) = pattern_room _ _ _ _ ((let the_seen : grant_read (IsGrant c.in-IsGrant.fields c.in-IsGrant.next) ≡ grant_at c.args.s.now c.loop-i.at = sym (ap grant_read c.in-IsGrant.is) ∙ c.read_grant.ensures in the_seen)) in the_inside)).0, ((let the_inside : (levels_place ≤ c.in-IsGrant.fields.len) × (c.in-IsGrant.fields.pattern + c.in-IsGrant.fields.len ≤ length c.args.s.now) = pattern_room _ _ _ _ ((let the_seen : grant_read (IsGrant c.in-IsGrant.fields c.in-IsGrant.next) ≡ grant_at c.args.s.now c.loop-i.at = sym (ap grant_read c.in-IsGrant.is) ∙ c.read_grant.ensures in the_seen)) in the_inside)).1)
 
 pub overflow_add-p-then-is_eligible : goal.overflow_add-p-then-is_eligible
-overflow_add-p-then-is_eligible c = omega (
-  arith,
-  ((let the_inside : (levels_place ≤ c.in-IsGrant.fields.len) × (c.in-IsGrant.fields.pattern + c.in-IsGrant.fields.len ≤ length c.args.s.now) = pattern_room _ _ _ _ ((let the_seen : grant_read (IsGrant c.in-IsGrant.fields c.in-IsGrant.next) ≡ grant_at c.args.s.now c.loop-i.at = sym (ap grant_read c.in-IsGrant.is) ∙ (let the_read_before : grant_read c.read_known_grant.result ≡ grant_at c.args.s.now c.loop-i.at = let a = c.args in
-      let w = first_reads a.s.now (a.count - c.loop-i.i) c.loop-i.at (omega (arith, c.loop-i-test.true)) c.loop-i.invariant.2 in
-      sym (c.read_known_grant.ensures w.0 w.1 w.2) ∙ w.2 in the_read_before) in the_seen)) in the_inside)).1,
-)
+overflow_add-p-then-is_eligible c = omega (arith, ((let the_inside : (levels_place ≤ c.in-IsGrant.fields.len) × (c.in-IsGrant.fields.pattern + c.in-IsGrant.fields.len ≤ length c.args.s.now) = pattern_room _ _ _ _ ((let the_seen : grant_read (IsGrant c.in-IsGrant.fields c.in-IsGrant.next) ≡ grant_at c.args.s.now c.loop-i.at = sym (ap grant_read c.in-IsGrant.is) ∙ c.read_grant.ensures in the_seen)) in the_inside)).1)
 
 pub slice_bounds-p-count : goal.slice_bounds-p-count
-slice_bounds-p-count c = omega (
-  arith,
-  ((let the_inside : (levels_place ≤ c.in-IsGrant.fields.len) × (c.in-IsGrant.fields.pattern + c.in-IsGrant.fields.len ≤ length c.args.s.now) = pattern_room _ _ _ _ ((let the_seen : grant_read (IsGrant c.in-IsGrant.fields c.in-IsGrant.next) ≡ grant_at c.args.s.now c.loop-i.at = sym (ap grant_read c.in-IsGrant.is) ∙ (let the_read_before : grant_read c.read_known_grant.result ≡ grant_at c.args.s.now c.loop-i.at = let a = c.args in
-      let w = first_reads a.s.now (a.count - c.loop-i.i) c.loop-i.at (omega (arith, c.loop-i-test.true)) c.loop-i.invariant.2 in
-      sym (c.read_known_grant.ensures w.0 w.1 w.2) ∙ w.2 in the_read_before) in the_seen)) in the_inside)).0,
-  ((let the_inside : (levels_place ≤ c.in-IsGrant.fields.len) × (c.in-IsGrant.fields.pattern + c.in-IsGrant.fields.len ≤ length c.args.s.now) = pattern_room _ _ _ _ ((let the_seen : grant_read (IsGrant c.in-IsGrant.fields c.in-IsGrant.next) ≡ grant_at c.args.s.now c.loop-i.at = sym (ap grant_read c.in-IsGrant.is) ∙ (let the_read_before : grant_read c.read_known_grant.result ≡ grant_at c.args.s.now c.loop-i.at = let a = c.args in
-      let w = first_reads a.s.now (a.count - c.loop-i.i) c.loop-i.at (omega (arith, c.loop-i-test.true)) c.loop-i.invariant.2 in
-      sym (c.read_known_grant.ensures w.0 w.1 w.2) ∙ w.2 in the_read_before) in the_seen)) in the_inside)).1,
-)
+slice_bounds-p-count c = omega (arith, ((let the_inside : (levels_place ≤ c.in-IsGrant.fields.len) × (c.in-IsGrant.fields.pattern + c.in-IsGrant.fields.len ≤ length c.args.s.now) = pattern_room _ _ _ _ ((let the_seen : grant_read (IsGrant c.in-IsGrant.fields c.in-IsGrant.next) ≡ grant_at c.args.s.now c.loop-i.at = sym (ap grant_read c.in-IsGrant.is) ∙ c.read_grant.ensures in the_seen)) in the_inside)).0, ((let the_inside : (levels_place ≤ c.in-IsGrant.fields.len) × (c.in-IsGrant.fields.pattern + c.in-IsGrant.fields.len ≤ length c.args.s.now) = pattern_room _ _ _ _ ((let the_seen : grant_read (IsGrant c.in-IsGrant.fields c.in-IsGrant.next) ≡ grant_at c.args.s.now c.loop-i.at = sym (ap grant_read c.in-IsGrant.is) ∙ c.read_grant.ensures in the_seen)) in the_inside)).1)
 
 pub slice_bounds-p-start : goal.slice_bounds-p-start
-slice_bounds-p-start c = omega (
-  arith,
-  ((let the_inside : (levels_place ≤ c.in-IsGrant.fields.len) × (c.in-IsGrant.fields.pattern + c.in-IsGrant.fields.len ≤ length c.args.s.now) = pattern_room _ _ _ _ ((let the_seen : grant_read (IsGrant c.in-IsGrant.fields c.in-IsGrant.next) ≡ grant_at c.args.s.now c.loop-i.at = sym (ap grant_read c.in-IsGrant.is) ∙ (let the_read_before : grant_read c.read_known_grant.result ≡ grant_at c.args.s.now c.loop-i.at = let a = c.args in
-      let w = first_reads a.s.now (a.count - c.loop-i.i) c.loop-i.at (omega (arith, c.loop-i-test.true)) c.loop-i.invariant.2 in
-      sym (c.read_known_grant.ensures w.0 w.1 w.2) ∙ w.2 in the_read_before) in the_seen)) in the_inside)).0,
-  ((let the_inside : (levels_place ≤ c.in-IsGrant.fields.len) × (c.in-IsGrant.fields.pattern + c.in-IsGrant.fields.len ≤ length c.args.s.now) = pattern_room _ _ _ _ ((let the_seen : grant_read (IsGrant c.in-IsGrant.fields c.in-IsGrant.next) ≡ grant_at c.args.s.now c.loop-i.at = sym (ap grant_read c.in-IsGrant.is) ∙ (let the_read_before : grant_read c.read_known_grant.result ≡ grant_at c.args.s.now c.loop-i.at = let a = c.args in
-      let w = first_reads a.s.now (a.count - c.loop-i.i) c.loop-i.at (omega (arith, c.loop-i-test.true)) c.loop-i.invariant.2 in
-      sym (c.read_known_grant.ensures w.0 w.1 w.2) ∙ w.2 in the_read_before) in the_seen)) in the_inside)).1,
-)
+slice_bounds-p-start c = omega (arith, ((let the_inside : (levels_place ≤ c.in-IsGrant.fields.len) × (c.in-IsGrant.fields.pattern + c.in-IsGrant.fields.len ≤ length c.args.s.now) = pattern_room _ _ _ _ ((let the_seen : grant_read (IsGrant c.in-IsGrant.fields c.in-IsGrant.next) ≡ grant_at c.args.s.now c.loop-i.at = sym (ap grant_read c.in-IsGrant.is) ∙ c.read_grant.ensures in the_seen)) in the_inside)).0, ((let the_inside : (levels_place ≤ c.in-IsGrant.fields.len) × (c.in-IsGrant.fields.pattern + c.in-IsGrant.fields.len ≤ length c.args.s.now) = pattern_room _ _ _ _ ((let the_seen : grant_read (IsGrant c.in-IsGrant.fields c.in-IsGrant.next) ≡ grant_at c.args.s.now c.loop-i.at = sym (ap grant_read c.in-IsGrant.is) ∙ c.read_grant.ensures in the_seen)) in the_inside)).1)
 
 pub slice_bounds-p-end : goal.slice_bounds-p-end
-slice_bounds-p-end c = omega (
-  arith,
-  ((let the_inside : (levels_place ≤ c.in-IsGrant.fields.len) × (c.in-IsGrant.fields.pattern + c.in-IsGrant.fields.len ≤ length c.args.s.now) = pattern_room _ _ _ _ ((let the_seen : grant_read (IsGrant c.in-IsGrant.fields c.in-IsGrant.next) ≡ grant_at c.args.s.now c.loop-i.at = sym (ap grant_read c.in-IsGrant.is) ∙ (let the_read_before : grant_read c.read_known_grant.result ≡ grant_at c.args.s.now c.loop-i.at = let a = c.args in
-      let w = first_reads a.s.now (a.count - c.loop-i.i) c.loop-i.at (omega (arith, c.loop-i-test.true)) c.loop-i.invariant.2 in
-      sym (c.read_known_grant.ensures w.0 w.1 w.2) ∙ w.2 in the_read_before) in the_seen)) in the_inside)).0,
-  ((let the_inside : (levels_place ≤ c.in-IsGrant.fields.len) × (c.in-IsGrant.fields.pattern + c.in-IsGrant.fields.len ≤ length c.args.s.now) = pattern_room _ _ _ _ ((let the_seen : grant_read (IsGrant c.in-IsGrant.fields c.in-IsGrant.next) ≡ grant_at c.args.s.now c.loop-i.at = sym (ap grant_read c.in-IsGrant.is) ∙ (let the_read_before : grant_read c.read_known_grant.result ≡ grant_at c.args.s.now c.loop-i.at = let a = c.args in
-      let w = first_reads a.s.now (a.count - c.loop-i.i) c.loop-i.at (omega (arith, c.loop-i-test.true)) c.loop-i.invariant.2 in
-      sym (c.read_known_grant.ensures w.0 w.1 w.2) ∙ w.2 in the_read_before) in the_seen)) in the_inside)).1,
-)
+slice_bounds-p-end c = omega (arith, ((let the_inside : (levels_place ≤ c.in-IsGrant.fields.len) × (c.in-IsGrant.fields.pattern + c.in-IsGrant.fields.len ≤ length c.args.s.now) = pattern_room _ _ _ _ ((let the_seen : grant_read (IsGrant c.in-IsGrant.fields c.in-IsGrant.next) ≡ grant_at c.args.s.now c.loop-i.at = sym (ap grant_read c.in-IsGrant.is) ∙ c.read_grant.ensures in the_seen)) in the_inside)).0, ((let the_inside : (levels_place ≤ c.in-IsGrant.fields.len) × (c.in-IsGrant.fields.pattern + c.in-IsGrant.fields.len ≤ length c.args.s.now) = pattern_room _ _ _ _ ((let the_seen : grant_read (IsGrant c.in-IsGrant.fields c.in-IsGrant.next) ≡ grant_at c.args.s.now c.loop-i.at = sym (ap grant_read c.in-IsGrant.is) ∙ c.read_grant.ensures in the_seen)) in the_inside)).1)
 
 pub levels-init : goal.levels-init
-levels-init c = (
-  omega arith,
-  c.requires.1,
-  refl,
-  sym (zero-add _),
-  omega (
-    arith,
-    ((let the_inside : (levels_place ≤ c.in-IsGrant.fields.len) × (c.in-IsGrant.fields.pattern + c.in-IsGrant.fields.len ≤ length c.args.s.now) = pattern_room _ _ _ _ ((let the_seen : grant_read (IsGrant c.in-IsGrant.fields c.in-IsGrant.next) ≡ grant_at c.args.s.now c.loop-i.at = sym (ap grant_read c.in-IsGrant.is) ∙ (let the_read_before : grant_read c.read_known_grant.result ≡ grant_at c.args.s.now c.loop-i.at = let a = c.args in
-        let w = first_reads a.s.now (a.count - c.loop-i.i) c.loop-i.at (omega (arith, c.loop-i-test.true)) c.loop-i.invariant.2 in
-        sym (c.read_known_grant.ensures w.0 w.1 w.2) ∙ w.2 in the_read_before) in the_seen)) in the_inside)).0,
-    ((let the_inside : (levels_place ≤ c.in-IsGrant.fields.len) × (c.in-IsGrant.fields.pattern + c.in-IsGrant.fields.len ≤ length c.args.s.now) = pattern_room _ _ _ _ ((let the_seen : grant_read (IsGrant c.in-IsGrant.fields c.in-IsGrant.next) ≡ grant_at c.args.s.now c.loop-i.at = sym (ap grant_read c.in-IsGrant.is) ∙ (let the_read_before : grant_read c.read_known_grant.result ≡ grant_at c.args.s.now c.loop-i.at = let a = c.args in
-        let w = first_reads a.s.now (a.count - c.loop-i.i) c.loop-i.at (omega (arith, c.loop-i-test.true)) c.loop-i.invariant.2 in
-        sym (c.read_known_grant.ensures w.0 w.1 w.2) ∙ w.2 in the_read_before) in the_seen)) in the_inside)).1,
-  ),
-)
+levels-init c =
+    (omega arith, c.requires.1, refl, sym (zero-add _), omega (arith, ((let the_inside : (levels_place ≤ c.in-IsGrant.fields.len) × (c.in-IsGrant.fields.pattern + c.in-IsGrant.fields.len ≤ length c.args.s.now) = pattern_room _ _ _ _ ((let the_seen : grant_read (IsGrant c.in-IsGrant.fields c.in-IsGrant.next) ≡ grant_at c.args.s.now c.loop-i.at = sym (ap grant_read c.in-IsGrant.is) ∙ c.read_grant.ensures in the_seen)) in the_inside)).0, ((let the_inside : (levels_place ≤ c.in-IsGrant.fields.len) × (c.in-IsGrant.fields.pattern + c.in-IsGrant.fields.len ≤ length c.args.s.now) = pattern_room _ _ _ _ ((let the_seen : grant_read (IsGrant c.in-IsGrant.fields c.in-IsGrant.next) ≡ grant_at c.args.s.now c.loop-i.at = sym (ap grant_read c.in-IsGrant.is) ∙ c.read_grant.ensures in the_seen)) in the_inside)).1))
 
 pub overflow_add-found : goal.overflow_add-found
 overflow_add-found c =
@@ -198,9 +146,8 @@ loop-i-preserved c =
     let h = c.loop-i-test.true in
     let a = c.args in
     let g = c.in-IsGrant.fields in
-    let reads = first_reads a.s.now (a.count - c.loop-i.i) c.loop-i.at (omega (arith, h)) c.loop-i.invariant.2 in
     let seen : grant_read (IsGrant g c.in-IsGrant.next) ≡ grant_at a.s.now c.loop-i.at
-    = sym (ap grant_read c.in-IsGrant.is) ∙ sym (c.read_known_grant.ensures reads.0 reads.1 reads.2) ∙ reads.2 in
+    = sym (ap grant_read c.in-IsGrant.is) ∙ c.read_grant.ensures in
     let f = c.is_eligible.ensures in
     let passed : pick_from a.s.now a.r.now a.mode (a.count - c.loop-i.i) c.loop-i.at c.loop-i.i c.loop-i.best
     ≡ pick_from a.s.now a.r.now a.mode (a.count - (c.loop-i.i + 1)) c.in-IsGrant.next (c.loop-i.i + 1) c.if-is_eligible.best
@@ -219,11 +166,8 @@ loop-i-preserved c =
           ] in
           pick_found _ _ _ _ _ _ _ h seen f w.if-is_eligible.true yields (w.best-is ∙ w.more_exact-best.ensures)
       | else-is_eligible w ↦ pick_not _ _ _ _ _ _ _ h seen f w.if-is_eligible.false ∙ ap (pick_from _ _ _ _ _ _) (sym w.best-is)
-    ] in (
-      omega (arith, h),
-      c.loop-i.invariant.1 ∙ passed,
-      rest_reads _ _ _ _ (omega (arith, h)) (omega (arith, h)) c.loop-i.invariant.2 seen,
-    )
+    ] in
+    (omega (arith, h), c.loop-i.invariant.1 ∙ passed)
 
 pub returns : goal.returns
 returns c = sym (c.loop-i.invariant.1 ∙ pick_done _ _ _ _ _ _ _ c.loop-i-test.false)

@@ -10,7 +10,6 @@ use Rattle.resource_spec.specs.Identifier.{levels_place}
 use Rattle.resource_spec.specs.Text.{levels_match, levels_named}
 use Rattle.request_spec.specs.declared.Matched.TheVariants.{Nothing}
 use Rattle.request_spec.specs.Decision.{pick_from}
-use Rattle.request.specs.Code.{GrantsRead}
 use Rattle.request.proofs.search.pick_grant.Given as goal
 
 abbrev pub invariant-levels : goal.invariant-levels
@@ -22,7 +21,7 @@ decreases-levels l = length l.p
 
 abbrev pub invariant-loop-i : goal.invariant-loop-i
 invariant-loop-i l = (l.i ≤ l.count)
-    × (pick_from l.s l.r l.mode l.count l.first 0 Nothing ≡ pick_from l.s l.r l.mode (l.count - l.i) l.at l.i l.best) × GrantsRead l.s (l.count - l.i) l.at
+    × (pick_from l.s l.r l.mode l.count l.first 0 Nothing ≡ pick_from l.s l.r l.mode (l.count - l.i) l.at l.i l.best)
 
 abbrev pub decreases-loop-i : goal.decreases-loop-i
 decreases-loop-i l = l.count - l.i

@@ -6,8 +6,8 @@ use borrow.Author.Tests.{le-leb, lt-leb, eq-eqb, ne_eqb}
 use Rattle.resource_spec.specs.Identifier.{levels_place}
 use Rattle.resource_spec.specs.Level.{levels, levels_ok}
 use Rattle.resource_spec.specs.Text.{longest_text}
+use Rattle.octets.proofs.PartLaws.{part_to_end}
 use Rattle.resource.specs.Code.{below_ok}
-use Rattle.resource.proofs.TextCode.{slash_first, after_slash}
 use Rattle.resource.proofs.levels.below.Goals as goal
 
 pub returns-then-s-gt-LONGEST : goal.returns-then-s-gt-LONGEST
@@ -23,14 +23,10 @@ unfolding below_ok
 returns-then-s-ne47 c =
     rw (le-leb _ longest_text c.if-s-gt-LONGEST.false, le-leb levels_place _ c.if-s-lt-LEVELS_PLACE.false, ne_eqb _ 47 c.if-s-ne47.true)
 
-pub all-requires : goal.all-requires
-all-requires c =
-    slash_first c.args.s.now c.if-s-ne47.false
-
 pub returns : goal.returns
 unfolding below_ok
 returns c =
     let a = c.args in
     c.all.ensures
     ∙ rw (le-leb _ longest_text c.if-s-gt-LONGEST.false, le-leb levels_place _ c.if-s-lt-LEVELS_PLACE.false, eq-eqb _ 47 c.if-s-ne47.false)
-    (ap (λ (r : List ℕ). levels_ok a.wild (levels r)) (after_slash a.s.now))
+    (ap (λ (r : List ℕ). levels_ok a.wild (levels r)) (part_to_end a.s.now levels_place))

@@ -1,20 +1,20 @@
--- `follow` meets its contract.
-use mathlib.Core.Path.{sym, ◌∙◌}
+-- `follow` meets its contract. The invariant: the flag and the bytes from i on decide. The measure: what is left.
 use native.Mathlib.Omega.{arith}
-use Rattle.resource.proofs.FollowCode.{ends_slash, ends_byte}
+use Rattle.resource.proofs.FollowCode.{left_first, left_next, left_none}
 use Rattle.resource.proofs.levels.follow.Goals as goal
 
-pub returns-then-s-n-eq47 : goal.returns-then-s-n-eq47
-returns-then-s-n-eq47 c =
+pub loop-i-init : goal.loop-i-init
+loop-i-init c =
     let a = c.args in
-    sym (ends_slash a.wild a.s.now a.n (omega arith) (omega arith) c.if-s-n-eq47.true)
+    (omega arith, omega arith, rw c.may_follow-ok.ensures (left_first a.wild a.s.now a.n (omega arith) (omega arith)))
 
-pub returns-then-n-ge17 : goal.returns-then-n-ge17
-returns-then-n-ge17 c =
+pub loop-i-preserved : goal.loop-i-preserved
+loop-i-preserved c =
     let a = c.args in
-    c.many.ensures ∙ sym (ends_byte a.wild a.s.now a.n (omega arith) (omega arith) c.if-s-n-eq47.false)
+    let next = left_next a.wild a.s.now a.n (omega arith) c.loop-i.ok c.loop-i.i (omega arith) c.loop-i.invariant.2 in
+    (omega arith, omega arith, rw c.may_follow-ok-in-loop-i.ensures next)
 
 pub returns : goal.returns
 returns c =
     let a = c.args in
-    c.few.ensures ∙ sym (ends_byte a.wild a.s.now a.n (omega arith) (omega arith) c.if-s-n-eq47.false)
+    left_none a.wild a.s.now a.n (omega arith) c.loop-i.ok c.loop-i.i (omega arith) c.loop-i.invariant.2

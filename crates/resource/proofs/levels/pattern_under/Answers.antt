@@ -3,11 +3,11 @@ use mathlib.Core.Path.{sym, ◌∙◌}
 use Rattle.resource.specs.Code.{pattern_under}
 use Rattle.resource.proofs.levels.pattern_under.Goals as goal
 
-pub returns-then-same_terminal : goal.returns-then-same_terminal
+pub returns-then-same_start : goal.returns-then-same_start
 unfolding pattern_under
-returns-then-same_terminal c =
-    c.below.ensures ∙ rw (sym c.same_terminal.ensures ∙ c.if-same_terminal.true)
+returns-then-same_start c =
+    c.below.ensures ∙ rw (sym c.same_start.ensures ∙ c.if-same_start.true)
 
 pub returns : goal.returns
 unfolding pattern_under
-returns c = rw (sym c.same_terminal.ensures ∙ c.if-same_terminal.false)
+returns c = rw (sym c.same_start.ensures ∙ c.if-same_start.false)

@@ -30,11 +30,12 @@ use descriptor::{DescriptorNumbers, GrantNumbers};
 use image::StoredNumbers;
 use image_write::Written;
 use narrowing::NarrowingNumbers;
-use request::{DecisionNumbers, Environment};
+use request::{Asked, DecisionNumbers, Environment};
 use resource::MatchingNumbers;
 use time::{Milliseconds, Seconds};
 
 // The item at the place.
+#[tactic(auto, using(octets::proofs::BytesLaws::are_bytes))]
 pub fn cap_item_read(bytes: &[u8], place: u64) -> ItemNumbers
     ensures answer { result ≡ items.numbers_of (items.item_at bytes.now place) }
     ensures lent { AreBytes bytes.now }
@@ -43,6 +44,7 @@ pub fn cap_item_read(bytes: &[u8], place: u64) -> ItemNumbers
 }
 
 // Reads a descriptor.
+#[tactic(auto, using(octets::proofs::BytesLaws::are_bytes))]
 pub fn cap_descriptor_read(bytes: &[u8]) -> DescriptorNumbers
     ensures answer { result ≡ descriptors.numbers_of (reading_of (read_of bytes.now)) }
     ensures lent { AreBytes bytes.now }
@@ -51,6 +53,7 @@ pub fn cap_descriptor_read(bytes: &[u8]) -> DescriptorNumbers
 }
 
 // The grant with the index, counted from 0.
+#[tactic(auto, using(octets::proofs::BytesLaws::are_bytes))]
 pub fn cap_grant_at(bytes: &[u8], index: u64) -> GrantNumbers
     ensures answer { result ≡ descriptors.grant_numbers (nth_of bytes.now index) }
     ensures lent { AreBytes bytes.now }
@@ -59,6 +62,7 @@ pub fn cap_grant_at(bytes: &[u8], index: u64) -> GrantNumbers
 }
 
 // Whether the pattern matches the resource id.
+#[tactic(auto, using(octets::proofs::BytesLaws::are_bytes))]
 pub fn cap_match(pattern: &[u8], resource: &[u8]) -> MatchingNumbers
     ensures answer { result ≡ texts.numbers_of (texts.matching pattern.now resource.now) }
     ensures lent { AreBytes pattern.now × AreBytes resource.now }
@@ -67,6 +71,7 @@ pub fn cap_match(pattern: &[u8], resource: &[u8]) -> MatchingNumbers
 }
 
 // Makes a new image.
+#[tactic(auto, using(octets::proofs::BytesLaws::are_bytes))]
 pub fn cap_image_new(image: &mut [u8]) -> u64
     ensures answer { (result ≡ creations.number_of (creations.creation_of image.old))
         × (image.new ≡ edition2.after_new image.old) }
@@ -76,6 +81,7 @@ pub fn cap_image_new(image: &mut [u8]) -> u64
 }
 
 // Looks for the body with the id.
+#[tactic(auto, using(octets::proofs::BytesLaws::are_bytes))]
 pub fn cap_image_find(image: &[u8], id: &[u8]) -> StoredNumbers
     ensures answer { result ≡ images.numbers_of (readable.find_of image.now id.now) }
     ensures lent { AreBytes image.now × AreBytes id.now }
@@ -84,6 +90,7 @@ pub fn cap_image_find(image: &[u8], id: &[u8]) -> StoredNumbers
 }
 
 // Turns an image of edition 1 into one of edition 2.
+#[tactic(auto, using(octets::proofs::BytesLaws::are_bytes))]
 pub fn cap_image_upgrade(old: &[u8], image: &mut [u8]) -> Written
     ensures answer { (result ≡ upgrades.written_of (upgrades.upgrade_of old.now image.old))
         × (image.new ≡ upgrades.after_upgrade old.now image.old) }
@@ -93,6 +100,7 @@ pub fn cap_image_upgrade(old: &[u8], image: &mut [u8]) -> Written
 }
 
 // Submits a descriptor to the image.
+#[tactic(auto, using(octets::proofs::BytesLaws::are_bytes))]
 pub fn cap_submit(
     image: &mut [u8],
     descriptor: &[u8],
@@ -108,11 +116,16 @@ pub fn cap_submit(
         (window_of valid_from has_valid_until valid_until)) }
     ensures lent { AreBytes image.old × AreBytes descriptor.now }
 {
-    let key = numbers::window(valid_from, has_valid_until, valid_until);
-    numbers::of_submission(submission::submit(image, descriptor, Seconds(clock), verdict, key))
+    let host = submission::Environment {
+        clock: Seconds(clock),
+        verdict,
+        window: numbers::window(valid_from, has_valid_until, valid_until),
+    };
+    numbers::of_submission(submission::submit(image, descriptor, host))
 }
 
 // Decides a request; a grant raises the last-used moment of its row.
+#[tactic(auto, using(octets::proofs::BytesLaws::are_bytes))]
 pub fn cap_request(
     image: &mut [u8],
     id: &[u8],
@@ -147,13 +160,20 @@ pub fn cap_request(
         verdict,
         window: numbers::window(valid_from, has_valid_until, valid_until),
     };
-    let decision = request::request(
-        image, id, fay, terminal, resource, mode, revoked, leases, host,
-    );
-    numbers::of_decision(decision)
+    let asked = Asked {
+        id,
+        fay,
+        terminal,
+        resource,
+        mode,
+        revoked,
+        leases,
+    };
+    numbers::of_decision(request::request(image, asked, host))
 }
 
 // Narrows the child under the parent.
+#[tactic(auto, using(octets::proofs::BytesLaws::are_bytes))]
 pub fn cap_narrow(parent: &[u8], child: &[u8]) -> NarrowingNumbers
     ensures answer { result ≡ narrowings.numbers_of (narrowings.narrow parent.now child.now) }
     ensures lent { AreBytes parent.now × AreBytes child.now }

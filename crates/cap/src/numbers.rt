@@ -1,5 +1,5 @@
-// The numbers of each answer.
-ghost use Rattle.std.specs.Prelude.{◌≡◌};
+// The numbers of each answer. Each is a function and no `From`, since both of its types are of other crates.
+ghost use Rattle.std.specs.Prelude.{◌≡◌, Err};
 ghost use Rattle.cbor_item_spec.specs.Item as items;
 ghost use Rattle.resource_spec.specs.Text as texts;
 ghost use Rattle.descriptor.specs.Code.{grant_read};
@@ -13,14 +13,13 @@ ghost use Rattle.narrowing_spec.specs.Narrow as narrowings;
 ghost use Rattle.cap.specs.Numbers.{window_of};
 
 use cbor_item::{Item, ItemNumbers};
-use descriptor::{DescriptorNumbers, Fields, GrantNumbers, GrantRead, Reading};
-use image::{Finding, StoredNumbers};
-use image_write::{Creation, Upgrade, Written};
-use narrowing::{Narrowing, NarrowingNumbers};
-use request::{Decision, DecisionNumbers};
-use resource::{Matching, MatchingNumbers};
+use descriptor::{DescriptorNumbers, Fields, GrantFields, GrantNumbers, Part, ReadError};
+use image::{FindError, StoredNumbers};
+use image_write::{CreateError, UpgradeError, Written};
+use narrowing::{NarrowingError, NarrowingNumbers};
+use request::{DecisionNumbers, Granted, Refusal};
+use resource::{Malformed, MatchingNumbers};
 use steps::Window;
-use submission::Submission;
 use time::{Margin, Seconds};
 
 // The key's window.
@@ -29,22 +28,21 @@ pub(crate) fn window(from: u64, has_until: u64, until: u64) -> Window
 {
     Window {
         from: Seconds(from),
-        bounded: has_until != 0,
-        until: Seconds(until),
+        until: (has_until != 0).then_some(Seconds(until)),
     }
 }
 
 // An item's.
-pub(crate) fn of_item(item: Item) -> ItemNumbers
+pub(crate) fn of_item(item: Option<(Item, usize)>) -> ItemNumbers
     ensures { result ≡ items.numbers_of item }
 {
     match item {
-        Item::Unsigned { value, next } => numbered(0, value, 0, 0, next),
-        Item::Bytes { start, len, next } => numbered(2, len as u64, start, len, next),
-        Item::Text { start, len, next } => numbered(3, len as u64, start, len, next),
-        Item::Array { count, next } => numbered(4, count, 0, 0, next),
-        Item::Map { count, next } => numbered(5, count, 0, 0, next),
-        Item::Structure => ItemNumbers {
+        Some((Item::Unsigned(n), next)) => numbered(0, n, 0, 0, next),
+        Some((Item::Bytes(span), next)) => numbered(2, span.len as u64, span.start, span.len, next),
+        Some((Item::Text(span), next)) => numbered(3, span.len as u64, span.start, span.len, next),
+        Some((Item::Array(n), next)) => numbered(4, n, 0, 0, next),
+        Some((Item::Map(n), next)) => numbered(5, n, 0, 0, next),
+        None => ItemNumbers {
             answer: 1,
             kind: 0,
             number: 0,
@@ -70,13 +68,13 @@ fn numbered(kind: u64, number: u64, at: usize, len: usize, next: usize) -> ItemN
 }
 
 // A descriptor's.
-pub(crate) fn of_reading(reading: Reading) -> DescriptorNumbers
+pub(crate) fn of_reading(reading: Result<Fields, ReadError>) -> DescriptorNumbers
     ensures { result ≡ descriptors.numbers_of reading }
 {
     match reading {
-        Reading::Read(fields) => of_fields(fields),
-        Reading::Structure => no_descriptor(1),
-        Reading::Validity => no_descriptor(2),
+        Ok(fields) => of_fields(fields),
+        Err(ReadError::Structure) => no_descriptor(1),
+        Err(ReadError::Validity) => no_descriptor(2),
     }
 }
 
@@ -151,11 +149,11 @@ fn no_descriptor(answer: u64) -> DescriptorNumbers
 }
 
 // A grant's; zeros where there is none.
-pub(crate) fn of_grant(grant: GrantRead) -> GrantNumbers
+pub(crate) fn of_grant(grant: Option<(GrantFields, usize)>) -> GrantNumbers
     ensures { result ≡ descriptors.grant_numbers (grant_read grant) }
 {
     match grant {
-        GrantRead::IsGrant { fields, next: _ } => GrantNumbers {
+        Some((fields, _)) => GrantNumbers {
             found: 1,
             pattern_at: fields.pattern as u64,
             pattern_len: fields.len as u64,
@@ -164,7 +162,7 @@ pub(crate) fn of_grant(grant: GrantRead) -> GrantNumbers
             constraints_at: fields.constraints as u64,
             constraint_pairs: fields.pairs,
         },
-        GrantRead::NoGrant => GrantNumbers {
+        None => GrantNumbers {
             found: 0,
             pattern_at: 0,
             pattern_len: 0,
@@ -177,47 +175,42 @@ pub(crate) fn of_grant(grant: GrantRead) -> GrantNumbers
 }
 
 // A matching's.
-pub(crate) fn of_matching(answer: Matching) -> MatchingNumbers
+pub(crate) fn of_matching(answer: Result<Option<u64>, Malformed>) -> MatchingNumbers
     ensures { result ≡ texts.numbers_of answer }
 {
     match answer {
-        Matching::Yes { names } => MatchingNumbers {
-            answer: 0,
-            yes: 1,
-            names,
-        },
-        Matching::No => MatchingNumbers {
-            answer: 0,
-            yes: 0,
-            names: 0,
-        },
-        Matching::Malformed => MatchingNumbers {
-            answer: 15,
-            yes: 0,
-            names: 0,
-        },
+        Ok(Some(names)) => matched(0, 1, names),
+        Ok(None) => matched(0, 0, 0),
+        Err(_) => matched(15, 0, 0),
     }
 }
 
+// The answer, 1 for yes, and the levels that were matched by equal names.
+fn matched(answer: u64, yes: u64, names: u64) -> MatchingNumbers
+    ensures { result ≡ record { answer = answer; yes = yes; names = names } }
+{
+    MatchingNumbers { answer, yes, names }
+}
+
 // A new image's.
-pub(crate) fn of_creation(answer: Creation) -> u64
+pub(crate) fn of_creation(answer: Result<(), CreateError>) -> u64
     ensures { result ≡ creations.number_of answer }
 {
     match answer {
-        Creation::Done => 0,
-        Creation::TooShort => 17,
+        Ok(()) => 0,
+        Err(CreateError::TooShort) => 17,
     }
 }
 
 // A lookup's.
-pub(crate) fn of_finding(finding: Finding) -> StoredNumbers
+pub(crate) fn of_finding(finding: Result<Part, FindError>) -> StoredNumbers
     ensures { result ≡ images.numbers_of finding }
 {
     match finding {
-        Finding::Found { at, len } => stored(0, at, len),
-        Finding::Malformed => stored(15, 0, 0),
-        Finding::BadImage => stored(16, 0, 0),
-        Finding::NotFound => stored(7, 0, 0),
+        Ok(body) => stored(0, body.at, body.len),
+        Err(FindError::Malformed) => stored(15, 0, 0),
+        Err(FindError::BadImage) => stored(16, 0, 0),
+        Err(FindError::NotFound) => stored(7, 0, 0),
     }
 }
 
@@ -233,13 +226,13 @@ fn stored(answer: u64, at: usize, len: usize) -> StoredNumbers
 }
 
 // An upgrade's.
-pub(crate) fn of_upgrade(upgrade: Upgrade) -> Written
+pub(crate) fn of_upgrade(upgrade: Result<usize, UpgradeError>) -> Written
     ensures { result ≡ upgrades.written_of upgrade }
 {
     match upgrade {
-        Upgrade::Upgraded { len } => written(0, len),
-        Upgrade::BadImage => written(16, 0),
-        Upgrade::TooShort => written(17, 0),
+        Ok(len) => written(0, len),
+        Err(UpgradeError::BadImage) => written(16, 0),
+        Err(UpgradeError::TooShort) => written(17, 0),
     }
 }
 
@@ -254,62 +247,70 @@ fn written(answer: u64, len: usize) -> Written
 }
 
 // A submission's.
-pub(crate) fn of_submission(answer: Submission) -> u64
+pub(crate) fn of_submission(answer: Result<(), submission::Refusal>) -> u64
     ensures { result ≡ submissions.number_of answer }
 {
-    match answer {
-        Submission::Done => 0,
-        Submission::Malformed => 15,
-        Submission::BadImage => 16,
-        Submission::Structure => 1,
-        Submission::Validity => 2,
-        Submission::UnknownIssuer => 3,
-        Submission::KeyInvalid => 14,
-        Submission::BadSignature => 4,
-        Submission::Duplicate => 5,
-        Submission::Full => 6,
+    let Err(refusal) = answer else {
+        return 0;
+    };
+    match refusal {
+        submission::Refusal::Malformed => 15,
+        submission::Refusal::BadImage => 16,
+        submission::Refusal::Structure => 1,
+        submission::Refusal::Validity => 2,
+        submission::Refusal::UnknownIssuer => 3,
+        submission::Refusal::KeyInvalid => 14,
+        submission::Refusal::BadSignature => 4,
+        submission::Refusal::Duplicate => 5,
+        submission::Refusal::Full => 6,
     }
 }
 
 // A request's.
-pub(crate) fn of_decision(decision: Decision) -> DecisionNumbers
+pub(crate) fn of_decision(decision: Result<Granted, Refusal>) -> DecisionNumbers
     ensures { result ≡ requests.numbers_of decision }
 {
     match decision {
-        Decision::Granted {
-            grant,
-            mask,
-            end,
-            margin,
-        } => granted(grant, mask, end, margin),
-        Decision::Malformed => refused(15),
-        Decision::BadImage => refused(16),
-        Decision::NotFound => refused(7),
-        Decision::Revoked => refused(8),
-        Decision::NotYetValid => refused(9),
-        Decision::Expired => refused(10),
-        Decision::SubjectMismatch => refused(11),
-        Decision::TerminalMismatch => refused(12),
-        Decision::Insufficient => refused(13),
-        Decision::KeyInvalid => refused(14),
-        Decision::BadSignature => refused(4),
-        Decision::LeaseRevoked => refused(26),
-        Decision::LeaseFuture => refused(23),
-        Decision::LeaseStale(margin) => stale(margin),
-        Decision::LeaseExpired => refused(25),
+        Ok(granted) => of_granted(granted),
+        Err(refusal) => of_refusal(refusal),
     }
 }
 
 // Those of a granted request.
-fn granted(grant: u64, mask: u64, end: Seconds, margin: Margin) -> DecisionNumbers
-    ensures { result ≡ requests.granted_numbers grant mask end margin }
+fn of_granted(granted: Granted) -> DecisionNumbers
+    ensures { result ≡ requests.granted_numbers granted.grant granted.mask granted.end granted.margin }
 {
+    let end = granted.end;
+    let margin = granted.margin;
     DecisionNumbers {
         answer: 0,
-        grant,
-        mask,
+        grant: granted.grant,
+        mask: granted.mask,
         session_end: end.0,
         margin: margin.0,
+    }
+}
+
+// Those of a refusal.
+fn of_refusal(refusal: Refusal) -> DecisionNumbers
+    ensures { result ≡ requests.numbers_of (Err refusal) }
+{
+    match refusal {
+        Refusal::Malformed => refused(15),
+        Refusal::BadImage => refused(16),
+        Refusal::NotFound => refused(7),
+        Refusal::Revoked => refused(8),
+        Refusal::NotYetValid => refused(9),
+        Refusal::Expired => refused(10),
+        Refusal::SubjectMismatch => refused(11),
+        Refusal::TerminalMismatch => refused(12),
+        Refusal::Insufficient => refused(13),
+        Refusal::KeyInvalid => refused(14),
+        Refusal::BadSignature => refused(4),
+        Refusal::LeaseRevoked => refused(26),
+        Refusal::LeaseFuture => refused(23),
+        Refusal::LeaseStale(margin) => stale(margin),
+        Refusal::LeaseExpired => refused(25),
     }
 }
 
@@ -340,21 +341,23 @@ fn stale(margin: Margin) -> DecisionNumbers
 }
 
 // A narrowing's.
-pub(crate) fn of_narrowing(answer: Narrowing) -> NarrowingNumbers
+pub(crate) fn of_narrowing(answer: Result<(), NarrowingError>) -> NarrowingNumbers
     ensures { result ≡ narrowings.numbers_of answer }
 {
     match answer {
-        Narrowing::Accepted => narrowed(0),
-        Narrowing::NoParent => narrowed(21),
-        Narrowing::Structure => narrowed(1),
-        Narrowing::Validity => narrowed(2),
-        Narrowing::Constrained => narrowed(19),
-        Narrowing::Period => narrowed(18),
-        Narrowing::NotCovered {
-            grant,
-            mode,
-            levels,
-        } => NarrowingNumbers {
+        Ok(()) => narrowed(0),
+        Err(NarrowingError::NoParent) => narrowed(21),
+        Err(NarrowingError::Structure) => narrowed(1),
+        Err(NarrowingError::Validity) => narrowed(2),
+        Err(NarrowingError::Constrained) => narrowed(19),
+        Err(NarrowingError::Period) => narrowed(18),
+        Err(
+            NarrowingError::NotCovered {
+                grant,
+                mode,
+                levels,
+            },
+        ) => NarrowingNumbers {
             answer: 20,
             grant,
             mode,

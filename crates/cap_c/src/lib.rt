@@ -1,5 +1,5 @@
 // The byte interface for C: each export is the function of `cap` that has its name, with its promises; the header is include/cap.h. None has
-// a requirement.
+// a requirement. A crate is a library or a static library, so that functions and clauses stand in both.
 #![tactic(auto)]
 
 ghost use Rattle.std.specs.Prelude.{◌≡◌};

@@ -11,7 +11,7 @@ fn grants<P: Print>(rt: &P, bytes: &[u8], count: u64) -> io::Result<()> {
     Ok(())
 }
 
-// Makes the call with the number, of the record at the place, where it takes no image.
+// Makes the call with the number, of the record at the place, where it takes no image. Each call takes parts of its own from the record.
 pub(crate) fn made<P: Print>(rt: &P, call: u64, s: &[u8], at: usize) -> io::Result<()> {
     let a = part(s, at, 2);
     let b = part(s, at, 3);

@@ -49,15 +49,13 @@ fn request<P: Print>(rt: &P, s: &[u8], at: usize, image: &mut [u8]) -> io::Resul
 fn fill(body: &mut [u8], place: usize, count: u64, start: u64, step: u64, image: &mut [u8]) -> u64 {
     let mut answer: u64 = 0;
     let mut clock = start;
-    let mut k: u64 = 0;
-    while k < count {
-        k += 1;
-        octets::put_number(body, place, 4, k);
+    for k in 0..count {
+        octets::put_number(body, place, 4, k + 1);
         answer = cap::cap_submit(image, body, clock, 0, 0, 0, 0);
-        if 18446744073709551615 - step < clock {
+        let Some(next) = clock.checked_add(step) else {
             return answer;
-        }
-        clock += step;
+        };
+        clock = next;
     }
     answer
 }
@@ -90,7 +88,7 @@ fn filled(s: &[u8], at: usize, image: &mut [u8]) -> u64 {
     fill_with(s, at, &mut body, image)
 }
 
-// Makes the call with the number, of the record at the place, on the image, where it takes one.
+// Makes the call with the number, of the record at the place, on the image, where it takes one. Each call takes parts of its own.
 fn on_image<P: Print>(rt: &P, call: u64, s: &[u8], at: usize, image: &mut [u8]) -> io::Result<()> {
     match call {
         7 => {

@@ -32,7 +32,7 @@ fn one<P: Print>(rt: &P, s: &[u8], at: usize, image: &mut [u8], len: usize) -> i
     Ok(lent)
 }
 
-// Makes the call of every record.
+// Makes the call of every record. Where the next begins is known only when one is read.
 fn all<P: Print>(rt: &P, s: &[u8], image: &mut [u8]) -> io::Result<()> {
     let mut at: usize = 0;
     let mut len: usize = 0;
@@ -47,7 +47,7 @@ fn all<P: Print>(rt: &P, s: &[u8], image: &mut [u8]) -> io::Result<()> {
     Ok(())
 }
 
-// Reads until the buffer is full or the input ends, and answers how many bytes came.
+// Reads until the buffer is full or the input ends, and answers how many bytes came; `read_to_end` would want a heap.
 fn read_full<R: Read>(input: &mut R, buffer: &mut [u8]) -> io::Result<usize>
     ensures { IfOk result (λ n. IsPrefixLen n buffer.new) }
 {

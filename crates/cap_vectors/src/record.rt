@@ -4,13 +4,11 @@
 // The place after so many parts, or past the end.
 pub(crate) fn place(s: &[u8], at: usize, parts: usize) -> usize {
     let mut place = at;
-    let mut left = parts;
-    while 0 < left {
+    for _ in 0..parts {
         if s.len() <= place {
             return place;
         }
         place = place + 4 + octets::number_at(s, place, 4) as usize;
-        left -= 1;
     }
     place
 }

@@ -14,7 +14,8 @@ fn number<P: Print>(rt: &P, name: &[u8], n: u64) -> io::Result<()> {
     rt.print(n)
 }
 
-// The line, with a number for each '#' in it.
+// The line, with a number for each '#' in it. The numbers stand in a list, since it is also asked whether all are 0; `print!` would name each
+// a second time.
 fn line<P: Print>(rt: &P, s: &[u8], numbers: &[u64]) -> io::Result<()> {
     let mut from: usize = 0;
     for n in numbers {

@@ -11,7 +11,8 @@ use Rattle.octets.specs.Bytes.{part}
 use Rattle.octets.specs.Span.{Span, span_of}
 use Rattle.exact.specs.Reads.{got}
 use Rattle.exact.proofs.HoldsLaws.{held}
-use Rattle.cbor_item_spec.specs.declared.Item.TheVariants.{Text, Structure}
+use Rattle.cbor_item_spec.specs.declared.Item.TheVariants.{Text}
+use Rattle.std.proofs.Common.{Some, None}
 use Rattle.cbor_item_spec.specs.Utf8.{is_utf8}
 use Rattle.cbor_item_spec.specs.Head.{Head, head_at, span_in}
 use Rattle.cbor_item_spec.specs.Item.{text_item}
@@ -24,10 +25,10 @@ module _ (s : List ℕ) (start len : ℕ) (valid : Bool) (test : valid ≡ is_ut
   unfolding part
   tested = sym (test ∙ rw add-sub_cancel_left)
 
-  pub text_valid : valid ≡ true → Text start len (start + len) ≡ text_item s (got (span_of start len) (start + len))
+  pub text_valid : valid ≡ true → Some (Text (record { start = start; len = len }), start + len) ≡ text_item s (got (span_of start len) (start + len))
   text_valid e = rw (tested, e)
 
-  pub text_invalid : valid ≡ false → Structure ≡ text_item s (got (span_of start len) (start + len))
+  pub text_invalid : valid ≡ false → None ≡ text_item s (got (span_of start len) (start + len))
   text_invalid e = rw (tested, e)
 
 -- a head that was answered ends within the bytes

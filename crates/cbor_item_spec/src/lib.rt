@@ -3,47 +3,30 @@
 // answers; `cbor_item` has the functions.
 #![tactic(auto)]
 
-// An item: its number, or where its string starts and how long it is, or its count; and the place after it, of an array or a map
-// after its head. Structure is document 01's 1.
+// A head: its major type and its number. The major type is CBOR's own number, which the definition `head` writes and the byte interface hands
+// out.
+#[derive(Clone, Copy)]
+pub struct Head {
+    pub major: u8,
+    pub number: u64,
+}
+
+// A string's content: where it starts, and its length. `Part` of `descriptor_spec` is its like for descriptors, with the names of the byte
+// interface.
+#[derive(Clone, Copy)]
+pub struct Span {
+    pub start: usize,
+    pub len: usize,
+}
+
+// An item: its number, where its string stands, or its count.
 #[derive(Clone, Copy)]
 pub enum Item {
-    Unsigned {
-        value: u64,
-        next: usize,
-    },
-    Bytes {
-        start: usize,
-        len: usize,
-        next: usize,
-    },
-    Text {
-        start: usize,
-        len: usize,
-        next: usize,
-    },
-    Array {
-        count: u64,
-        next: usize,
-    },
-    Map {
-        count: u64,
-        next: usize,
-    },
-    Structure,
-}
-
-// A head: its major type, its number and the place after it.
-#[derive(Clone, Copy)]
-pub enum HeadRead {
-    IsHead { major: u8, number: u64, next: usize },
-    NoHead,
-}
-
-// A string's content: where it starts, and its length.
-#[derive(Clone, Copy)]
-pub enum SpanRead {
-    IsSpan { start: usize, len: usize },
-    NoSpan,
+    Unsigned(u64),
+    Bytes(Span),
+    Text(Span),
+    Array(u64),
+    Map(u64),
 }
 
 // An item in document 01's numbers, as include/cap.h has them: the answer, 0 or 1; the kind, as CBOR's major type; the value, length or

@@ -1,11 +1,10 @@
 -- The ways out of reading grants (specs/Reader.antt of `descriptor_spec`). Assumes nothing.
-use mathlib.Core.Path.{◌≡◌, refl, sym, ap, ◌∙◌}
+use mathlib.Core.Path.{◌≡◌, refl, sym, ap}
 use mathlib.Core.List.{List}
-use Prim.Native.Nat.{ℕ, ◌-◌, ◌≤◌, ◌<◌}
-use native.Mathlib.Omega.{arith}
+use Prim.Native.Nat.{ℕ, ◌+◌, ◌-◌, ◌≤◌, ◌<◌}
 use Rattle.exact.specs.Reads.{Got, got, refused, bind, many}
 use Rattle.exact.proofs.ReadsLaws.{took, stopped}
-use Rattle.exact.proofs.CountedLaws.{many_zero, many_got, many_refused}
+use Rattle.exact.proofs.CountedLaws.{many_next, many_stop, many_done}
 use Rattle.entries_spec.specs.Keys.{k_grants}
 use Rattle.entries_spec.specs.Value.{count_at, keyed_at}
 use Rattle.descriptor_spec.specs.Reader.{GrantSeen, grant_at, Sum, more_at, GrantsSeen, grants_at}
@@ -23,21 +22,20 @@ unfolding grants_at
 grants_begin s at e f = took _ e (took _ f refl)
 
 -- one grant more was read
-pub grants_next : (s : List ℕ) (count start first left : ℕ) (sum : Sum) (here : ℕ) {more : Sum} {next : ℕ} → 0 < left
+pub grants_next : (s : List ℕ) (count start first done : ℕ) (sum : Sum) (here : ℕ) {more : Sum} {next : ℕ} → done < count
     → got more next ≡ more_at s first sum here
-    → grants_from s count start first (left - 1) more next ≡ grants_from s count start first left sum here
-grants_next s count start first left sum here {more} {next} h e =
+    → grants_from s count start first (count - (done + 1)) more next ≡ grants_from s count start first (count - done) sum here
+grants_next s count start first done sum here h e =
     ap (λ (o : Got Sum). bind o (λ sum n. got (record { count = count; start = start; first = first; sum = sum }) n))
-    (sym (many_got (more_at s first) left sum here more next h e))
+    (sym (many_next (more_at s first) sum here count done h e))
 
 -- one was refused
-pub grants_stop : (s : List ℕ) (count start first left : ℕ) (sum : Sum) (here : ℕ) → 0 < left → refused ≡ more_at s first sum here
-    → refused ≡ grants_from s count start first left sum here
-grants_stop s count start first left sum here h e = stopped _ (sym (many_refused (more_at s first) left sum here h e))
+pub grants_stop : (s : List ℕ) (count start first done : ℕ) (sum : Sum) (here : ℕ) → done < count → refused ≡ more_at s first sum here
+    → refused ≡ grants_from s count start first (count - done) sum here
+grants_stop s count start first done sum here h e = stopped _ (many_stop (more_at s first) sum here count done h e)
 
 -- none is left
-pub grants_done : (s : List ℕ) (count start first left : ℕ) (sum : Sum) (here : ℕ) → left ≤ 0
-    → got (record { count = count; start = start; first = first; sum = sum }) here ≡ grants_from s count start first left sum here
-grants_done s count start first left sum here h =
-    let e : 0 ≡ left = omega arith in
-    took _ (sym (many_zero (more_at s first) sum here) ∙ ap (λ (n : ℕ). many (more_at s first) n sum here) e) refl
+pub grants_done : (s : List ℕ) (count start first done : ℕ) (sum : Sum) (here : ℕ) → count ≤ done
+    → got (record { count = count; start = start; first = first; sum = sum }) here
+    ≡ grants_from s count start first (count - done) sum here
+grants_done s count start first done sum here h = took _ (many_done (more_at s first) count done sum here h) refl

@@ -1,5 +1,4 @@
 pub mod RoomCode
-pub mod ModeCode
 pub mod GrantCode
 pub mod UnderCode
 pub mod PayloadCode

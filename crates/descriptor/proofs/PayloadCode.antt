@@ -12,8 +12,8 @@ use Rattle.descriptor.specs.declared.payload.PayloadFields.{PayloadFields}
 use Rattle.descriptor.specs.Code.{payload_of}
 
 -- the code's test of a payload is the reader's
-pub fits_test : (s : List ℕ) (p : PayloadFields) (k l : ℕ) (o : Bool) → k ≡ flag p.issue.metadata.there
-    → l ≡ flag p.grantor.grantor.there → o ≡ same (part s p.grants.first terminal_size) (part s p.ids.terminal terminal_size)
+pub fits_test : (s : List ℕ) (p : PayloadFields) (k l : ℕ) (o : Bool) → k ≡ flag p.issue.metadata
+    → l ≡ flag p.grantor.grantor → o ≡ same (part s p.grants.first terminal_size) (part s p.ids.terminal terminal_size)
     → (eqb p.keys (8 + (k + l)) &&
     (o && (leb p.issue.issued_at p.grantor.not_before && ltb p.grantor.not_before p.issue.not_after)))
     ≡ payload_fits s (payload_of p)

@@ -7,6 +7,7 @@ use native.Mathlib.Omega.{arith}
 use lib.ListN.{length, take, drop, length-take}
 use lib.Seq.{take-take}
 use lib.Dec.{eqb}
+use Rattle.std.proofs.Common.{Option, Some, None}
 use Rattle.octets.specs.Bytes.{part, same, has_at}
 use Rattle.octets.specs.Span.{Span}
 use Rattle.octets.proofs.TruthLaws.{T_true}
@@ -24,24 +25,22 @@ use Rattle.resource.specs.Code.{pattern_under}
 use Rattle.resource.proofs.Laws.{pattern_under_lem}
 use Rattle.entries_spec.specs.Kinds.{is_kind}
 use Rattle.entries_spec.specs.Keys.{k_modes, k_constraints, k_resource_pattern}
-use Rattle.entries_spec.specs.Value.{count_at, string_at, kind_at, flag}
+use Rattle.entries_spec.specs.Value.{count_at, string_at, kind_at, flag, placed}
 use Rattle.entries_spec.specs.Reader.{opt_pairs_at}
 use Rattle.descriptor_spec.specs.Reader.{modes_at, GrantSeen, grant_at, Sum, add_grant, more_at}
 use Rattle.descriptor_spec.specs.Laws.{GrantIn}
 use Rattle.descriptor_spec.proofs.Laws.{grant_bounds}
-use Rattle.descriptor.specs.declared.grants.TerminalId.{TerminalId}
-use Rattle.descriptor.specs.declared.grants.TerminalId.TheVariants.{Any, At}
 use Rattle.descriptor.specs.Code.{pattern_at, grant_under}
 
 -- ---- any terminal id
 
 -- a grant of any terminal id is the grant at the place
-pub any_grant : (s : List ℕ) (at : ℕ) → grant_under s Any at ≡ grant_at s at
+pub any_grant : (s : List ℕ) (at : ℕ) → grant_under s None at ≡ grant_at s at
 unfolding grant_under grant_at kind_at is_kind
 any_grant s at = refl
 
 -- a pattern that was read ends within s
-pub pattern_ends : {c : Span} {n : ℕ} (s : List ℕ) (terminal : TerminalId) (at : ℕ) → got c n ≡ pattern_at s terminal at → n ≤ length s
+pub pattern_ends : {c : Span} {n : ℕ} (s : List ℕ) (terminal : Option ℕ) (at : ℕ) → got c n ≡ pattern_at s terminal at → n ≤ length s
 unfolding string_at
 pattern_ends s terminal at e =
     held (λ c n. n ≤ length s)
@@ -143,8 +142,8 @@ module _ {S : Type 0} (s : List ℕ) (test first second : List ℕ → Bool) (bo
 
 module _ (s : List ℕ) (first : ℕ) (sum : Sum) (at : ℕ) (e : is_terminal (part s first terminal_size) ≡ true) where
   -- the terminal id at `first`, looked for at once or after the pattern was checked
-  under_any : bind (grant_under s (At first) at) (λ g n. got (add_grant sum g) n)
-      ≡ bind (grant_under s Any at)
+  under_any : bind (grant_under s (Some first) at) (λ g n. got (add_grant sum g) n)
+      ≡ bind (grant_under s None at)
       (λ g n. guard (same (take terminal_size (part s g.pattern.start g.pattern.len)) (part s first terminal_size))
       (got (add_grant sum g) n))
   unfolding grant_under string_at
@@ -154,12 +153,12 @@ module _ (s : List ℕ) (first : ℕ) (sum : Sum) (at : ℕ) (e : is_terminal (p
       bind_both (opt_pairs_at s n₁ k_constraints 8) _ _ _ _ (λ constraints n₂.
       pattern_both s (pattern_under (part s first terminal_size)) pattern_ok (λ x. same (take terminal_size x) (part s first terminal_size))
       (λ x. pattern_under_lem (part s first terminal_size) x e)
-      mask (n + length k_modes) constraints.at constraints.size
+      mask (n + length k_modes) (placed constraints).at (placed constraints).size
       (λ g m. got (add_grant sum g) m) (has_at s n₂ k_resource_pattern) (span_at s (n₂ + length k_resource_pattern) 3)
-      (eqb c (2 + flag constraints.there)))))
+      (eqb c (2 + flag constraints)))))
 
   -- so one more grant is one whose pattern is under the terminal id at `first`
-  under_more : bind (grant_under s (At first) at) (λ g n. got (add_grant sum g) n) ≡ more_at s first sum at
+  under_more : bind (grant_under s (Some first) at) (λ g n. got (add_grant sum g) n) ≡ more_at s first sum at
   unfolding more_at
   under_more =
       under_any
@@ -171,9 +170,9 @@ module _ (s : List ℕ) (first : ℕ) (sum : Sum) (at : ℕ) (e : is_terminal (p
       (front_part s g.pattern.start g.pattern.len terminal_size (omega (arith, i.long))))
 
   -- such a grant was read
-  pub more_took : {g : GrantSeen} {n : ℕ} → got g n ≡ grant_under s (At first) at → got (add_grant sum g) n ≡ more_at s first sum at
+  pub more_took : {g : GrantSeen} {n : ℕ} → got g n ≡ grant_under s (Some first) at → got (add_grant sum g) n ≡ more_at s first sum at
   more_took f = took (λ g n. got (add_grant sum g) n) f refl ∙ under_more
 
   -- none was read
-  pub more_stopped : refused ≡ grant_under s (At first) at → refused ≡ more_at s first sum at
+  pub more_stopped : refused ≡ grant_under s (Some first) at → refused ≡ more_at s first sum at
   more_stopped f = stopped (λ g n. got (add_grant sum g) n) f ∙ under_more

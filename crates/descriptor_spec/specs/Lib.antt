@@ -6,4 +6,5 @@ pub mod Modes
 pub mod Reader
 pub mod View
 pub mod Numbers
+pub mod Reading
 pub mod Code

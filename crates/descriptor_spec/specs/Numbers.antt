@@ -7,8 +7,9 @@ use Rattle.octets.specs.Span.{Span, span_of, inside}
 use Rattle.exact.specs.Reads.{Got, got, refused}
 use Rattle.descriptor_spec.specs.declared.Part.{Part}
 use Rattle.descriptor_spec.specs.declared.Fields.{Fields}
-use Rattle.descriptor_spec.specs.declared.Reading.{Reading}
-use Rattle.descriptor_spec.specs.declared.Reading.TheVariants.{Read, Structure, Validity}
+use Rattle.descriptor_spec.specs.Reading.{Reading}
+use Rattle.std.specs.Prelude.{Ok, Err}
+use Rattle.descriptor_spec.specs.declared.ReadError.TheVariants.{Structure, Validity}
 use Rattle.descriptor_spec.specs.declared.DescriptorNumbers.{DescriptorNumbers}
 use Rattle.descriptor_spec.specs.declared.GrantNumbers.{GrantNumbers}
 use Rattle.descriptor_spec.specs.Reader.{GrantSeen}
@@ -80,9 +81,9 @@ no_fields n = answer_numbers n zero_fields
 
 -- document 01's answer and values of a reading
 abbrev pub numbers_of : Reading → DescriptorNumbers
-numbers_of (Read f) = field_numbers f
-numbers_of Structure = no_fields 1
-numbers_of Validity = no_fields 2
+numbers_of (Ok f) = field_numbers f
+numbers_of (Err Structure) = no_fields 1
+numbers_of (Err Validity) = no_fields 2
 
 -- document 01's number of a reading
 abbrev pub number_of : Reading → ℕ
@@ -90,9 +91,8 @@ number_of r = (numbers_of r).answer
 
 -- where the payload of what was read stands in s; nothing at the start on a refusal
 abbrev pub payload_span : List ℕ → Reading → Span
-payload_span s (Read f) = inside s f.payload.at f.payload.len
-payload_span s Structure = span_of 0 0
-payload_span s Validity = span_of 0 0
+payload_span s (Ok f) = inside s f.payload.at f.payload.len
+payload_span s (Err e) = span_of 0 0
 
 -- a grant: found and what is seen of it, or zeros
 abbrev pub grant_numbers : Got GrantSeen → GrantNumbers

@@ -8,11 +8,10 @@ use Rattle.octets.specs.Span.{Span, span_of}
 use Rattle.exact.specs.Reads.{Got, got, refused, bind, guard, many}
 use Rattle.resource_spec.specs.Identifier.{terminal_size}
 use Rattle.entries_spec.specs.declared.Kind.TheVariants.{Text, Bytes, Terminal, Fay, Pattern}
-use Rattle.entries_spec.specs.declared.Optional.{Optional}
 use Rattle.entries_spec.specs.Keys.{k_payload, k_version, k_signature, k_grants, k_metadata, k_issued_at, k_issuer_id, k_not_after, k_grantor_id}
 use Rattle.entries_spec.specs.Keys.{k_not_before}
 use Rattle.entries_spec.specs.Keys.{k_terminal_id, k_descriptor_id, k_subject_fay_id, k_key_id, k_modes, k_constraints, k_resource_pattern}
-use Rattle.entries_spec.specs.Value.{count_at, time_at, kind_at, one_of, keyed_at, flag, opt_kind_at}
+use Rattle.entries_spec.specs.Value.{Optional, count_at, time_at, kind_at, one_of, keyed_at, flag, placed, opt_kind_at}
 use Rattle.entries_spec.specs.Reader.{opt_pairs_at, SignatureSeen, signature_at}
 use Rattle.descriptor_spec.specs.Model.{mode_names}
 use Rattle.descriptor_spec.specs.Allowed.{id_size, longest, longest_period}
@@ -48,12 +47,12 @@ grant_at s at =
     bind (modes_at s n) (λ mask n₁.
     bind (opt_pairs_at s n₁ k_constraints 8) (λ constraints n₂.
     bind (keyed_at s n₂ k_resource_pattern (kind_at Pattern s)) (λ pattern n₃.
-    guard (eqb c (2 + flag constraints.there))
+    guard (eqb c (2 + flag constraints))
     (got (record {
       mask = mask;
       modes = n + length k_modes;
-      constraints = constraints.at;
-      pairs = constraints.size;
+      constraints = (placed constraints).at;
+      pairs = (placed constraints).size;
       pattern = pattern;
     }) n₃)))))
 
@@ -164,7 +163,7 @@ seen_in keys grants i g ids =
 -- the conditions on the whole: as many keys as there are, the patterns' terminal is the payload's, and issued_at ≤ not_before < not_after
 unfoldable pub payload_fits : List ℕ → PayloadSeen → Bool
 payload_fits s p =
-    eqb p.keys (8 + (flag p.metadata.there + flag p.grantor.there))
+    eqb p.keys (8 + (flag p.metadata + flag p.grantor))
     && (same (part s p.grants.first terminal_size) (part s p.terminal terminal_size)
     && (leb p.issued_at p.not_before && ltb p.not_before p.not_after))
 

@@ -10,6 +10,7 @@ use Rattle.entries_spec.specs.declared.Kind.TheVariants.{Text}
 use Rattle.entries_spec.specs.Keys.{k_grants, k_metadata, k_issued_at, k_issuer_id, k_not_after, k_grantor_id, k_not_before, k_terminal_id, k_descriptor_id}
 use Rattle.entries_spec.specs.Keys.{k_subject_fay_id, k_modes, k_constraints, k_resource_pattern}
 use Rattle.entries_spec.specs.Model.{Pair, pair_count, size, enc_bytes, enc_text, enc_pairs}
+use Rattle.entries_spec.specs.Value.{placed}
 use Rattle.entries_spec.specs.View.{content_span, opt_kind_view, opt_pairs_view, signature_view}
 use Rattle.descriptor_spec.specs.Model.{Grant, Payload, Descriptor, enc_modes, enc_grant, enc_grants, encode_payload}
 use Rattle.descriptor_spec.specs.Reader.{GrantSeen, Sum, GrantsSeen, Issue, Grantor, Ids, PayloadSeen, seen_in, Seen, before_payload}
@@ -32,7 +33,7 @@ grant_rest n g =
     record {
       mask = mask_of g.modes;
       modes = n + length k_modes;
-      constraints = (opt_pairs_view n₁ k_constraints g.constraints).at;
+      constraints = (placed (opt_pairs_view n₁ k_constraints g.constraints)).at;
       pairs = pair_count g.constraints;
       pattern = content_span (n₂ + length k_resource_pattern) 3 g.pattern;
     }

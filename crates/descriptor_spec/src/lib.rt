@@ -38,18 +38,9 @@ pub struct Fields {
     pub signature: Part,
 }
 
-// What reading answers before it looks at the period: the fields of a descriptor that is allowed but for its period, or that there is
-// none.
+// Why reading refuses: document 01's 1 or its 2.
 #[derive(Clone, Copy)]
-pub enum Form {
-    Formed(Fields),
-    Unformed,
-}
-
-// What reading answers: the fields, document 01's 1 or its 2.
-#[derive(Clone, Copy)]
-pub enum Reading {
-    Read(Fields),
+pub enum ReadError {
     Structure,
     Validity,
 }

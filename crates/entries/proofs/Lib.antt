@@ -1,3 +1,3 @@
+pub mod Laws
 pub mod ValueCode
-pub mod PairCode
 pub mod SignatureCode

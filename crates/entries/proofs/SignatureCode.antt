@@ -1,6 +1,5 @@
 -- A signature by ed25519 whose bytes before its value stand as one byte string (specs/Code.antt). Assumes nothing.
 use mathlib.Core.Path.{◌≡◌, refl, sym, ap, ◌∙◌}
-use mathlib.Core.Bool.{true}
 use mathlib.Core.List.{List, [], ◌∷◌, ◌++◌}
 use Prim.Native.Nat.{ℕ, ◌+◌, ◌≤◌}
 use native.Mathlib.Omega.{arith}
@@ -18,7 +17,7 @@ use Rattle.entries_spec.specs.Kinds.{is_kind}
 use Rattle.entries_spec.specs.Value.{kind_at, keyed_at}
 use Rattle.entries_spec.specs.Reader.{algorithm_at}
 use Rattle.entries_spec.proofs.FixedLaws.{span_two, keyed_known}
-use Rattle.entries.proofs.ValueCode.{one_first}
+use Rattle.entries.proofs.Laws.{one_first}
 use Rattle.entries.specs.Code.{signed_at}
 
 -- "algorithm", "ed25519", "signature_value" and the head of 64 bytes
@@ -40,7 +39,7 @@ module _ (s : List ℕ) (n : ℕ) (t : T (has_at s n before_value)) (l : n + 36 
   unfolding algorithm_at algorithms
   algorithm_read =
       let here = yes_has_at s (n + length k_algorithm) ed25519 (has_left s _ ed25519 _ after_algorithm) in
-      passed _ (yes_has_at s n k_algorithm (has_left s n k_algorithm _ whole)) (one_first s _ 0 ed25519 _ true (sym ((T_true _).0 here)) refl)
+      passed _ (yes_has_at s n k_algorithm (has_left s n k_algorithm _ whole)) (one_first s _ 0 ed25519 _ (rw ((T_true _).0 here)))
 
   -- and the value
   value_read : got (span_of (n + 36) 64) (n + 36 + 64) ≡ keyed_at s (n + length k_algorithm + length ed25519) k_signature_value (kind_at (Bytes 1 72) s)

@@ -1,27 +1,20 @@
 -- The ways out of the readers of single values. Assumes nothing.
-use mathlib.Core.Path.{◌≡◌, refl, sym, ap, ◌∙◌}
-use mathlib.Core.Bool.{Bool, true, false, not, ◌&&◌}
-use mathlib.Core.List.{List, [], ◌∷◌}
-use Prim.Native.Nat.{ℕ, suc, ◌+◌, ◌-◌, ◌/◌, ◌%◌, ◌≤◌, ◌<◌}
+use mathlib.Core.Path.{◌≡◌, refl, sym, ◌∙◌}
+use mathlib.Core.Bool.{Bool, true, false, ◌&&◌}
+use mathlib.Core.List.{List}
+use Prim.Native.Nat.{ℕ, ◌+◌, ◌-◌, ◌/◌, ◌%◌, ◌≤◌, ◌<◌}
 use native.Mathlib.Omega.{arith}
-use lib.ListN.{length, get_or, take, drop}
+use lib.ListN.{length, get_or}
 use lib.Dec.{ltb, leb, eqb}
 use borrow.Author.Tests.{ltb-false, le-leb, lt-leb}
-use Rattle.octets.specs.Bytes.{part, has_at}
 use Rattle.octets.specs.Number.{number_at}
-use Rattle.octets.specs.Span.{span_of}
-use Rattle.octets.proofs.Tests.{by_cond, no_flag}
-use Rattle.octets.proofs.PartLaws.{lent_part}
+use Rattle.octets.proofs.Tests.{by_cond}
 use Rattle.exact.specs.Reads.{Got, got, refused, bind, guard}
 use Rattle.exact.specs.Holds.{Holds}
-use Rattle.exact.proofs.HoldsLaws.{held}
-use Rattle.exact.proofs.ReadsLaws.{took, stopped, flag_yes, flag_no}
-use Rattle.cbor_item_spec.specs.Head.{Head, head_of, long_head, wide_head, head_at, span_at}
-use Rattle.cbor_item_spec.specs.Laws.{SpanTo}
-use Rattle.cbor_item_spec.proofs.Laws.{spans_end}
-use Rattle.entries_spec.specs.declared.Optional.{Optional}
+use Rattle.exact.proofs.ReadsLaws.{stopped, flag_no}
+use Rattle.cbor_item_spec.specs.Head.{Head, head_of, long_head, wide_head, head_at}
 use Rattle.entries_spec.specs.Kinds.{within}
-use Rattle.entries_spec.specs.Value.{count_at, string_at, one_of, absent, or_absent}
+use Rattle.entries_spec.specs.Value.{count_at}
 
 -- ---- numbers
 
@@ -78,55 +71,3 @@ module _ (s : List ℕ) (at major lo hi : ℕ) (small : hi < 24) where
       rw (lt-leb (length s) at h)
       (by_cond (λ o. bind short counted ≡ bind o counted) (ltb (get_or s at 0 % 32) 24) (λ e. refl)
       (λ e. large_no short (ltb-false _ _ e) ∙ sym (large_no wide (wide_large s at _ _))))
-
--- ---- optional values
-
--- an optional value whose key is there
-pub or_there : {q : Got Optional} (b r : Bool) (o : Got Optional) (at : ℕ) → r ≡ b → not r ≡ false → q ≡ o → q ≡ or_absent b o at
-unfolding or_absent
-or_there b true o at e t f = rw (sym e) f
-or_there b false o at e t f = no_flag (sym t)
-
--- and one whose key is not
-pub or_absent_lem : (b r : Bool) (o : Got Optional) (at : ℕ) → r ≡ b → not r ≡ true → got absent at ≡ or_absent b o at
-unfolding or_absent
-or_absent_lem b false o at e t = rw (sym e) refl
-or_absent_lem b true o at e t = no_flag t
-
--- ---- strings
-
--- the string of a major type at a place lies in s
-pub span_bound : (s : List ℕ) (at major start len : ℕ) → got (span_of start len) (start + len) ≡ span_at s at major → start + len ≤ length s
-span_bound s at major start len e = (held (SpanTo s at) (spans_end s at major) e).fits
-
-module _ (major : ℕ) (test : List ℕ → Bool) (s : List ℕ) (at start len : ℕ) (r : Bool)
-    (e : got (span_of start len) (start + len) ≡ span_at s at major) (v : r ≡ test (take ((start + len) - start) (drop start s)))
-  where
-    -- a string whose content passes the test
-    pub string_yes : r ≡ true → got (span_of start len) (start + len) ≡ string_at major test s at
-    unfolding string_at
-    string_yes t = took _ e (flag_yes (test (part s start len)) r (v ∙ ap test (lent_part s start len)) t refl)
-
-    -- a string whose content does not
-    pub string_no : r ≡ false → refused ≡ string_at major test s at
-    unfolding string_at
-    string_no t = took _ e (flag_no _ (test (part s start len)) r (v ∙ ap test (lent_part s start len)) t)
-
--- ---- one of a table
-
--- the first entry stands at the place
-pub one_first : (s : List ℕ) (at i : ℕ) (k : List ℕ) (ks : List (List ℕ)) (b : Bool) → b ≡ has_at s at k → b ≡ true
-    → got i (at + length k) ≡ one_of s at i (k ∷ ks)
-unfolding one_of
-one_first s at i k ks b e t = rw (sym e ∙ t) refl
-
--- it does not, and the others decide
-pub one_next : (s : List ℕ) (at i : ℕ) (k : List ℕ) (ks : List (List ℕ)) (b : Bool) → b ≡ has_at s at k → b ≡ false
-    → one_of s at (suc i) ks ≡ one_of s at i (k ∷ ks)
-unfolding one_of
-one_next s at i k ks b e t = rw (sym e ∙ t) refl
-
--- none is left
-pub one_none : (s : List ℕ) (at i : ℕ) → refused ≡ one_of s at i []
-unfolding one_of
-one_none s at i = refl

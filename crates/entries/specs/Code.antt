@@ -1,46 +1,40 @@
 -- A reader of the promises does not need this page.
 -- What the answers of the code say, as answers of exact readers.
-use Rattle.std.specs.Prelude.{List, ℕ}
+use Rattle.std.specs.Prelude.{cond, Option, Some, None, List, ℕ, ◌+◌, length}
+use Rattle.octets.specs.Bytes.{has_at}
 use Rattle.octets.specs.Span.{Span, span_of}
-use Rattle.exact.specs.Reads.{Got, got, refused, bind, guard}
-use Rattle.entries.specs.declared.value.CountRead.{CountRead}
-use Rattle.entries.specs.declared.value.CountRead.TheVariants.{IsCount, NoCount}
-use Rattle.entries_spec.specs.declared.Optional.{Optional}
-use Rattle.entries.specs.declared.value.OptionalRead.{OptionalRead}
-use Rattle.entries.specs.declared.value.OptionalRead.TheVariants.{IsOptional, NoOptional}
-use Rattle.entries.specs.declared.pairs.PairRead.{PairRead}
-use Rattle.entries.specs.declared.pairs.PairRead.TheVariants.{IsPair, NoPair}
+use Rattle.exact.specs.Reads.{Got, got, bind, guard}
+use Rattle.exact.specs.Answer.{got_by}
+use Rattle.cbor_item_spec.specs.declared.Span.{Span as CodeSpan}
 use Rattle.entries.specs.declared.signature.SignatureFields.{SignatureFields}
-use Rattle.entries.specs.declared.signature.SignatureRead.{SignatureRead}
-use Rattle.entries.specs.declared.signature.SignatureRead.TheVariants.{IsSignature, NoSignature}
 use Rattle.entries_spec.specs.declared.Kind.TheVariants.{Bytes}
 use Rattle.entries_spec.specs.Keys.{k_algorithm, k_signature_value}
-use Rattle.entries_spec.specs.Value.{kind_at, keyed_at}
+use Rattle.entries_spec.specs.Value.{Optional, kind_at, keyed_at}
 use Rattle.entries_spec.specs.Reader.{value_fits, algorithm_at, SignatureSeen}
 
+-- the place after a key, where the key stands at `at`
+abbrev pub after_key : List ℕ → ℕ → List ℕ → Option ℕ
+after_key s at key = cond (has_at s at key) (Some (at + length key)) None
+
 -- a number and the place after it
-abbrev pub count_read : CountRead → Got ℕ
-count_read (IsCount value next) = got value next
-count_read NoCount = refused
+abbrev pub count_read : Option (ℕ × ℕ) → Got ℕ
+count_read = got_by (λ n. n)
 
 -- an optional value and the place after it
-abbrev pub optional_read : OptionalRead → Got Optional
-optional_read (IsOptional value next) = got value next
-optional_read NoOptional = refused
+abbrev pub optional_read : Option (Optional × ℕ) → Got Optional
+optional_read = got_by (λ v. v)
 
--- the part of a pair's key, which stands at `at`, and the place after the pair
-abbrev pub pair_read : ℕ → PairRead → Got Span
-pair_read at (IsPair len next) = got (span_of at len) next
-pair_read at NoPair = refused
+-- the part of a pair's key, and the place after the pair
+abbrev pub pair_read : Option (CodeSpan × ℕ) → Got Span
+pair_read = got_by (λ part. span_of part.start part.len)
 
 -- a signature
 abbrev pub signature_of : SignatureFields → SignatureSeen
-signature_of f = record { key_id = span_of f.key f.len; algorithm = f.algorithm; value = span_of f.value f.size }
+signature_of f = record { key_id = span_of f.key.start f.key.len; algorithm = f.algorithm; value = span_of f.value.start f.value.len }
 
 -- that and the place after it, or a refusal
-abbrev pub signature_read : SignatureRead → Got SignatureSeen
-signature_read (IsSignature f next) = got (signature_of f) next
-signature_read NoSignature = refused
+abbrev pub signature_read : Option (SignatureFields × ℕ) → Got SignatureSeen
+signature_read = got_by signature_of
 
 -- the signature after key_id: its algorithm and its value
 unfoldable pub signed_at : List ℕ → Span → ℕ → Got SignatureSeen

@@ -4,88 +4,56 @@ ghost use Rattle.octets.specs.Span.{span_of};
 ghost use Rattle.entries_spec.specs.Reader.{pair_at, pairs_at, opt_pairs_at};
 ghost use Rattle.entries.specs.Code.{pair_read, count_read, optional_read};
 
-use crate::value::{ABSENT, CountRead, Kind, Optional, OptionalRead, count_at, string_at};
-use cbor_item::SpanRead;
-use octets::{before, has_at};
+use crate::value::{Kind, Place, after_key, count_at, string_at};
+use cbor_item::Span;
+use octets::before;
 
-// A pair: the length of its key's encoding, and the place after it.
-#[derive(Clone, Copy)]
-pub(crate) enum PairRead {
-    IsPair { len: usize, next: usize },
-    NoPair,
-}
-
-// One pair after the key whose encoding is the `len` bytes from `last` on.
-fn pair_at(s: &[u8], last: usize, len: usize, at: usize) -> PairRead
-    requires { last + len ≤ length s.now }
-    ensures { pair_read at result ≡ pair_at s.now (span_of last len) at }
+// One pair after the key whose encoding is the part `last`: the new key's part, and the place after the pair.
+#[tactic(auto, using(entries_spec::proofs::ValueBounds::string_room, octets::proofs::PartLaws::lent_part), unfolding(entries_spec::specs::Reader::pair_at, octets::specs::Bytes::part, exact::specs::Reads::bind, exact::specs::Reads::guard))]
+fn pair_at(s: &[u8], last: Span, at: usize) -> Option<(Span, usize)>
+    requires { last.start + last.len ≤ length s.now }
+    ensures { pair_read result ≡ pair_at s.now (span_of last.start last.len) at }
 {
-    let SpanRead::IsSpan { start, len: n } = string_at(s, at, Kind::Text { lo: 1, hi: 64 }) else {
-        return PairRead::NoPair;
-    };
-    let end = start + n;
-    if !before(&s[last..last + len], &s[at..end]) {
-        return PairRead::NoPair;
+    let key = string_at(s, at, Kind::Text { lo: 1, hi: 64 })?;
+    let end = key.start + key.len;
+    if !before(&s[last.start..last.start + last.len], &s[at..end]) {
+        return None;
     }
-    let SpanRead::IsSpan {
-        start: from,
-        len: m,
-    } = string_at(s, end, Kind::Text { lo: 0, hi: 256 })
-    else {
-        return PairRead::NoPair;
-    };
-    PairRead::IsPair {
+    let value = string_at(s, end, Kind::Text { lo: 0, hi: 256 })?;
+    let part = Span {
+        start: at,
         len: end - at,
-        next: from + m,
-    }
+    };
+    Some((part, value.start + value.len))
 }
 
 // A map of at most so many pairs.
-pub fn pairs_at(s: &[u8], most: u64, at: usize) -> CountRead
+#[tactic(auto, using(entries_spec::proofs::ValueBounds::pair_room, exact::proofs::CountedLaws::many_begin, exact::proofs::CountedLaws::many_next, exact::proofs::CountedLaws::many_stop, exact::proofs::CountedLaws::many_done), unfolding(entries_spec::specs::Reader::pairs_at, exact::specs::Reads::bind))]
+pub fn pairs_at(s: &[u8], most: u64, at: usize) -> Option<(u64, usize)>
     ensures { count_read result ≡ pairs_at s.now most at }
 {
-    let CountRead::IsCount { value, next } = count_at(s, at, 5, 0, most) else {
-        return CountRead::NoCount;
-    };
-    let mut left = value;
-    let mut last: usize = 0;
-    let mut len: usize = 0;
+    let (count, next) = count_at(s, at, 5, 0, most)?;
+    let mut last = Span { start: 0, len: 0 };
     let mut here = next;
-    while 0 < left {
-        match pair_at(s, last, len, here) {
-            PairRead::IsPair {
-                len: n,
-                next: after,
-            } => {
-                last = here;
-                len = n;
-                here = after;
-            }
-            PairRead::NoPair => return CountRead::NoCount,
-        }
-        left -= 1;
+    for _ in 0..count {
+        (last, here) = pair_at(s, last, here)?;
     }
-    CountRead::IsCount { value, next: here }
+    Some((count, here))
 }
 
-// An optional map of at most so many pairs after its key, where the key stands at `at`.
-pub fn opt_pairs(s: &[u8], at: usize, key: &[u8], most: u64) -> OptionalRead
+// An optional map of at most so many pairs after its key, where the key stands at `at`. `opt_keyed` has this shape too; with a closure for the
+// reader neither would have fewer lines.
+#[tactic(auto, using(crate::proofs::Laws::key_to, crate::proofs::Laws::key_not), unfolding(entries_spec::specs::Reader::opt_pairs_at, entries_spec::specs::Value::or_absent, exact::specs::Reads::bind))]
+pub fn opt_pairs(s: &[u8], at: usize, key: &[u8], most: u64) -> Option<(Option<Place>, usize)>
     ensures { optional_read result ≡ opt_pairs_at s.now at key.now most }
 {
-    if !has_at(s, at, key) {
-        return OptionalRead::IsOptional {
-            value: ABSENT,
-            next: at,
-        };
-    }
-    let place = at + key.len();
-    let CountRead::IsCount { value, next } = pairs_at(s, most, place) else {
-        return OptionalRead::NoOptional;
+    let Some(place) = after_key(s, at, key) else {
+        return Some((None, at));
     };
-    let value = Optional {
-        there: true,
+    let (count, next) = pairs_at(s, most, place)?;
+    let value = Place {
         at: place,
-        size: value,
+        size: count,
     };
-    OptionalRead::IsOptional { value, next }
+    Some((Some(value), next))
 }

@@ -8,118 +8,77 @@ ghost use Rattle.exact.specs.Reads.{got, guard};
 ghost use Rattle.entries.specs.Code.{count_read, signature_of, signature_read, signed_at};
 
 use crate::keys;
-use crate::value::{CountRead, Kind, keyed, text_at};
-use cbor_item::SpanRead;
-use octets::has_at;
+use crate::value::{Kind, after_key, keyed, text_at};
+use cbor_item::Span;
 
 // key_id, the algorithm's number and the signature's bytes.
 #[derive(Clone, Copy)]
 pub struct SignatureFields {
-    pub key: usize,
-    pub len: usize,
+    pub key: Span,
     pub algorithm: u64,
-    pub value: usize,
-    pub size: usize,
+    pub value: Span,
 }
 
-#[derive(Clone, Copy)]
-pub enum SignatureRead {
-    IsSignature {
-        signature: SignatureFields,
-        next: usize,
-    },
-    NoSignature,
-}
-
-// An algorithm after its key: 0 for ed25519, 1 for ecdsa-p256-sha256.
-fn algorithm_at(s: &[u8], at: usize) -> CountRead
+// An algorithm after its key: 0 for ed25519, 1 for ecdsa-p256-sha256, the numbers that the definition `algorithm_at` and include/cap.h have.
+#[tactic(auto, using(crate::proofs::Laws::key_to, crate::proofs::Laws::key_not, crate::proofs::Laws::one_first, crate::proofs::Laws::one_next, crate::proofs::Laws::one_none), unfolding(entries_spec::specs::Reader::algorithm_at, entries_spec::specs::Keys::k_algorithm, entries_spec::specs::Keys::algorithms, entries_spec::specs::Keys::ed25519, entries_spec::specs::Keys::ecdsa_p256_sha256, exact::specs::Reads::guard))]
+fn algorithm_at(s: &[u8], at: usize) -> Option<(u64, usize)>
     ensures { count_read result ≡ keyed_at s.now at k_algorithm (algorithm_at s.now) }
 {
-    if !has_at(s, at, &keys::ALGORITHM) {
-        return CountRead::NoCount;
+    let here = after_key(s, at, &keys::ALGORITHM)?;
+    if let Some(next) = after_key(s, here, &keys::ED25519) {
+        return Some((0, next));
     }
-    let here = at + 10;
-    if has_at(s, here, &keys::ED25519) {
-        return CountRead::IsCount {
-            value: 0,
-            next: here + 8,
-        };
-    }
-    if has_at(s, here, &keys::ECDSA_P256_SHA256) {
-        return CountRead::IsCount {
-            value: 1,
-            next: here + 18,
-        };
-    }
-    CountRead::NoCount
+    let next = after_key(s, here, &keys::ECDSA_P256_SHA256)?;
+    Some((1, next))
 }
 
 // A signature whose length fits its algorithm.
-fn if_fits(signature: SignatureFields, next: usize) -> SignatureRead
-    ensures { signature_read result ≡ guard (value_fits signature.algorithm signature.size) (got (signature_of signature) next) }
+#[tactic(auto, unfolding(exact::specs::Reads::guard))]
+fn if_fits(signature: SignatureFields, next: usize) -> Option<(SignatureFields, usize)>
+    ensures { signature_read result ≡ guard (value_fits signature.algorithm signature.value.len) (got (signature_of signature) next) }
 {
-    if (signature.algorithm == 1) | (signature.size == 64) {
-        return SignatureRead::IsSignature { signature, next };
+    if (signature.algorithm == 1) | (signature.value.len == 64) {
+        return Some((signature, next));
     }
-    SignatureRead::NoSignature
+    None
 }
 
-// The signature after key_id, which is the `len` bytes from `key` on.
-fn signed_at(s: &[u8], key: usize, len: usize) -> SignatureRead
-    requires { key + len ≤ length s.now }
-    ensures { signature_read result ≡ signed_at s.now (span_of key len) (key + len) }
+// The signature after key_id, which is the part `key`.
+#[tactic(auto, using(entries_spec::proofs::ValueBounds::string_ends), unfolding(crate::specs::Code::signed_at, entries_spec::specs::Keys::k_signature_value, exact::specs::Reads::bind))]
+fn signed_at(s: &[u8], key: Span) -> Option<(SignatureFields, usize)>
+    requires { key.start + key.len ≤ length s.now }
+    ensures { signature_read result ≡ signed_at s.now (span_of key.start key.len) (key.start + key.len) }
 {
-    let CountRead::IsCount {
-        value: algorithm,
-        next,
-    } = algorithm_at(s, key + len)
-    else {
-        return SignatureRead::NoSignature;
-    };
-    let SpanRead::IsSpan {
-        start: value,
-        len: size,
-    } = keyed(
+    let (algorithm, next) = algorithm_at(s, key.start + key.len)?;
+    let value = keyed(
         s,
         next,
         &keys::SIGNATURE_VALUE,
         Kind::Bytes { lo: 1, hi: 72 },
-    )
-    else {
-        return SignatureRead::NoSignature;
-    };
+    )?;
     let signature = SignatureFields {
         key,
-        len,
         algorithm,
         value,
-        size,
     };
-    if_fits(signature, value + size)
+    if_fits(signature, value.start + value.len)
 }
 
 // The signature from the text of key_id on. What stands between key_id and a signature by ed25519 is one byte string.
-pub fn signature_at(s: &[u8], at: usize) -> SignatureRead
+#[tactic(auto, using(crate::proofs::Laws::key_to, entries_spec::proofs::ValueBounds::string_room, entries_spec::proofs::ValueBounds::key_fits, crate::proofs::SignatureCode::ed25519_found), unfolding(entries_spec::specs::Reader::signature_at, crate::specs::Code::signed_at, entries_spec::specs::Keys::k_algorithm, entries_spec::specs::Keys::ed25519, entries_spec::specs::Keys::k_signature_value, exact::specs::Reads::bind))]
+pub fn signature_at(s: &[u8], at: usize) -> Option<(SignatureFields, usize)>
     ensures { signature_read result ≡ signature_at s.now at }
 {
-    let SpanRead::IsSpan { start: key, len } = text_at(s, at, 1, 64) else {
-        return SignatureRead::NoSignature;
-    };
-    if has_at(s, key + len, &keys::BEFORE_ED25519_VALUE) {
-        let value = key + len + 36;
-        if 64 <= s.len() - value {
+    let key = text_at(s, at, 1, 64)?;
+    if let Some(start) = after_key(s, key.start + key.len, &keys::BEFORE_ED25519_VALUE) {
+        if 64 <= s.len() - start {
             let signature = SignatureFields {
                 key,
-                len,
                 algorithm: 0,
-                value,
-                size: 64,
+                value: Span { start, len: 64 },
             };
-            return SignatureRead::IsSignature {
-                signature,
-                next: value + 64,
-            };
+            return Some((signature, start + 64));
         }
     }
-    signed_at(s, key, len)
+    signed_at(s, key)
 }

@@ -12,11 +12,10 @@ use Rattle.exact.proofs.ReadsLaws.{mapped}
 use Rattle.exact.proofs.OptionalLaws.{optional}
 use Rattle.cbor_item_spec.specs.Head.{encode_string}
 use Rattle.entries_spec.specs.declared.Kind.{Kind}
-use Rattle.entries_spec.specs.declared.Optional.{Optional}
 use Rattle.entries_spec.specs.Model.{Pair, pair_count, size, enc_pairs}
 use Rattle.entries_spec.specs.Kinds.{major_of}
 use Rattle.entries_spec.specs.Allowed.{KindOk, PairsOk}
-use Rattle.entries_spec.specs.Value.{present, flag, or_absent, opt_kind_at}
+use Rattle.entries_spec.specs.Value.{Optional, present, placed, flag, or_absent, opt_kind_at}
 use Rattle.entries_spec.specs.Reader.{opt_pairs_at}
 use Rattle.entries_spec.specs.View.{content_span, or_none, opt_kind_view, opt_pairs_view}
 use Rattle.entries_spec.proofs.ValueLaws.{KindShort, string_exact}
@@ -28,17 +27,17 @@ size_small none = omega arith
 size_small (some x) = omega arith
 
 -- an optional map of pairs is seen to be there where it is one key
-pub pairs_there : (at : ℕ) (key : List ℕ) (ps : Option (List Pair)) → flag (opt_pairs_view at key ps).there ≡ size ps
+pub pairs_there : (at : ℕ) (key : List ℕ) (ps : Option (List Pair)) → flag (opt_pairs_view at key ps) ≡ size ps
 pairs_there at key none = refl
 pairs_there at key (some ps) = refl
 
 -- so is an optional string
-pub kind_there : (at : ℕ) (key : List ℕ) (kind : Kind) (c : Option (List ℕ)) → flag (opt_kind_view at key kind c).there ≡ size c
+pub kind_there : (at : ℕ) (key : List ℕ) (kind : Kind) (c : Option (List ℕ)) → flag (opt_kind_view at key kind c) ≡ size c
 kind_there at key kind none = refl
 kind_there at key kind (some c) = refl
 
 -- as many pairs are seen as there are
-pub pairs_seen : (at : ℕ) (key : List ℕ) (ps : Option (List Pair)) → (opt_pairs_view at key ps).size ≡ pair_count ps
+pub pairs_seen : (at : ℕ) (key : List ℕ) (ps : Option (List Pair)) → (placed (opt_pairs_view at key ps)).size ≡ pair_count ps
 pairs_seen at key none = refl
 pairs_seen at key (some ps) = refl
 

@@ -1,6 +1,6 @@
 -- What the readers of single values and of pairs answer lies in the bytes and is small. Assumes nothing.
 use mathlib.Core.Path.{◌≡◌}
-use mathlib.Core.Bool.{Bool, true, false, not, ◌&&◌}
+use mathlib.Core.Bool.{Bool, true, false, ◌&&◌}
 use mathlib.Core.List.{List, [], ◌∷◌}
 use Prim.Native.Nat.{ℕ, ◌+◌, ◌≤◌, ◌<◌}
 use native.Mathlib.Omega.{arith}
@@ -9,7 +9,7 @@ use lib.Dec.{T, leb, eqb, leb→le}
 use mir.Facts.{and_yes}
 use Rattle.octets.specs.Bytes.{has_at}
 use Rattle.octets.specs.Span.{Span, span_of}
-use Rattle.octets.proofs.BytesLaws.{has_fits, has_at_yes, part_has, T_of_not}
+use Rattle.octets.proofs.BytesLaws.{has_fits, has_at_yes, part_has}
 use Rattle.octets.proofs.TruthLaws.{T_true}
 use Rattle.exact.specs.Reads.{Got, got}
 use Rattle.exact.specs.Holds.{Holds}
@@ -18,9 +18,8 @@ use Rattle.cbor_item_spec.specs.Laws.{HeadTo, SpanTo}
 use Rattle.cbor_item_spec.proofs.Laws.{heads_end, spans_end}
 use Rattle.entries_spec.specs.declared.Kind.{Kind}
 use Rattle.entries_spec.specs.declared.Kind.TheVariants.{Text}
-use Rattle.entries_spec.specs.declared.Optional.{Optional}
 use Rattle.entries_spec.specs.Kinds.{major_of, is_kind}
-use Rattle.entries_spec.specs.Value.{count_at, string_at, kind_at, keyed_at, absent, or_absent, opt_kind_at}
+use Rattle.entries_spec.specs.Value.{placed, Optional, count_at, string_at, kind_at, keyed_at, absent, or_absent, opt_kind_at}
 use Rattle.entries_spec.specs.Reader.{pair_at, pairs_at, opt_pairs_at}
 
 -- ---- keys
@@ -28,10 +27,6 @@ use Rattle.entries_spec.specs.Reader.{pair_at, pairs_at, opt_pairs_at}
 -- a key that stands at a place lies within s
 pub key_fits : (s : List ℕ) (at : ℕ) (k : List ℕ) → 0 < length k → T (has_at s at k) → at + length k ≤ length s
 key_fits s at k h t = has_fits s at k h (has_at_yes s at k t)
-
--- so does a key that the code found
-pub key_room : (s : List ℕ) (at : ℕ) (k : List ℕ) (b : Bool) → 0 < length k → b ≡ has_at s at k → not b ≡ false → at + length k ≤ length s
-key_room s at k b h e t = key_fits s at k h (T_of_not b e t)
 
 -- the place after a key that stands at a place is below any bound of that place and of the length
 pub key_end : (s : List ℕ) (at : ℕ) (k : List ℕ) (top : ℕ) → T (has_at s at k) → at < top → length s < top → at + length k < top
@@ -114,8 +109,8 @@ pair_bounds s last b at h =
     (λ v m j. (omega (arith, i.after, i.ends, i.fits), omega (arith, i.after, i.ends, j.after, j.ends)))))
 
 -- so it is for the key of a pair that was read
-pub pair_room : (s : List ℕ) (last : Span) (at len next : ℕ) → got (span_of at len) next ≡ pair_at s last at → at + len ≤ length s
-pair_room s last at len next e = (held (λ c n. (c.start + c.len ≤ length s) × (0 ≤ n)) (pair_bounds s last 0 at (omega arith)) e).0
+pub pair_room : {c : Span} {n : ℕ} (s : List ℕ) (last : Span) (at : ℕ) → got c n ≡ pair_at s last at → c.start + c.len ≤ length s
+pair_room s last at e = (held (λ c n. (c.start + c.len ≤ length s) × (0 ≤ n)) (pair_bounds s last 0 at (omega arith)) e).0
 
 -- pairs are at most as many as allowed
 pub pairs_bounds : (s : List ℕ) (most at : ℕ) → Holds (λ c n. (c ≤ most) × (at ≤ n)) (pairs_at s most at)
@@ -147,9 +142,9 @@ opt_kind_on s at k kind =
     (λ c n i. omega (arith, i.after, i.ends)))
 
 -- nor does an optional map of pairs, and its pairs are at most as many as allowed
-pub opt_pairs_on : (s : List ℕ) (at : ℕ) (k : List ℕ) (most : ℕ) → Holds (λ v n. (at ≤ n) × (v.size ≤ most)) (opt_pairs_at s at k most)
+pub opt_pairs_on : (s : List ℕ) (at : ℕ) (k : List ℕ) (most : ℕ) → Holds (λ v n. (at ≤ n) × ((placed v).size ≤ most)) (opt_pairs_at s at k most)
 unfolding opt_pairs_at
 opt_pairs_on s at k most =
-    holds_or (λ v n. (at ≤ n) × (v.size ≤ most)) _ _ at (omega arith, omega arith)
-    (holds_bind (λ c n. (c ≤ most) × (at + length k ≤ n)) (λ v n. (at ≤ n) × (v.size ≤ most)) _ _ (pairs_bounds s most (at + length k))
+    holds_or (λ v n. (at ≤ n) × ((placed v).size ≤ most)) _ _ at (omega arith, omega arith)
+    (holds_bind (λ c n. (c ≤ most) × (at + length k ≤ n)) (λ v n. (at ≤ n) × ((placed v).size ≤ most)) _ _ (pairs_bounds s most (at + length k))
     (λ c n i. (omega (arith, i.1), i.0)))

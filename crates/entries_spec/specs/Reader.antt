@@ -6,9 +6,8 @@ use Rattle.octets.specs.Order.{before}
 use Rattle.octets.specs.Span.{Span, span_of}
 use Rattle.exact.specs.Reads.{Got, got, bind, guard, many}
 use Rattle.entries_spec.specs.declared.Kind.TheVariants.{Text, Bytes}
-use Rattle.entries_spec.specs.declared.Optional.{Optional}
 use Rattle.entries_spec.specs.Keys.{k_algorithm, k_signature_value, algorithms}
-use Rattle.entries_spec.specs.Value.{count_at, kind_at, one_of, keyed_at, present, or_absent}
+use Rattle.entries_spec.specs.Value.{Optional, count_at, kind_at, one_of, keyed_at, present, or_absent}
 
 -- ---- pairs
 

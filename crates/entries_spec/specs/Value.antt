@@ -1,13 +1,13 @@
 -- A reader of the promises does not need this page.
 -- Readers of single values at a place, and of values after their keys: a number under a head, a string of a kind, a name of a table.
 -- These definitions compute: the code answers what they say.
-use Rattle.std.specs.Prelude.{Bool, true, false, cond, ◌&&◌, List, [], ◌∷◌, ℕ, suc, ◌+◌, length, eqb}
+use Rattle.std.specs.Prelude.{Option, Some, None, unwrap_or, Bool, true, false, cond, ◌&&◌, List, [], ◌∷◌, ℕ, suc, ◌+◌, length, eqb}
 use Rattle.octets.specs.Bytes.{part, has_at}
 use Rattle.octets.specs.Span.{Span}
 use Rattle.exact.specs.Reads.{Got, got, refused, bind, guard}
 use Rattle.cbor_item_spec.specs.Head.{head_at, span_at}
 use Rattle.entries_spec.specs.declared.Kind.{Kind}
-use Rattle.entries_spec.specs.declared.Optional.{Optional}
+use Rattle.entries_spec.specs.declared.Place.{Place}
 use Rattle.entries_spec.specs.Kinds.{within, major_of, is_kind}
 
 -- ---- single values
@@ -39,18 +39,26 @@ one_of s at i (k ∷ ks) = cond (has_at s at k) (got i (at + length k)) (one_of 
 abbrev pub keyed_at : {R : Type 0} → List ℕ → ℕ → List ℕ → (ℕ → Got R) → Got R
 keyed_at s at key value = guard (has_at s at key) (value (at + length key))
 
--- what is seen of an optional value that is absent
+-- what is seen of an optional value: its place and its size, where it is there
+abbrev pub Optional : Type 0
+Optional = Option Place
+
+-- of one that is absent
 abbrev pub absent : Optional
-absent = record { there = false; at = 0; size = 0 }
+absent = None
 
 -- and of one that is there: its place, and the length of a string's content or the number of a map's pairs
 abbrev pub present : ℕ → ℕ → Optional
-present at n = record { there = true; at = at; size = n }
+present at n = Some (record { at = at; size = n })
 
 -- 1 where a value is there, else 0
-abbrev pub flag : Bool → ℕ
-flag true = 1
-flag false = 0
+abbrev pub flag : Optional → ℕ
+flag (Some p) = 1
+flag None = 0
+
+-- the place and the size of a value; 0 and 0 where it is absent
+abbrev pub placed : Optional → Place
+placed v = unwrap_or v (record { at = 0; size = 0 })
 
 -- a value that is optional, by the test whether its key stands at the place; absent passes no byte
 unfoldable pub or_absent : Bool → Got Optional → ℕ → Got Optional

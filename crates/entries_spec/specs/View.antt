@@ -5,12 +5,11 @@ use Rattle.std.proofs.Math.Option.{Option, none, some}
 use Rattle.octets.specs.Span.{Span, span_of}
 use Rattle.exact.specs.Reads.{view_opt}
 use Rattle.cbor_item_spec.specs.Encoding.{head}
-use Rattle.entries_spec.specs.declared.Optional.{Optional}
 use Rattle.entries_spec.specs.declared.Kind.{Kind}
 use Rattle.entries_spec.specs.Keys.{k_algorithm, k_signature_value}
 use Rattle.entries_spec.specs.Model.{Pair, Signature, enc_text, enc_algorithm}
 use Rattle.entries_spec.specs.Kinds.{major_of}
-use Rattle.entries_spec.specs.Value.{absent, present}
+use Rattle.entries_spec.specs.Value.{Optional, absent, present}
 use Rattle.entries_spec.specs.Reader.{SignatureSeen}
 
 -- the content of a string that stands at a place with its head

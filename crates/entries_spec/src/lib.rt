@@ -13,11 +13,9 @@ pub enum Kind {
     Pattern,
 }
 
-// An optional value: whether it is there, its place, and its size, which is the length of a string's content or the number of a map's
-// pairs. Place and size are 0 where it is absent.
+// Where an optional value is that is there, and its size, which is the length of a string's content or the number of a map's pairs.
 #[derive(Clone, Copy)]
-pub struct Optional {
-    pub there: bool,
+pub struct Place {
     pub at: usize,
     pub size: u64,
 }

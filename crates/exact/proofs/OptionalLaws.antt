@@ -1,6 +1,6 @@
 -- An optional key with its value, and what follows it (specs/Reads.antt). Assumes nothing.
-use mathlib.Core.Path.{◌≡◌, refl, sym, ap, subst}
-use mathlib.Core.Bool.{Bool, true, false, not}
+use mathlib.Core.Path.{◌≡◌, refl, sym, subst}
+use mathlib.Core.Bool.{Bool, true, false}
 use mathlib.Core.List.{List, ◌++◌, append_assoc}
 use mathlib.Core.Option.{Option, none, some}
 use Prim.Native.Nat.{ℕ, ◌+◌}
@@ -12,21 +12,6 @@ use Rattle.octets.specs.Bytes.{Has, has_at}
 use Rattle.exact.specs.Reads.{Got, got, refused, Reads, bind, opt_at, enc_opt, OptOk, view_opt}
 use Rattle.octets.proofs.BytesLaws.{has_nil, has_left, has_join, has_at_yes, yes_has_at}
 use Rattle.exact.proofs.ReadsLaws.{recast, behind, seq}
-
-pub opt_absent : {R : Type 0} (b : Bool) (o : Got R) (at : ℕ) → T (not b) → got none at ≡ opt_at b o at
-unfolding opt_at
-opt_absent true o at t = absurd t
-opt_absent false o at t = refl
-
-pub opt_present : {R : Type 0} {r : R} {n : ℕ} (b : Bool) (o : Got R) (at : ℕ) → T b → got r n ≡ o → got (some r) n ≡ opt_at b o at
-unfolding opt_at bind
-opt_present true o at t e = ap (λ (a : Got _). bind a (λ r n. got (some r) n)) e
-opt_present false o at t e = absurd t
-
-pub opt_broken : {R : Type 0} (b : Bool) (o : Got R) (at : ℕ) → T b → refused ≡ o → refused ≡ opt_at b o at
-unfolding opt_at bind
-opt_broken true o at t e = ap (λ (a : Got _). bind a (λ r n. got (some r) n)) e
-opt_broken false o at t e = absurd t
 
 bind_some : {R Q : Type 0} (o : Got R) (k : Option R → ℕ → Got Q)
     → bind (bind o (λ r n. got (some r) n)) k ≡ bind o (λ r n. k (some r) n)

@@ -3,8 +3,8 @@ use Rattle.std.specs.Prelude.{◌≡◌, ℕ, zero, suc, ◌+◌, ◌-◌, ◌<�
 use mathlib.Core.Path.{refl, sym, ap, ◌∙◌}
 use native.Mathlib.Omega.{arith}
 use Rattle.exact.specs.Reads.{Got, got, refused}
-use Rattle.descriptor_spec.specs.declared.Reading.{Reading}
-use Rattle.descriptor_spec.specs.declared.Reading.TheVariants.{Read, Structure, Validity}
+use Rattle.descriptor_spec.specs.Reading.{Reading}
+use Rattle.std.specs.Prelude.{Ok, Err}
 use Rattle.descriptor_spec.specs.declared.GrantNumbers.{GrantNumbers}
 use Rattle.descriptor_spec.specs.Code.{reading_of}
 use Rattle.descriptor_spec.specs.Numbers.{grant_numbers}
@@ -16,9 +16,8 @@ use Rattle.grant_reader.specs.Promises.{no_grant, NoneStays}
 
 -- the place of the first grant in what the code reads of a descriptor; the end of s where it reads nothing
 abbrev pub first_in : List ℕ → Reading → ℕ
-first_in s (Read f) = f.first
-first_in s Structure = length s
-first_in s Validity = length s
+first_in s (Ok f) = f.first
+first_in s (Err e) = length s
 
 -- it is where the walk begins
 first_start : (s : List ℕ) (a : Answer) → first_in s (reading_of a) ≡ start_in s a

@@ -1,12 +1,10 @@
 -- Laws that the proofs of the code apply: what the numbers and parts that the code reads say of the definitions of specs/Check.antt of
 -- `image_spec`. Assumes nothing.
 use mathlib.Core.Path.{◌≡◌, refl, sym, ap, ap₂, ◌∙◌}
-use mathlib.Core.Logic.{◌⊎◌, inl, inr}
-use mathlib.Core.Bool.{Bool, true, false, not, ◌&&◌, and_assoc}
+use mathlib.Core.Bool.{Bool, true, false, false≢true, not, ◌&&◌, and_assoc}
 use mathlib.Core.List.{List}
-use Prim.Native.Nat.{ℕ, zero, suc, ◌+◌, ◌-◌, ◌≤◌, ◌<◌}
+use Prim.Native.Nat.{ℕ, zero, suc, ◌+◌, ◌-◌, ◌*◌, ◌≤◌, ◌<◌}
 use native.Mathlib.Omega.{arith}
-use native.Mathlib.Nat.{add-zero, add-suc}
 use native.Mathlib.Numerals.{add-one}
 use lib.ListN.{length, take, drop, get_or}
 use lib.Dec.{leb, eqb}
@@ -16,60 +14,77 @@ use Rattle.octets.specs.Number.{number_at, number_in}
 use Rattle.exact.specs.Reads.{Got, got, refused, guard}
 use Rattle.octets.proofs.Tests.{and_left, and_right}
 use Rattle.octets.proofs.BytesLaws.{T_of_not, not_T_of, part_has}
-use Rattle.exact.proofs.ReadsLaws.{guard_yes, guard_no, guard_leb, passed, failed, passed_leb, failed_leb}
+use Rattle.exact.proofs.ReadsLaws.{guard_leb, passed, failed, passed_leb, failed_leb}
 use Rattle.octets.proofs.NumberLaws.{number_in_lem}
 use Rattle.octets.proofs.PartLaws.{lent_part}
 use Rattle.descriptor_spec.specs.declared.Fields.{Fields}
-use Rattle.descriptor_spec.specs.declared.Reading.{Reading}
-use Rattle.descriptor_spec.specs.declared.Reading.TheVariants.{Read, Structure, Validity}
+use Rattle.descriptor_spec.specs.Reading.{Reading}
+use Rattle.std.specs.Prelude.{Ok, Err}
+use Rattle.descriptor_spec.specs.declared.ReadError.TheVariants.{Structure, Validity}
 use Rattle.descriptor_spec.specs.Reader.{read_of}
 use Rattle.descriptor_spec.specs.Code.{reading_of}
-use Rattle.image_spec.specs.declared.Held.{Held}
-use Rattle.image_spec.specs.declared.Held.TheVariants.{Missing}
-use Rattle.image_spec.specs.declared.ImageCheck.{ImageCheck}
-use Rattle.image_spec.specs.declared.ImageCheck.TheVariants.{Unsound}
-use Rattle.image_spec.specs.declared.Finding.TheVariants.{Malformed}
+use Rattle.image_spec.specs.Check.{Held}
+use Rattle.std.specs.Prelude.{Option, Some, None}
+use Rattle.image_spec.specs.Check.{ImageCheck}
+use Rattle.image_spec.specs.declared.Contents.{Contents}
+use Rattle.image_spec.specs.declared.StoredBody.{StoredBody}
+use Rattle.image_spec.specs.declared.FindError.{FindError}
+use Rattle.image_spec.specs.declared.FindError.TheVariants.{Malformed, BadImage, NotFound}
+use Rattle.std.specs.Prelude.{Result}
+use Rattle.std.specs.Option.{ok_or}
 use Rattle.image_spec.specs.declared.layout.Layout.{Layout}
 use Rattle.descriptor_spec.specs.Allowed.{id_size}
 use Rattle.image_spec.specs.Layout.{mode_edition, header_size, header_width, edition_place, modes_place, count_place, header_zero}
 use Rattle.image_spec.specs.Layout.{body_width, mask_width, offset_place, length_place, mask_place, zero_place, row_size, most_rows, zero_size}
-use Rattle.image_spec.specs.Layout.{row_place, LayoutOk}
+use Rattle.image_spec.specs.Layout.{row_place, edition1, edition2, LayoutOk}
 use Rattle.image_spec.specs.Image.{reading}
 use Rattle.image_spec.specs.Check.{row_count, row_id, row_length, header_fits, id_among, row_fits, on_read, row_at, held_with, rows_from, checked}
-use Rattle.image_spec.specs.Check.{check_answer, check_of, found_in, find_of}
+use Rattle.image_spec.specs.Check.{layout_of, check_answer, check_of, held_at, found_in, find_of}
+use Rattle.std.specs.Result.{result_ok}
+use Rattle.std.specs.List.{list_all}
+use Rattle.std.proofs.lemmas.List.{get_or-drop}
+use Rattle.std.proofs.lemmas.List.Folds.{list_all_more}
+use lib.ListN.{length-drop}
 use Rattle.image_spec.proofs.Laws.{row_next, read_in}
-use Rattle.image.proofs.RowsCode.{rows_next}
+use Rattle.image.proofs.RowsCode.{rows_next, id_is}
+
+-- ---- the layout that a header names
+
+-- the header names edition 2
+pub names_2 : (s : List ℕ) (n : ℕ) → n ≡ number_in s edition_place header_width → n ≡ 2 → edition2 ≡ layout_of s
+unfolding layout_of
+names_2 s n e f = rw (eq-eqb (number_in s edition_place header_width) 2 (sym e ∙ f))
+
+-- it does not
+pub names_1 : (s : List ℕ) (n : ℕ) → n ≡ number_in s edition_place header_width → (n ≡ 2 → ⊥) → edition1 ≡ layout_of s
+unfolding layout_of
+names_1 s n e f = rw (ne_eqb (number_in s edition_place header_width) 2 (λ g. f (e ∙ g)))
 
 -- ---- bytes that are zero
 
--- where a number is zero, so is that in fewer of its bytes
-zero_back : (s : List ℕ) (at i k : ℕ) → number_at s at (i + k) ≡ 0 → number_at s at i ≡ 0
-unfolding number_at
-zero_back s at i zero e = ap (number_at s at) (sym (add-zero i)) ∙ e
-zero_back s at i (suc k) e = let f : number_at s at (suc (i + k)) ≡ 0 = sym (ap (number_at s at) (add-suc i k)) ∙ e in zero_back s at i k
-    (omega arith)
+-- a number and one byte more are zero where both are
+zero_both : (a b : ℕ) → (eqb a 0 && eqb b 0) ≡ eqb (a * 256 + b) 0
+zero_both zero b = ap (λ (n : ℕ). eqb n 0) (omega arith)
+zero_both (suc a) b =
+    ap (λ (t : Bool). t && eqb b 0) (ne_eqb (suc a) 0 (λ e. omega arith)) ∙ sym (ne_eqb (suc a * 256 + b) 0 (λ e. omega arith))
 
--- no byte is zero
-pub zero_none : (s : List ℕ) (at : ℕ) → number_at s at 0 ≡ 0
+-- a number is zero where all its bytes are
+zero_is : (s : List ℕ) (at n : ℕ) → at + n ≤ length s → list_all (λ b. eqb b 0) (take n (drop at s)) ≡ eqb (number_at s at n) 0
 unfolding number_at
-zero_none s at = refl
+zero_is s at zero h = refl
+zero_is s at (suc n) h =
+    let k : n < length (drop at s) = omega (arith, length-drop at s) in
+    ap (λ (m : ℕ). list_all (λ b. eqb b 0) (take m (drop at s))) (sym (add-one n))
+    ∙ list_all_more (λ b. eqb b 0) (drop at s) n 0 k
+    ∙ ap₂ (λ (x : Bool) (y : ℕ). x && eqb y 0) (zero_is s at n (omega arith)) (get_or-drop at s n 0)
+    ∙ zero_both (number_at s at n) (get_or s (at + n) 0)
 
--- one byte more that is zero
-pub zero_more : (s : List ℕ) (at i : ℕ) → number_at s at i ≡ 0 → get_or s (at + i) 0 ≡ 0 → number_at s at (i + 1) ≡ 0
-unfolding number_at
-zero_more s at i e f = rw (add-one i, number_at) (omega arith)
-
--- a byte that is not
-pub zero_not : (s : List ℕ) (at i n : ℕ) → i < n → (get_or s (at + i) 0 ≡ 0 → ⊥) → false ≡ eqb (number_at s at n) 0
-unfolding number_at
-zero_not s at i n h o =
-    let m : n ≡ suc i + (n - suc i) = omega arith in
-    sym (ne_eqb (number_at s at n) 0
-    (λ e. let f : number_at s at (suc i) ≡ 0 = zero_back s at (suc i) (n - suc i) (sym (ap (number_at s at) m) ∙ e) in o (omega arith)))
-
--- all bytes are zero
-pub zero_all : (s : List ℕ) (at i n : ℕ) → i ≤ n → n ≤ i → number_at s at i ≡ 0 → true ≡ eqb (number_at s at n) 0
-zero_all s at i n h k e = let m : n ≡ i = omega arith in sym (eq-eqb (number_at s at n) 0 (ap (number_at s at) m ∙ e))
+-- the bytes that the code looks at are those of the number
+pub zeros_are : (s : List ℕ) (at n : ℕ) → at + n ≤ length s
+    → list_all (λ b. eqb b 0) (take (at + n - at) (drop at s)) ≡ eqb (number_at s at n) 0
+zeros_are s at n h =
+    let k : at + n - at ≡ n = omega arith in
+    ap (λ (m : ℕ). list_all (λ b. eqb b 0) (take m (drop at s))) k ∙ zero_is s at n h
 
 -- ---- what the code reads
 
@@ -89,7 +104,7 @@ reading_is s at n o e = e ∙ ap (λ (b : List ℕ). reading_of (read_of b)) (le
 
 -- the id of a body that was read lies in it
 pub id_room : (s : List ℕ) (at n : ℕ) (o : Reading) (f : Fields) → at ≤ length s → n ≤ length s - at
-    → o ≡ reading_of (read_of (take (at + n - at) (drop at s))) → o ≡ Read f → at + (f.id + id_size) ≤ length s
+    → o ≡ reading_of (read_of (take (at + n - at) (drop at s))) → o ≡ Ok f → at + (f.id + id_size) ≤ length s
 id_room s at n o f m g k e =
     omega (arith, (read_in (part s at n) f (sym (reading_is s at n o k) ∙ e)).id, (part_has s at n (omega arith)).1)
 
@@ -97,6 +112,31 @@ id_room s at n o f m g k e =
 count_is : (s : List ℕ) (n : ℕ) → header_size ≤ length s → n ≡ number_in s count_place header_width → n ≡ row_count s
 unfolding row_count
 count_is s n h e = e ∙ number_in_lem s count_place header_width (omega arith) (omega arith)
+
+-- ---- what reading answers
+
+-- nothing was read
+abbrev is_none : {A : Type 0} → Option A → Bool
+is_none (Some x) = false
+is_none None = true
+
+-- equal contents that were told are equal
+contents_is : (x w : Contents) → ◌≡◌ {A = Result Contents FindError} (Ok x) (Ok w) → x ≡ w
+contents_is x w e = cc
+
+-- and equal bodies that are held
+body_is : (x b : StoredBody) → ◌≡◌ {A = Result StoredBody FindError} (Ok x) (Ok b) → x ≡ b
+body_is x b e = cc
+
+-- equal fields that were read are equal
+some_is : (f g : Fields) → ◌≡◌ {A = Option Fields} (Some f) (Some g) → f ≡ g
+some_is f g e = cc
+
+-- what was read
+ok_is : (o : Reading) (f : Fields) → result_ok o ≡ Some f → o ≡ Ok f
+ok_is (Ok g) f e = ap Ok (some_is g f e)
+ok_is (Err Structure) f e = absurd (false≢true (sym (ap is_none e)))
+ok_is (Err Validity) f e = absurd (false≢true (sym (ap is_none e)))
 
 module _ (l : Layout) where
   -- ---- the header
@@ -141,11 +181,6 @@ module _ (l : Layout) where
       ∙ ap (λ (u : Bool). eqb (number_at s (r + offset_place) body_width) at &&
       (eqb (number_at s (r + mask_place) mask_width) f.mask && u)) ez)
 
-  -- the code compares the id of row i with the id
-  pub id_is : (s id : List ℕ) (i r : ℕ) (b : Bool) → r ≡ row_place l i → b ≡ same (take (r + id_size - r) (drop r s)) id
-      → b ≡ same (row_id s (row_place l i)) id
-  id_is s id i r b p e = e ∙ ap (λ (x : List ℕ). same x id) (lent_part s r id_size) ∙ ap (λ (k : ℕ). same (row_id s k) id) p
-
   -- what row i answers once its body was read
   abbrev pub after_read : List ℕ → ℕ → ℕ → ℕ → Fields → Got Fields
   after_read s i at n f = guard (row_fits l s (row_place l i) at f) (guard (not (id_among l s (row_id s (row_place l i)) i)) (got f (at + n)))
@@ -175,39 +210,73 @@ module _ (l : Layout) where
       ∙ guard_leb (at + n) (length s) _ (omega arith)
       ∙ ap (λ (x : Reading). on_read x (after_read s i at n)) (sym (reading_is s at n o k))
 
-  -- a body that does not read with 0 is refused
-  pub read_not : (s : List ℕ) (i at n : ℕ) (o : Reading) → (o ≡ Structure) ⊎ (o ≡ Validity) → on_read o (after_read s i at n) ≡ refused
-  read_not s i at n o (inl e) = ap (λ (x : Reading). on_read x (after_read s i at n)) e
-  read_not s i at n o (inr e) = ap (λ (x : Reading). on_read x (after_read s i at n)) e
+  -- what is known of row i at r once its body, of n bytes, was read
+  pub record RowRead (s : List ℕ) (i r at n : ℕ) (o : Reading) : Type 0 where
+    pub ok : LayoutOk l
+    pub place : r ≡ row_place l i
+    pub room : r + row_size l ≤ length s
+    pub size : n ≡ number_in s (r + length_place) body_width
+    pub begins : at ≤ length s
+    pub ends : n ≤ length s - at
+    pub read : o ≡ reading_of (read_of (take (at + n - at) (drop at s)))
 
-  module _ (s : List ℕ) (i r at n : ℕ) (place : r ≡ row_place l i) (o : Reading) (f : Fields) (e : o ≡ Read f) (b : Bool)
-      (p : b ≡ row_fits l s r at f) where
-    -- what was read goes on
-    goes : on_read o (after_read s i at n) ≡ guard (row_fits l s r at f) (guard (not (id_among l s (row_id s r) i)) (got f (at + n)))
-    goes = ap (λ (x : Reading). on_read x (after_read s i at n)) e
-        ∙ ap (λ (x : ℕ). guard (row_fits l s x at f) (guard (not (id_among l s (row_id s x) i)) (got f (at + n)))) (sym place)
+  -- it is known from what the calls before ensure
+  pub row_known : (s : List ℕ) (i r at n : ℕ) (o : Reading) → LayoutOk l → r ≡ row_place l i → row_place l i + row_size l ≤ length s
+      → n ≡ number_in s (r + length_place) body_width → at ≤ length s → n ≤ length s - at
+      → o ≡ reading_of (read_of (take (at + n - at) (drop at s))) → RowRead s i r at n o
+  row_known s i r at n o ok p h e m g k = record {
+    ok = ok;
+    place = p;
+    room = omega arith;
+    size = e;
+    begins = m;
+    ends = g;
+    read = k;
+  }
 
-    -- a row that is not that of the body is refused
-    pub row_other : not b ≡ true → on_read o (after_read s i at n) ≡ refused
-    row_other t = goes ∙ guard_no (row_fits l s r at f) _ (not_T_of b p t)
+  module _ (s : List ℕ) (i r at n : ℕ) (o : Reading) (w : RowRead s i r at n o) where
+    -- a body that does not read with 0 is refused
+    pub row_unread : result_ok o ≡ None → refused ≡ row_at l s i at
+    row_unread e = sym (row_read_lem s i r at n o w.ok w.place w.room w.size w.begins w.ends w.read ∙ go o e)
+      where
+        go : (o : Reading) → result_ok o ≡ None → on_read o (after_read s i at n) ≡ refused
+        go (Ok f) e = absurd (false≢true (ap is_none e))
+        go (Err Structure) e = refl
+        go (Err Validity) e = refl
 
-    -- the code looks for the row's id among those before
-    row_among : not b ≡ false → (c t : Bool) → c ≡ id_among l s (row_id s r) i → c ≡ t
-        → on_read o (after_read s i at n) ≡ guard (not t) (got f (at + n))
-    row_among u c t q v =
-        goes
-        ∙ guard_yes (row_fits l s r at f) _ (T_of_not b p u)
-        ∙ ap (λ (x : Bool). guard (not x) (got f (at + n))) (sym q ∙ v)
+    module _ (f : Fields) (e : result_ok o ≡ Some f) where
+      -- what was read goes on
+      goes : row_at l s i at ≡ guard (row_fits l s r at f) (guard (not (id_among l s (row_id s r) i)) (got f (at + n)))
+      goes = row_read_lem s i r at n o w.ok w.place w.room w.size w.begins w.ends w.read ∙ go o e
+          ∙ ap (λ (x : ℕ). guard (row_fits l s x at f) (guard (not (id_among l s (row_id s x) i)) (got f (at + n)))) (sym w.place)
+        where
+          go : (o : Reading) → result_ok o ≡ Some f → on_read o (after_read s i at n) ≡ after_read s i at n f
+          go (Ok g) e = ap (after_read s i at n) (some_is g f e)
+          go (Err Structure) e = absurd (false≢true (sym (ap is_none e)))
+          go (Err Validity) e = absurd (false≢true (sym (ap is_none e)))
 
-    -- a row whose id a row before has is refused
-    pub row_twice : not b ≡ false → (c : Bool) → c ≡ id_among l s (row_id s r) i → c ≡ true
-        → on_read o (after_read s i at n) ≡ refused
-    row_twice u c q v = row_among u c true q v ∙ guard_no false (got f (at + n)) tt
+      -- the id of the body lies in it
+      pub row_room : at + (f.id + id_size) ≤ length s
+      row_room = id_room s at n o f w.begins w.ends w.read (ok_is o f e)
 
-    -- another row is answered with what was read of its body, and the place after the body
-    pub row_good : not b ≡ false → (c : Bool) → c ≡ id_among l s (row_id s r) i → c ≡ false
-        → on_read o (after_read s i at n) ≡ got f (at + n)
-    row_good u c q v = row_among u c false q v ∙ guard_yes true (got f (at + n)) tt
+      -- a row that is not that of the body is refused
+      pub row_other : false ≡ row_fits l s r at f → refused ≡ row_at l s i at
+      unfolding guard
+      row_other t = sym (goes ∙ ap (λ (b : Bool). guard b (guard (not (id_among l s (row_id s r) i)) (got f (at + n)))) (sym t))
+
+      -- a row whose id a row before has is refused; another is answered with what was read of its body, and the place after the body
+      row_among : (b : Bool) → true ≡ row_fits l s r at f → b ≡ id_among l s (row_id s r) i → row_at l s i at ≡ guard (not b) (got f (at + n))
+      unfolding guard
+      row_among b t u =
+          goes ∙ ap₂ (λ (x y : Bool). guard x (guard (not y) (got f (at + n)))) (sym t) (sym u)
+
+      pub row_twice : true ≡ row_fits l s r at f → true ≡ id_among l s (row_id s r) i → refused ≡ row_at l s i at
+      unfolding guard
+      row_twice t u = sym (row_among true t u)
+
+      pub row_good : true ≡ row_fits l s r at f → false ≡ id_among l s (row_id s r) i → got f (at + n) ≡ row_at l s i at
+      unfolding guard
+      row_good t u = sym (row_among false t u)
 
   -- ---- all rows
 
@@ -219,12 +288,12 @@ module _ (l : Layout) where
       let len : row_length s (row_place l i) ≡ next - at = omega (arith, (row_next l s i at f next e).0) in
       rows_next l s id n i at h f next m e
       ∙ ap (rows_from l s id (n - (i + 1)) (i + 1) next)
-      (ap₂ (λ (b : Bool) (k : ℕ). held_with b h i at k f) (sym (id_is s id i r hit place p)) len ∙ sym q)
+      (ap₂ (λ (b : Bool) (k : ℕ). held_with b h i at k f) (sym (id_is l s id i r hit place p)) len ∙ sym q)
 
   -- ---- the whole image
 
-  -- a check that refuses is answered with `Unsound`
-  unsound : (s id : List ℕ) → refused ≡ checked l s id → Unsound ≡ check_of l s id
+  -- a check that refuses is answered with `None`
+  unsound : (s id : List ℕ) → refused ≡ checked l s id → None ≡ check_of l s id
   unfolding check_of
   unsound s id e = ap (check_answer (row_count s)) e
 
@@ -245,18 +314,18 @@ module _ (l : Layout) where
       )
 
   -- bytes under a header are not sound
-  pub check_short : (s id : List ℕ) → length s < header_size → Unsound ≡ check_of l s id
+  pub check_short : (s id : List ℕ) → length s < header_size → None ≡ check_of l s id
   unfolding checked
   check_short s id h = unsound s id (failed_leb header_size (length s) _ h)
 
   module _ (s id : List ℕ) (h : header_size ≤ length s) (b : Bool) (p : b ≡ header_fits l s) where
     -- another header is not sound
-    pub check_header : not b ≡ true → Unsound ≡ check_of l s id
+    pub check_header : not b ≡ true → None ≡ check_of l s id
     unfolding checked
     check_header t = unsound s id (passed_leb header_size (length s) h (failed (header_fits l s) _ (not_T_of b p t)))
 
     -- rows that would end after the bytes are not sound
-    pub check_long : not b ≡ false → (n : ℕ) → n ≡ number_in s count_place header_width → length s < row_place l n → Unsound ≡ check_of l s id
+    pub check_long : not b ≡ false → (n : ℕ) → n ≡ number_in s count_place header_width → length s < row_place l n → None ≡ check_of l s id
     unfolding checked
     check_long t n e m =
         unsound s id (passed_leb header_size (length s) h (passed (header_fits l s) (T_of_not b p t)
@@ -264,22 +333,56 @@ module _ (l : Layout) where
 
     -- else the rows tell
     pub check_rows : not b ≡ false → (n : ℕ) → n ≡ number_in s count_place header_width → row_place l n ≤ length s → (r : ImageCheck)
-        → r ≡ check_answer n (rows_from l s id n 0 (row_place l n) Missing) → r ≡ check_of l s id
+        → r ≡ check_answer n (rows_from l s id n 0 (row_place l n) None) → r ≡ check_of l s id
     unfolding checked check_of
     check_rows t n e k r q =
         q
-        ∙ ap (λ (m : ℕ). check_answer m (rows_from l s id m 0 (row_place l m) Missing)) (count_is s n h e)
+        ∙ ap (λ (m : ℕ). check_answer m (rows_from l s id m 0 (row_place l m) None)) (count_is s n h e)
         ∙ ap (check_answer (row_count s)) (passed_leb header_size (length s) h (passed (header_fits l s) (T_of_not b p t)
         (passed_leb (row_place l (row_count s)) (length s) (omega (arith, ap (row_place l) (count_is s n h e))) refl)))
 
   -- ---- a lookup
 
   -- an id that is not 16 bytes is refused
-  pub find_bad : (s id : List ℕ) → (length id ≡ id_size → ⊥) → Malformed ≡ find_of l s id
+  pub find_bad : (s id : List ℕ) → (length id ≡ id_size → ⊥) → Err Malformed ≡ find_of l s id
   unfolding find_of
   find_bad s id h = rw (ne_eqb (length id) id_size h, find_of)
 
-  -- else the check tells
-  pub find_in_lem : (s id : List ℕ) (v : ImageCheck) → length id ≡ id_size → v ≡ check_of l s id → found_in v ≡ find_of l s id
-  unfolding find_of
-  find_in_lem s id v h e = ap found_in e ∙ rw (eq-eqb (length id) id_size h, find_of)
+  module _ (s id : List ℕ) (v : ImageCheck) (h : length id ≡ id_size) (e : v ≡ check_of l s id) where
+    -- else the check tells
+    told : found_in v ≡ find_of l s id
+    unfolding find_of
+    told = ap found_in e ∙ rw (eq-eqb (length id) id_size h, find_of)
+
+    -- an image that is not sound
+    pub found_unsound : (x : FindError) → ok_or v BadImage ≡ Err x → Err x ≡ find_of l s id
+    found_unsound x f = go v f ∙ told
+      where
+        go : (v : ImageCheck) → ok_or v BadImage ≡ Err x → Err x ≡ found_in v
+        go (Some w) f = cc
+        go None f = cc
+
+    -- a sound one
+    found_sound : (w : Contents) → ok_or v BadImage ≡ Ok w → held_at w.held ≡ find_of l s id
+    found_sound w f = go v f ∙ told
+      where
+        go : (v : ImageCheck) → ok_or v BadImage ≡ Ok w → held_at w.held ≡ found_in v
+        go (Some x) f = ap (λ (y : Contents). held_at y.held) (sym (contents_is x w f))
+        go None f = cc
+
+    -- that does not hold the id
+    pub found_none : (w : Contents) (x : FindError) → ok_or v BadImage ≡ Ok w → ok_or w.held NotFound ≡ Err x → Err x ≡ find_of l s id
+    found_none w x f g = go w.held g ∙ found_sound w f
+      where
+        go : (k : Held) → ok_or k NotFound ≡ Err x → Err x ≡ held_at k
+        go (Some b) g = cc
+        go None g = cc
+
+    -- that holds it
+    pub found_body : (w : Contents) (b : StoredBody) → ok_or v BadImage ≡ Ok w → ok_or w.held NotFound ≡ Ok b
+        → Ok (record { at = b.at; len = b.len }) ≡ find_of l s id
+    found_body w b f g = go w.held g ∙ found_sound w f
+      where
+        go : (k : Held) → ok_or k NotFound ≡ Ok b → Ok (record { at = b.at; len = b.len }) ≡ held_at k
+        go (Some x) g = ap (λ (y : StoredBody). held_at (Some y)) (sym (body_is x b g))
+        go None g = cc

@@ -32,6 +32,10 @@ pub slot_below : (s : List ℕ) (r : ℕ) → slot_at s r < slots
 unfolding slot_at
 slot_below s r = omega arith
 
+-- so is one that the code reads
+pub slot_of_below : (s : List ℕ) (r k : ℕ) → k ≡ slot_at s r → k < slots
+slot_of_below s r k e = omega (arith, slot_below s r)
+
 -- a slot that is marked stays so where a slot is marked
 mark_stays : (seen : List Bool) (k m : ℕ) → k < length seen → get_or seen m false ≡ true → get_or (set seen k true) m false ≡ true
 mark_stays seen k m h e = go (eqb m k) refl

@@ -1,11 +1,10 @@
 -- A reader of the promises does not need this page.
 -- What the answer of reading a row says, as an answer of an exact reader.
-use Rattle.std.specs.Prelude.{List, ℕ, ◌+◌, ◌%◌}
+use Rattle.std.specs.Prelude.{Option, List, ℕ, ◌+◌, ◌%◌}
 use Rattle.octets.specs.Number.{number_in}
-use Rattle.exact.specs.Reads.{Got, got, refused}
+use Rattle.exact.specs.Reads.{Got}
+use Rattle.exact.specs.Answer.{got_by}
 use Rattle.descriptor_spec.specs.declared.Fields.{Fields}
-use Rattle.image.specs.declared.rows.RowRead.{RowRead}
-use Rattle.image.specs.declared.rows.RowRead.TheVariants.{IsRow, NoRow}
 
 -- how many slots the ids of the rows mark
 abbrev pub slots : ℕ
@@ -16,6 +15,5 @@ unfoldable pub slot_at : List ℕ → ℕ → ℕ
 slot_at s r = number_in s (r + 8) 8 % slots
 
 -- what was read of the row's body, and the place after it; or nothing
-abbrev pub row_read : RowRead → Got Fields
-row_read (IsRow f next) = got f next
-row_read NoRow = refused
+abbrev pub row_read : Option (Fields × ℕ) → Got Fields
+row_read = got_by (λ f. f)

@@ -3,27 +3,21 @@ ghost use Rattle.std.specs.Prelude.{◌≡◌, false, ◌+◌, ◌≤◌, ◌<�
 ghost use Rattle.octets.specs.Number.{number_at};
 ghost use Rattle.descriptor_spec.specs.Allowed.{id_size};
 ghost use Rattle.image_spec.specs.Layout.{header_size, row_size, most_rows, row_place, LayoutOk};
-ghost use Rattle.image_spec.specs.Check.{header_fits, row_id, id_among, row_fits, row_at, held_with, rows_from, check_answer, check_of, held_at, find_of};
+ghost use Rattle.image_spec.specs.Check.{header_fits, row_id, id_among, row_fits, row_at, rows_from, check_answer, check_of, find_of};
 ghost use Rattle.image.specs.Code.{row_read, slot_at};
 
-use crate::places::row_place;
-use crate::{Finding, Held, ImageCheck};
-use descriptor::{Fields, Reading};
+use crate::{Contents, FindError, StoredBody};
+use descriptor::{Fields, Part};
 use descriptor_spec::sizes::ID_SIZE;
+use image_rows::place;
 use image_spec::layout::{
     BODY_WIDTH, COUNT_PLACE, EDITION_PLACE, HEADER_SIZE, HEADER_WIDTH, HEADER_ZERO, LENGTH_PLACE,
     Layout, MASK_PLACE, MASK_WIDTH, MODE_EDITION, MODES_PLACE, OFFSET_PLACE, ZERO_PLACE,
 };
 use octets::{number_at, same_bytes};
 
-// What was read of a row's body, and the place after it.
-#[derive(Clone, Copy)]
-pub(crate) enum RowRead {
-    IsRow { fields: Fields, next: usize },
-    NoRow,
-}
-
 // Whether the header has these editions, no more rows than the most, and zero.
+#[tactic(auto, using(crate::proofs::CheckCode::header_is))]
 fn header_fits(layout: Layout, s: &[u8]) -> bool
     requires { header_size ≤ length s.now }
     ensures { result ≡ header_fits layout s.now }
@@ -35,14 +29,13 @@ fn header_fits(layout: Layout, s: &[u8]) -> bool
 }
 
 // Whether one of the first n rows has the id.
+#[tactic(auto, using(crate::proofs::RowsCode::row_inside))]
 fn id_among(layout: Layout, s: &[u8], id: &[u8], n: usize) -> bool
     requires { LayoutOk layout × (n ≤ most_rows layout) × (row_place layout n ≤ length s.now) }
     ensures { result ≡ id_among layout s.now id.now n }
 {
-    let mut i = n;
-    while 0 < i {
-        i -= 1;
-        let r = row_place(layout, i);
+    for i in (0..n).rev() {
+        let r = place(layout, i);
         if same_bytes(&s[r..r + ID_SIZE], id) {
             return true;
         }
@@ -67,10 +60,7 @@ fn is_twice(layout: Layout, s: &[u8], r: usize, i: usize, marked: bool) -> bool
         × (marked ≡ false → id_among layout s.now (row_id s.now r) i ≡ false) }
     ensures { result ≡ id_among layout s.now (row_id s.now r) i }
 {
-    if marked {
-        return id_among(layout, s, &s[r..r + ID_SIZE], i);
-    }
-    false
+    marked && id_among(layout, s, &s[r..r + ID_SIZE], i)
 }
 
 // Whether the n bytes from a place on are zero.
@@ -78,17 +68,11 @@ fn is_zero(s: &[u8], at: usize, n: usize) -> bool
     requires { at + n ≤ length s.now }
     ensures { result ≡ eqb (number_at s.now at n) 0 }
 {
-    let mut i = 0;
-    while i < n {
-        if s[at + i] != 0 {
-            return false;
-        }
-        i += 1;
-    }
-    true
+    s[at..at + n].iter().all(|b| *b == 0)
 }
 
 // Whether the row at r is that of the body at `at`.
+#[tactic(auto, using(crate::proofs::CheckCode::fits_not))]
 fn row_fits(layout: Layout, s: &[u8], r: usize, at: usize, fields: Fields) -> bool
     requires { LayoutOk layout × (r + row_size layout ≤ length s.now) × (at + (fields.id + id_size) ≤ length s.now) }
     ensures { result ≡ row_fits layout s.now r at fields }
@@ -102,128 +86,90 @@ fn row_fits(layout: Layout, s: &[u8], r: usize, at: usize, fields: Fields) -> bo
         & is_zero(s, r + ZERO_PLACE, layout.moment_place - ZERO_PLACE)
 }
 
-// Row i, whose body begins at `at`; whether the slot of its id was marked by a row before is known.
-fn row_at(layout: Layout, s: &[u8], i: usize, at: usize, marked: bool) -> RowRead
+// What was read of the body of row i, which begins at `at`, and the place after it; whether the slot of the row's id was marked by a row
+// before is known.
+fn row_at(layout: Layout, s: &[u8], i: usize, at: usize, marked: bool) -> Option<(Fields, usize)>
     requires { LayoutOk layout × (i < most_rows layout) × (row_place layout i + row_size layout ≤ length s.now) × (at ≤ length s.now)
         × (marked ≡ false → id_among layout s.now (row_id s.now (row_place layout i)) i ≡ false) }
     ensures { row_read result ≡ row_at layout s.now i at }
 {
-    let r = row_place(layout, i);
+    let r = place(layout, i);
     let n = number_at(s, r + LENGTH_PLACE, BODY_WIDTH) as usize;
     if s.len() - at < n {
-        return RowRead::NoRow;
+        return None;
     }
-    match descriptor::read_descriptor(&s[at..at + n]) {
-        Reading::Read(fields) => {
-            if !row_fits(layout, s, r, at, fields) {
-                return RowRead::NoRow;
-            }
-            if is_twice(layout, s, r, i, marked) {
-                return RowRead::NoRow;
-            }
-            RowRead::IsRow {
-                fields,
-                next: at + n,
-            }
-        }
-        Reading::Structure => RowRead::NoRow,
-        Reading::Validity => RowRead::NoRow,
+    let fields = descriptor::read_descriptor(&s[at..at + n]).ok()?;
+    if !row_fits(layout, s, r, at, fields) {
+        return None;
     }
-}
-
-// The body of a row at a place is the one looked for, or what was held before stays.
-fn keep(hit: bool, held: Held, row: usize, at: usize, len: usize, fields: Fields) -> Held
-    ensures { result ≡ held_with hit held row at len fields }
-{
-    if hit {
-        return Held::Body {
-            row,
-            at,
-            len,
-            fields,
-        };
+    if is_twice(layout, s, r, i, marked) {
+        return None;
     }
-    held
+    Some((fields, at + n))
 }
 
 // All n rows, and the body with the id.
-fn all_rows(layout: Layout, s: &[u8], id: &[u8], n: usize) -> ImageCheck
+#[tactic(auto, using(crate::proofs::RowsCode::row_inside, crate::proofs::SlotCode::slot_of_below))]
+fn all_rows(layout: Layout, s: &[u8], id: &[u8], n: usize) -> Option<Contents>
     requires { LayoutOk layout × (n ≤ most_rows layout) × (row_place layout n ≤ length s.now) }
-    ensures { result ≡ check_answer n (rows_from layout s.now id.now n 0 (row_place layout n) Held.Missing) }
+    ensures { result ≡ check_answer n (rows_from layout s.now id.now n 0 (row_place layout n) None) }
 {
-    let mut i = 0;
-    let mut at = row_place(layout, n);
-    let mut held = Held::Missing;
+    let mut at = place(layout, n);
+    let mut held = None;
     let mut seen = [false; SLOTS];
-    while i < n {
-        let r = row_place(layout, i);
+    for i in 0..n {
+        let r = place(layout, i);
         let slot = slot_of(s, r);
-        let marked = seen[slot];
+        let (fields, next) = row_at(layout, s, i, at, seen[slot])?;
         seen[slot] = true;
-        match row_at(layout, s, i, at, marked) {
-            RowRead::IsRow { fields, next } => {
-                let hit = same_bytes(&s[r..r + ID_SIZE], id);
-                held = keep(hit, held, i, at, next - at, fields);
-                at = next;
-            }
-            RowRead::NoRow => return ImageCheck::Unsound,
+        if same_bytes(&s[r..r + ID_SIZE], id) {
+            held = Some(StoredBody {
+                row: i,
+                at,
+                len: next - at,
+                fields,
+            });
         }
-        i += 1;
+        at = next;
     }
-    ImageCheck::Sound {
+    Some(Contents {
         rows: n as u64,
         end: at,
         held,
-    }
+    })
 }
 
 // The check of the whole image.
-pub(crate) fn check(layout: Layout, s: &[u8], id: &[u8]) -> ImageCheck
+#[tactic(auto, using(crate::proofs::CheckCode::check_short, crate::proofs::CheckCode::header_few, crate::proofs::CheckCode::check_header, crate::proofs::CheckCode::check_long, crate::proofs::CheckCode::check_rows))]
+pub(crate) fn check(layout: Layout, s: &[u8], id: &[u8]) -> Option<Contents>
     requires { LayoutOk layout }
     ensures { result ≡ check_of layout s.now id.now }
 {
     if s.len() < HEADER_SIZE {
-        return ImageCheck::Unsound;
+        return None;
     }
     if !header_fits(layout, s) {
-        return ImageCheck::Unsound;
+        return None;
     }
     let n = number_at(s, COUNT_PLACE, HEADER_WIDTH) as usize;
-    if s.len() < row_place(layout, n) {
-        return ImageCheck::Unsound;
+    if s.len() < place(layout, n) {
+        return None;
     }
     all_rows(layout, s, id, n)
 }
 
 // Looks for the body with the id.
-pub(crate) fn find(layout: Layout, s: &[u8], id: &[u8]) -> Finding
+pub(crate) fn find(layout: Layout, s: &[u8], id: &[u8]) -> Result<Part, FindError>
     requires { LayoutOk layout }
     ensures { result ≡ find_of layout s.now id.now }
 {
     if id.len() != ID_SIZE {
-        return Finding::Malformed;
+        return Err(FindError::Malformed);
     }
-    match check(layout, s, id) {
-        ImageCheck::Sound {
-            rows: _,
-            end: _,
-            held,
-        } => found(held),
-        ImageCheck::Unsound => Finding::BadImage,
-    }
-}
-
-// Where the body is held.
-fn found(held: Held) -> Finding
-    ensures { result ≡ held_at held }
-{
-    match held {
-        Held::Body {
-            row: _,
-            at,
-            len,
-            fields: _,
-        } => Finding::Found { at, len },
-        Held::Missing => Finding::NotFound,
-    }
+    let contents = check(layout, s, id).ok_or(FindError::BadImage)?;
+    let held = contents.held.ok_or(FindError::NotFound)?;
+    Ok(Part {
+        at: held.at,
+        len: held.len,
+    })
 }

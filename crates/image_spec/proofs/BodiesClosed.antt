@@ -12,6 +12,7 @@ use Rattle.octets.proofs.BytesLaws.{has_nil, has_left, has_right, has_join, has_
 use Rattle.octets.proofs.NumberLaws.{number_in_lem, number_of_has}
 use Rattle.octets.proofs.OverLaws.{over_has, Kept, kept_over, kept_has}
 use Rattle.octets.proofs.MoveLaws.{down_has}
+use Rattle.image_spec.specs.declared.Mark.{Mark}
 use Rattle.image_spec.specs.declared.layout.Layout.{Layout}
 use Rattle.image_spec.specs.Layout.{body_width, offset_place, length_place, row_size, row_place, LayoutOk}
 use Rattle.image_spec.specs.Image.{Row, row, rows_of, joined}
@@ -59,7 +60,7 @@ apart_kept d d' end low (p ∷ ps) n k h a = (
 )
 
 -- those that stay lie apart
-pub apart_some : (d gs : List ℕ) (low : ℕ) (ps : List Placed) → Apart d low ps → Apart d low (kept gs ps)
+pub apart_some : (d : List ℕ) (gs : List Mark) (low : ℕ) (ps : List Placed) → Apart d low ps → Apart d low (kept gs ps)
 unfolding kept
 apart_some d [] low ps a = tt
 apart_some d (g ∷ gs) low [] a = tt

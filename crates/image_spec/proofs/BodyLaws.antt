@@ -1,4 +1,5 @@
 -- What is known of a body that reads: it is short, its identifiers lie in it, and its mask is below 16. Assumes nothing.
+use Rattle.descriptor_spec.specs.Reading.{Reading}
 use mathlib.Core.Path.{◌≡◌, refl, subst}
 use mathlib.Core.List.{List}
 use mathlib.Core.Option.{Option, none, some}
@@ -7,7 +8,7 @@ use native.Mathlib.Omega.{arith}
 use lib.Dec.{leb}
 use Rattle.octets.proofs.Tests.{by_cond}
 use Rattle.descriptor_spec.specs.declared.Fields.{Fields}
-use Rattle.descriptor_spec.specs.declared.Reading.TheVariants.{Read}
+use Rattle.std.specs.Prelude.{Ok}
 use Rattle.descriptor_spec.specs.Allowed.{longest_period}
 use Rattle.descriptor_spec.specs.Reader.{Seen, Answer, read, structure, validity, formed_in, by_period, read_of}
 use Rattle.descriptor_spec.specs.Code.{fields_of, reading_of}
@@ -42,7 +43,7 @@ answer_in_lem b = go (formed_in b) refl
     go none e = tt
 
 -- the fields of equal readings are equal
-read_same : (f g : Fields) → Read f ≡ Read g → f ≡ g
+read_same : (f g : Fields) → ◌≡◌ {A = Reading} (Ok f) (Ok g) → f ≡ g
 read_same f g e = cc
 
 -- `ReadIn`
@@ -50,7 +51,7 @@ pub read_in : ReadIn
 unfolding reading
 read_in b f e = go (read_of b) (answer_in_lem b) e
   where
-    go : (a : Answer) → AnswerIn b a → reading_of a ≡ Read f → BodyIn b f
+    go : (a : Answer) → AnswerIn b a → reading_of a ≡ Ok f → BodyIn b f
     go (read v) h e = subst (BodyIn b) (read_same (fields_of v) f e) h
     go structure h e = absurd (let z : ◌≡◌ {A = ℕ} 0 1 = cc in omega arith)
     go validity h e = absurd (let z : ◌≡◌ {A = ℕ} 0 1 = cc in omega arith)

@@ -5,7 +5,7 @@ use mathlib.Core.List.{List, [], ◌∷◌, ◌++◌}
 use Prim.Native.Nat.{ℕ, zero, suc, ◌+◌, ◌-◌, ◌*◌, ◌≤◌, ◌<◌}
 use native.Mathlib.Omega.{arith}
 use lib.ListN.{length, set, length-set, replicate, length-replicate}
-use lib.Dec.{leb, eqb}
+use lib.Dec.{leb}
 use borrow.Author.Tests.{le-leb}
 use Rattle.octets.specs.Bytes.{part}
 use Rattle.octets.specs.Span.{Span, inside}
@@ -15,16 +15,16 @@ use Rattle.octets.proofs.NumberLaws.{number_in_lem}
 use Rattle.octets.proofs.SpanLaws.{inside_fits}
 use Rattle.descriptor_spec.specs.declared.Fields.{Fields}
 use Rattle.descriptor_spec.specs.Allowed.{longest}
+use Rattle.image_spec.specs.declared.Mark.{Mark}
+use Rattle.image_spec.specs.declared.Mark.TheVariants.{Gone}
 use Rattle.image_spec.specs.declared.layout.Layout.{Layout}
-use Rattle.image_spec.specs.declared.Least.{Least}
-use Rattle.image_spec.specs.declared.Least.TheVariants.{IsRow, NoRow}
+use Rattle.std.specs.Prelude.{Option, Some, None}
 use Rattle.image_spec.specs.declared.Room.{Room}
-use Rattle.image_spec.specs.declared.Room.TheVariants.{Made, NoRoom}
 use Rattle.image_spec.specs.Layout.{body_width, offset_place, length_place, row_size, most_rows, moment_place, moment_size, row_place}
 use Rattle.image_spec.specs.Layout.{LayoutOk}
 use Rattle.image_spec.specs.Image.{Row, row_of, image_of, Holds}
-use Rattle.image_spec.specs.Close.{expired, gone, kept, closed_up}
-use Rattle.image_spec.specs.Choose.{end_of, is_expired, mark_by, marked, used_at, size_at, body_at, mark_at, marks_from}
+use Rattle.image_spec.specs.Close.{kept, closed_up}
+use Rattle.image_spec.specs.Choose.{may_go, made, end_of, is_expired, mark_by, marked, used_at, size_at, body_at, mark_at, marks_from}
 use Rattle.image_spec.specs.Choose.{Ask, short_of, lesser, least_from, least_of, fits_in, Chosen, one_step, chosen, choice_of, staying_of}
 use Rattle.image_spec.specs.Choose.{ask_at, choice_at, room_by, room_of, after_by, after_room}
 use Rattle.image_spec.specs.Removal.{row_in}
@@ -41,13 +41,13 @@ use Rattle.image_spec.proofs.ChoiceLaws.{Ended, choice_ended}
 -- ---- choices by the same numbers
 
 -- the least by the same moments is the same
-least_alike : (used used' : ℕ → ℕ) (n : ℕ) → ((j : ℕ) → j < n → used j ≡ used' j) → (gs : List ℕ) (i : ℕ) (b : Least) → i + length gs ≡ n
+least_alike : (used used' : ℕ → ℕ) (n : ℕ) → ((j : ℕ) → j < n → used j ≡ used' j) → (gs : List Mark) (i : ℕ) (b : Option (ℕ × ℕ)) → i + length gs ≡ n
     → least_from used gs i b ≡ least_from used' gs i b
 unfolding least_from
 least_alike used used' n f [] i b e = refl
 least_alike used used' n f (g ∷ gs) i b e =
-    least_alike used used' n f gs (i + 1) (lesser (eqb g expired) i (used i) b) (omega arith)
-    ∙ ap (λ (u : ℕ). least_from used' gs (i + 1) (lesser (eqb g expired) i u b)) (f i (omega arith))
+    least_alike used used' n f gs (i + 1) (lesser (may_go g) i (used i) b) (omega arith)
+    ∙ ap (λ (u : ℕ). least_from used' gs (i + 1) (lesser (may_go g) i u b)) (f i (omega arith))
 
 module _ (l : Layout) (used used' size size' : ℕ → ℕ) (rows short n : ℕ) (moments : (j : ℕ) → j < n → used j ≡ used' j)
     (sizes : (j : ℕ) → j < n → size j ≡ size' j) where
@@ -58,27 +58,28 @@ module _ (l : Layout) (used used' size size' : ℕ → ℕ) (rows short n : ℕ)
   other = record { used = used'; size = size'; rows = rows; short = short }
 
   -- what is chosen by the same moments and lengths is the same
-  chosen_alike : (m : ℕ) (gs : List ℕ) (removed freed : ℕ) → length gs ≡ n
+  chosen_alike : (m : ℕ) (gs : List Mark) (removed freed : ℕ) → length gs ≡ n
       → chosen l one m gs removed freed ≡ chosen l other m gs removed freed
   unfolding chosen
   chosen_alike zero gs removed freed e = refl
   chosen_alike (suc m) gs removed freed e =
       go (fits_in l one removed freed) (least_of one gs) refl (chosen_alike m)
-      ∙ ap (λ (b : Least). one_step (fits_in l one removed freed) b gs removed freed (next other))
-      (least_alike used used' n moments gs 0 NoRow (omega arith))
+      ∙ ap (λ (b : Option (ℕ × ℕ)). one_step (fits_in l one removed freed) b gs removed freed (next other))
+      (least_alike used used' n moments gs 0 None (omega arith))
     where
       next : Ask → ℕ → Chosen
-      next a j = chosen l a m (set gs j gone) (removed + 1) (freed + (row_size l + a.size j))
+      next a j = chosen l a m (set gs j Gone) (removed + 1) (freed + (row_size l + a.size j))
 
-      go : (t : Bool) (b : Least) → least_of one gs ≡ b
-          → ((gs' : List ℕ) (r f : ℕ) → length gs' ≡ n → chosen l one m gs' r f ≡ chosen l other m gs' r f)
+      go : (t : Bool) (b : Option (ℕ × ℕ)) → least_of one gs ≡ b
+          → ((gs' : List Mark) (r f : ℕ) → length gs' ≡ n → chosen l one m gs' r f ≡ chosen l other m gs' r f)
           → one_step t b gs removed freed (next one) ≡ one_step t b gs removed freed (next other)
       go true b q more = refl
-      go false NoRow q more = refl
-      go false (IsRow j v) q more =
-          let s : LeastTo used (mark_in gs) (length gs) j v = subst (SeenTo used (mark_in gs) (length gs)) q (least_seen one gs) in
-          more (set gs j gone) (removed + 1) (freed + (row_size l + size j)) (length-set gs j gone ∙ e)
-          ∙ ap (λ (x : ℕ). chosen l other m (set gs j gone) (removed + 1) (freed + (row_size l + x))) (sizes j (omega (arith, s.below)))
+      go false None q more = refl
+      go false (Some b) q more =
+          let j : ℕ = b.0 in
+          let s : LeastTo used (mark_in gs) (length gs) j b.1 = subst (SeenTo used (mark_in gs) (length gs)) q (least_seen one gs) in
+          more (set gs j Gone) (removed + 1) (freed + (row_size l + size j)) (length-set gs j Gone ∙ e)
+          ∙ ap (λ (x : ℕ). chosen l other m (set gs j Gone) (removed + 1) (freed + (row_size l + x))) (sizes j (omega (arith, s.below)))
 
 module _ (l : Layout) (ok : LayoutOk l) where
   -- ---- what the rows of a buffer say
@@ -115,7 +116,7 @@ module _ (l : Layout) (ok : LayoutOk l) where
   rows_marked s clock (b ∷ bs) seen i at small g =
       let x = run_first l ok s seen i at b bs g in
       let short : length b.body ≤ 32768 = (read_in b.body x.0 x.1.reads).short in
-      ap₂ (λ (y : ℕ) (ys : List ℕ). y ∷ ys) (row_here s clock seen i at b x.0 (omega arith) x.1).2
+      ap₂ (λ (y : Mark) (ys : List Mark). y ∷ ys) (row_here s clock seen i at b x.0 (omega arith) x.1).2
       (rows_marked s clock bs (seen ++ (b ∷ [])) (i + 1) (at + length b.body) (omega arith) (run_rest l ok s seen i at b bs g))
 
   -- and each of them says when it was last used, and how long its body is
@@ -145,7 +146,7 @@ module _ (l : Layout) (ok : LayoutOk l) where
         let small : row_place l n + 32768 * n < 4294967296 = place_small l ok n few in
         let g : Run l ok d [] 0 (row_place l n) rs = holds_run l ok d rs h in
         let short : ℕ = short_of l (length (image_of l rs)) more (length d) in
-        ap (λ (gs : List ℕ). chosen l (ask_at l d n short) n gs 0 0) (rows_marked d clock rs [] 0 (row_place l n) small g)
+        ap (λ (gs : List Mark). chosen l (ask_at l d n short) n gs 0 0) (rows_marked d clock rs [] 0 (row_place l n) small g)
         ∙ chosen_alike l (used_at l d) (λ i. (row_in rs i).used) (size_at l d) (λ i. length (row_in rs i).body) n short n
         (λ j k. (rows_say d clock rs [] 0 (row_place l n) small g j j k (omega arith)).0)
         (λ j k. (rows_say d clock rs [] 0 (row_place l n) small g j j k (omega arith)).1) n (marked clock rs) 0 0
@@ -156,13 +157,13 @@ module _ (l : Layout) (ok : LayoutOk l) where
     RoomFor more =
         let c = choice_of l (length d) clock rs more in
         let k = staying_of l (length d) clock rs more in
-        (room_of l d (length rs) (length (image_of l rs)) clock more ≡ cond c.ok (Made (length k) (length (image_of l k))) NoRoom)
+        (room_of l d (length rs) (length (image_of l rs)) clock more ≡ cond c.ok (made (length k) (length (image_of l k))) None)
         × (after_room l d (length rs) (length (image_of l rs)) clock more ≡ cond c.ok (closed_up l d c.marks) d)
         × (length c.marks ≡ length rs)
 
     -- so many rows and bytes are left
     room_by_lem : (c : Chosen) (k e : ℕ) → k + c.removed ≡ length rs → e + c.freed ≡ length (image_of l rs)
-        → room_by (length rs) (length (image_of l rs)) c ≡ cond c.ok (Made k e) NoRoom
+        → room_by (length rs) (length (image_of l rs)) c ≡ cond c.ok (made k e) None
     room_by_lem c k e p q =
         let end : ℕ = length (image_of l rs) in
         let rows : length rs - c.removed ≡ k = omega arith in
@@ -179,12 +180,12 @@ module _ (l : Layout) (ok : LayoutOk l) where
         let k : List Row = kept c.marks rs in
         let x : Ended l ok d clock rs new c = choice_ended l ok d clock rs new in
         let e : choice_at l d (length rs) end clock more ≡ c = choice_alike more in
-        let made : Room = cond c.ok (Made (length k) (length (image_of l k))) NoRoom in
+        let answer : Option Room = cond c.ok (made (length k) (length (image_of l k))) None in
         let guards : (leb (length rs) (most_rows l) && (leb end (length d) && leb more longest)) ≡ true
         = ap₂ (λ (a b : Bool). a && b) (le-leb (length rs) (most_rows l) h.rows.few)
         (ap₂ (λ (a b : Bool). a && b) (le-leb end (length d) (holds_room l ok d rs h)) (le-leb more longest short)) in
-        let says : room_of l d (length rs) end clock more ≡ made
-        = ap (λ (t : Bool). cond t (room_by (length rs) end (choice_at l d (length rs) end clock more)) NoRoom) guards
+        let says : room_of l d (length rs) end clock more ≡ answer
+        = ap (λ (t : Bool). cond t (room_by (length rs) end (choice_at l d (length rs) end clock more)) None) guards
         ∙ ap (room_by (length rs) end) e ∙ room_by_lem c (length k) (length (image_of l k)) x.going.rows x.going.bytes in (
           says,
           ap (after_by l d (length rs) end clock more) says
@@ -192,8 +193,8 @@ module _ (l : Layout) (ok : LayoutOk l) where
           marks_length clock c.marks rs x.going.marks,
         )
       where
-        go : (t : Bool) (n m more : ℕ) {gs : List ℕ} → (choice_at l d (length rs) (length (image_of l rs)) clock more).marks ≡ gs
-            → after_by l d (length rs) (length (image_of l rs)) clock more (cond t (Made n m) NoRoom) ≡ cond t (closed_up l d gs) d
+        go : (t : Bool) (n m more : ℕ) {gs : List Mark} → (choice_at l d (length rs) (length (image_of l rs)) clock more).marks ≡ gs
+            → after_by l d (length rs) (length (image_of l rs)) clock more (cond t (made n m) None) ≡ cond t (closed_up l d gs) d
         go true n m more e = ap (closed_up l d) e
         go false n m more e = refl
 

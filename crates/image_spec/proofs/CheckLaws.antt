@@ -14,7 +14,7 @@ use Rattle.exact.specs.Reads.{got, guard}
 use Rattle.octets.proofs.Tests.{and_left, and_right, or_true}
 use Rattle.octets.proofs.BytesLaws.{has_part, part_has, has_fits}
 use Rattle.descriptor_spec.specs.declared.Fields.{Fields}
-use Rattle.descriptor_spec.specs.declared.Reading.TheVariants.{Read}
+use Rattle.std.specs.Prelude.{Ok}
 use Rattle.image_spec.specs.declared.layout.Layout.{Layout}
 use Rattle.descriptor_spec.specs.Allowed.{id_size}
 use Rattle.image_spec.specs.Layout.{mask_width, mask_place, zero_place, row_size, zero_size, row_place, moment_place, moment_size, LayoutOk}
@@ -94,7 +94,7 @@ module _ (l : Layout) (ok : LayoutOk l) where
 
   -- a body that stands with its row, after those of `seen`
   pub record Stands (s : List ℕ) (seen : List Row) (i at : ℕ) (b : Row) (f : Fields) : Type 0 where
-    pub reads : reading b.body ≡ Read f
+    pub reads : reading b.body ≡ Ok f
     pub new : has_id (id_of b.body) seen ≡ false
     pub dated : MomentOk l b
     pub has_row : Has s (row_place l i) (row l at b)

@@ -9,15 +9,16 @@ use lib.ListN.{length, get_or, set}
 use lib.Seq.{get_or-set_same, get_or-set_other}
 use lib.Dec.{leb}
 use borrow.Author.Tests.{le-leb, leb-true, leb-false}
+use Rattle.image_spec.specs.declared.Mark.{Mark}
+use Rattle.image_spec.specs.declared.Mark.TheVariants.{Current, Expired, Gone}
 use Rattle.image_spec.specs.declared.layout.Layout.{Layout}
-use Rattle.image_spec.specs.declared.Least.{Least}
-use Rattle.image_spec.specs.declared.Least.TheVariants.{IsRow, NoRow}
+use Rattle.std.specs.Prelude.{Option, Some, None}
 use Rattle.image_spec.specs.Layout.{row_size, most_rows, row_place, LayoutOk}
 use Rattle.image_spec.specs.Image.{Row, image_of}
 use Rattle.image_spec.specs.Grow.{has_room}
-use Rattle.image_spec.specs.Close.{expired, gone, kept}
+use Rattle.image_spec.specs.Close.{kept}
 use Rattle.image_spec.specs.Choose.{Ask, short_of, least_of, fits_after, fits_in, Chosen, chosen_of, one_step, chosen, marked, ask_of}
-use Rattle.image_spec.specs.Choose.{choice_of}
+use Rattle.image_spec.specs.Choose.{may_go, choice_of}
 use Rattle.image_spec.specs.Removal.{row_in, Before}
 use Rattle.image_spec.proofs.RowPlaceLaws.{place_next}
 use Rattle.image_spec.proofs.RowLaws.{image_length}
@@ -40,16 +41,20 @@ leb_same x y x' y' f g = go (leb x' y') refl
         other true q = absurd (both (f (leb-true x y q)) (leb-false x' y' e))
         other false q = refl
 
+-- a row that goes is not marked as expired
+gone_expired : Gone ≡ Expired → ⊥
+gone_expired e = false≢true (ap may_go e)
+
 -- one row goes: a mark of the others is what it was, and the row's mark says that it goes
-set_mark : (gs : List ℕ) (k i g : ℕ) → k < length gs → get_or (set gs k gone) i 0 ≡ g → (i ≡ k → ⊥) → get_or gs i 0 ≡ g
-set_mark gs k i g h z n = sym (get_or-set_other gs k i gone 0 n) ∙ z
+set_mark : (gs : List Mark) (k i : ℕ) (g : Mark) → k < length gs → get_or (set gs k Gone) i Current ≡ g → (i ≡ k → ⊥) → get_or gs i Current ≡ g
+set_mark gs k i g h z n = sym (get_or-set_other gs k i Gone Current n) ∙ z
 
 -- a row that is then still marked as expired is another
-still_other : (gs : List ℕ) (k i : ℕ) → k < length gs → get_or (set gs k gone) i 0 ≡ expired → i ≡ k → ⊥
+still_other : (gs : List Mark) (k i : ℕ) → k < length gs → get_or (set gs k Gone) i Current ≡ Expired → i ≡ k → ⊥
 still_other gs k i h z e =
-    let q : get_or (set gs k gone) k 0 ≡ gone = get_or-set_same gs k gone 0 h in
-    let w : get_or (set gs k gone) k 0 ≡ expired = ap (λ (x : ℕ). get_or (set gs k gone) x 0) (sym e) ∙ z in
-    omega arith
+    let q : get_or (set gs k Gone) k Current ≡ Gone = get_or-set_same gs k Gone Current h in
+    let w : get_or (set gs k Gone) k Current ≡ Expired = ap (λ (x : ℕ). get_or (set gs k Gone) x Current) (sym e) ∙ z in
+    absurd (gone_expired (sym q ∙ w))
 
 module _ (l : Layout) (ok : LayoutOk l) (d : List ℕ) (clock : ℕ) (rs : List Row) (new : Row) where
   -- what the choice is made by
@@ -57,18 +62,18 @@ module _ (l : Layout) (ok : LayoutOk l) (d : List ℕ) (clock : ℕ) (rs : List 
   asked = ask_of l rs (length new.body) (length d)
 
   -- there is room beside what is kept
-  abbrev pub room_beside : List ℕ → Bool
+  abbrev pub room_beside : List Mark → Bool
   room_beside gs = has_room l d (kept gs rs) new
 
   -- Rows went by these marks: the marks say which rows are expired; so many rows and bytes were removed; every row that goes comes before
   -- every expired row that stays; and with the last that goes there was no room.
-  pub record Going (gs : List ℕ) (removed freed : ℕ) : Type 0 where
+  pub record Going (gs : List Mark) (removed freed : ℕ) : Type 0 where
     pub marks : Marks clock gs rs
     pub rows : length (kept gs rs) + removed ≡ length rs
     pub bytes : length (image_of l (kept gs rs)) + freed ≡ length (image_of l rs)
-    pub order : (i j : ℕ) → get_or gs i 0 ≡ gone → get_or gs j 0 ≡ expired → Before rs i j
-    pub last : (j : ℕ) → get_or gs j 0 ≡ gone → ((i : ℕ) → get_or gs i 0 ≡ gone → (i ≡ j → ⊥) → Before rs i j)
-        → room_beside (set gs j expired) ≡ false
+    pub order : (i j : ℕ) → get_or gs i Current ≡ Gone → get_or gs j Current ≡ Expired → Before rs i j
+    pub last : (j : ℕ) → get_or gs j Current ≡ Gone → ((i : ℕ) → get_or gs i Current ≡ Gone → (i ≡ j → ⊥) → Before rs i j)
+        → room_beside (set gs j Expired) ≡ false
 
   -- before any row goes it is so
   pub going_first : Going (marked clock rs) 0 0
@@ -83,7 +88,7 @@ module _ (l : Layout) (ok : LayoutOk l) (d : List ℕ) (clock : ℕ) (rs : List 
       }
 
   -- the test of the choice is that there is room beside what is kept
-  pub fits_room : (gs : List ℕ) (removed freed : ℕ) → Going gs removed freed → fits_in l asked removed freed ≡ room_beside gs
+  pub fits_room : (gs : List Mark) (removed freed : ℕ) → Going gs removed freed → fits_in l asked removed freed ≡ room_beside gs
   unfolding fits_after short_of has_room
   fits_room gs removed freed t =
       let k : ℕ = length (kept gs rs) in
@@ -98,21 +103,21 @@ module _ (l : Layout) (ok : LayoutOk l) (d : List ℕ) (clock : ℕ) (rs : List 
       (λ h. omega arith) (λ h. omega arith))
 
   -- where the row that goes next goes, and there was no room without that, it is so again
-  going_next : (gs : List ℕ) (removed freed k v : ℕ) → Going gs removed freed → room_beside gs ≡ false → least_of asked gs ≡ IsRow k v
-      → Going (set gs k gone) (removed + 1) (freed + (row_size l + length (row_in rs k).body))
+  going_next : (gs : List Mark) (removed freed k v : ℕ) → Going gs removed freed → room_beside gs ≡ false → least_of asked gs ≡ Some (k, v)
+      → Going (set gs k Gone) (removed + 1) (freed + (row_size l + length (row_in rs k).body))
   going_next gs removed freed k v t full e =
       let s : LeastTo asked.used (mark_in gs) (length gs) k v
       = subst (SeenTo asked.used (mark_in gs) (length gs)) e (least_seen asked gs) in
       let h : k < length gs = s.below in
       let n : length gs ≡ length rs = marks_length clock gs rs t.marks in
       let q = kept_set gs rs k n s.due in
-      let gs' : List ℕ = set gs k gone in
+      let gs' : List Mark = set gs k Gone in
       let fewer : length (kept gs rs) ≡ length (kept gs' rs) + 1 = q.0 in
       -- the row comes before every expired row that stays
-      let first : (j : ℕ) → get_or gs' j 0 ≡ expired → Before rs k j = λ j z.
+      let first : (j : ℕ) → get_or gs' j Current ≡ Expired → Before rs k j = λ j z.
       let o : j ≡ k → ⊥ = still_other gs k j h z in
-      let y : get_or gs j 0 ≡ expired = set_mark gs k j expired h z o in
-      let w = s.first j (mark_below gs j 0 y) y in
+      let y : get_or gs j Current ≡ Expired = set_mark gs k j Expired h z o in
+      let w = s.first j (mark_below gs j Expired refl y) y in
       (w.0, λ x. let le : k ≤ j = w.1 x in by_eq (k < j) j k (λ z. absurd (o z)) (λ z. omega arith)) in
       record {
         marks = marks_set clock gs rs k t.marks s.due;
@@ -129,13 +134,13 @@ module _ (l : Layout) (ok : LayoutOk l) (d : List ℕ) (clock : ℕ) (rs : List 
         order = λ i j z y.
             let o : j ≡ k → ⊥ = still_other gs k j h y in
             by_eq (Before rs i j) i k (λ x. subst (λ (p : ℕ). Before rs p j) (sym x) (first j y))
-            (λ x. t.order i j (set_mark gs k i gone h z x) (set_mark gs k j expired h y o));
+            (λ x. t.order i j (set_mark gs k i Gone h z x) (set_mark gs k j Expired h y o));
         last = λ j z f.
-            by_eq (room_beside (set gs' j expired) ≡ false) j k
-            (λ x. subst (λ (p : ℕ). room_beside (set gs' p expired) ≡ false) (sym x) (ap room_beside (set_back gs k s.due) ∙ full))
+            by_eq (room_beside (set gs' j Expired) ≡ false) j k
+            (λ x. subst (λ (p : ℕ). room_beside (set gs' p Expired) ≡ false) (sym x) (ap room_beside (set_back gs k s.due) ∙ full))
             (λ x.
-            let a : Before rs j k = t.order j k (set_mark gs k j gone h z x) s.due in
-            let b : Before rs k j = f k (get_or-set_same gs k gone 0 h) (λ y. x (sym y)) in
+            let a : Before rs j k = t.order j k (set_mark gs k j Gone h z x) s.due in
+            let b : Before rs k j = f k (get_or-set_same gs k Gone Current h) (λ y. x (sym y)) in
             absurd (turn j k a b));
       }
     where
@@ -146,15 +151,15 @@ module _ (l : Layout) (ok : LayoutOk l) (d : List ℕ) (clock : ℕ) (rs : List 
   pub record Ended (c : Chosen) : Type 0 where
     pub going : Going c.marks c.removed c.freed
     pub answer : c.ok ≡ room_beside c.marks
-    pub all : c.ok ≡ false → (i : ℕ) → get_or c.marks i 0 ≡ expired → ⊥
+    pub all : c.ok ≡ false → (i : ℕ) → get_or c.marks i Current ≡ Expired → ⊥
 
   -- nothing more is chosen
-  ends_here : (gs : List ℕ) (removed freed : ℕ) (t : Bool) → Going gs removed freed → fits_in l asked removed freed ≡ t
-      → (t ≡ false → (i : ℕ) → get_or gs i 0 ≡ expired → ⊥) → Ended (chosen_of t gs removed freed)
+  ends_here : (gs : List Mark) (removed freed : ℕ) (t : Bool) → Going gs removed freed → fits_in l asked removed freed ≡ t
+      → (t ≡ false → (i : ℕ) → get_or gs i Current ≡ Expired → ⊥) → Ended (chosen_of t gs removed freed)
   ends_here gs removed freed t g e f = record { going = g; answer = sym e ∙ fits_room gs removed freed g; all = f }
 
   -- where at most as many more are chosen as there are rows left, what is chosen is so
-  pub chosen_ended : (m : ℕ) (gs : List ℕ) (removed freed : ℕ) → length (kept gs rs) ≤ m → Going gs removed freed
+  pub chosen_ended : (m : ℕ) (gs : List Mark) (removed freed : ℕ) → length (kept gs rs) ≤ m → Going gs removed freed
       → Ended (chosen l asked m gs removed freed)
   unfolding chosen
   chosen_ended zero gs removed freed h g =
@@ -162,20 +167,20 @@ module _ (l : Layout) (ok : LayoutOk l) (d : List ℕ) (clock : ℕ) (rs : List 
       (λ e i z. omega (arith, (kept_set gs rs i (marks_length clock gs rs g.marks) z).0))
   chosen_ended (suc m) gs removed freed h g = go (fits_in l asked removed freed) (least_of asked gs) refl refl (chosen_ended m)
     where
-      go : (t : Bool) (b : Least) → fits_in l asked removed freed ≡ t → least_of asked gs ≡ b
-          → ((gs' : List ℕ) (r f : ℕ) → length (kept gs' rs) ≤ m → Going gs' r f → Ended (chosen l asked m gs' r f))
+      go : (t : Bool) (b : Option (ℕ × ℕ)) → fits_in l asked removed freed ≡ t → least_of asked gs ≡ b
+          → ((gs' : List Mark) (r f : ℕ) → length (kept gs' rs) ≤ m → Going gs' r f → Ended (chosen l asked m gs' r f))
           → Ended (one_step t b gs removed freed
-          (λ j. chosen l asked m (set gs j gone) (removed + 1) (freed + (row_size l + asked.size j))))
+          (λ j. chosen l asked m (set gs j Gone) (removed + 1) (freed + (row_size l + asked.size j))))
       go true b e f more = ends_here gs removed freed true g e (λ q. absurd (false≢true (sym q)))
-      go false NoRow e f more =
+      go false None e f more =
           ends_here gs removed freed false g e
-          (λ q i z. subst (SeenTo asked.used (mark_in gs) (length gs)) f (least_seen asked gs) i (mark_below gs i 0 z) z)
-      go false (IsRow k v) e f more =
-          let s : LeastTo asked.used (mark_in gs) (length gs) k v
+          (λ q i z. subst (SeenTo asked.used (mark_in gs) (length gs)) f (least_seen asked gs) i (mark_below gs i Expired refl z) z)
+      go false (Some b) e f more =
+          let s : LeastTo asked.used (mark_in gs) (length gs) b.0 b.1
           = subst (SeenTo asked.used (mark_in gs) (length gs)) f (least_seen asked gs) in
-          let q = kept_set gs rs k (marks_length clock gs rs g.marks) s.due in
-          more (set gs k gone) (removed + 1) (freed + (row_size l + asked.size k)) (omega (arith, q.0))
-          (going_next gs removed freed k v g (sym (fits_room gs removed freed g) ∙ e) f)
+          let q = kept_set gs rs b.0 (marks_length clock gs rs g.marks) s.due in
+          more (set gs b.0 Gone) (removed + 1) (freed + (row_size l + asked.size b.0)) (omega (arith, q.0))
+          (going_next gs removed freed b.0 b.1 g (sym (fits_room gs removed freed g) ∙ e) f)
 
   -- so is the choice among the rows
   pub choice_ended : Ended (choice_of l (length d) clock rs (length new.body))
@@ -184,10 +189,10 @@ module _ (l : Layout) (ok : LayoutOk l) (d : List ℕ) (clock : ℕ) (rs : List 
       chosen_ended (length rs) (marked clock rs) 0 0 (omega (arith, ap (λ (x : List Row). length x) (kept_first clock rs))) going_first
 
 -- where there is room nothing more is chosen
-pub chosen_fits : (l : Layout) (a : Ask) (m : ℕ) (gs : List ℕ) (removed freed : ℕ) → fits_in l a removed freed ≡ true
+pub chosen_fits : (l : Layout) (a : Ask) (m : ℕ) (gs : List Mark) (removed freed : ℕ) → fits_in l a removed freed ≡ true
     → chosen l a m gs removed freed ≡ chosen_of true gs removed freed
 unfolding chosen
 chosen_fits l a zero gs removed freed e = ap (λ (t : Bool). chosen_of t gs removed freed) e
 chosen_fits l a (suc m) gs removed freed e =
     ap (λ (t : Bool). one_step t (least_of a gs) gs removed freed
-    (λ j. chosen l a m (set gs j gone) (removed + 1) (freed + (row_size l + a.size j)))) e
+    (λ j. chosen l a m (set gs j Gone) (removed + 1) (freed + (row_size l + a.size j)))) e

@@ -14,6 +14,7 @@ use Rattle.octets.proofs.NumberLaws.{length_big_endian}
 use Rattle.octets.proofs.Tests.{or_no_left, or_no_right}
 use Rattle.octets.proofs.OverLaws.{has_front, Kept, kept_over, kept_has, put_fits}
 use Rattle.exact.specs.Reads.{AllFrom}
+use Rattle.image_spec.specs.declared.Mark.{Mark}
 use Rattle.image_spec.specs.declared.layout.Layout.{Layout}
 use Rattle.image_spec.specs.Layout.{header_size, header_width, count_place, most_rows, row_place, LayoutOk}
 use Rattle.image_spec.specs.Image.{Row, id_of, header, rows_of, joined, image_of, has_id, BodyOk, seen_with, Every, MomentOk, Holds}
@@ -41,7 +42,7 @@ module _ (l : Layout) (ok : LayoutOk l) where
       })
 
   -- the writes of a removal leave the image of the rows that stay, and the old bytes beyond its end
-  pub closed_up_lem : (d : List ℕ) (rs : List Row) (gs : List ℕ) → Holds l d rs → length gs ≡ length rs
+  pub closed_up_lem : (d : List ℕ) (rs : List Row) (gs : List Mark) → Holds l d rs → length gs ≡ length rs
       → closed_up l d gs ≡ with_rows l d (kept gs rs)
   unfolding closed_up with_rows
   closed_up_lem d rs gs h same_number =
@@ -105,7 +106,7 @@ module _ (l : Layout) (ok : LayoutOk l) where
 -- ---- the rows that stay may be held
 
 -- what is so of each row is so of each that stays
-every_kept : (P : Row → Type 0) (gs : List ℕ) (rs : List Row) → Every P rs → Every P (kept gs rs)
+every_kept : (P : Row → Type 0) (gs : List Mark) (rs : List Row) → Every P rs → Every P (kept gs rs)
 unfolding kept
 every_kept P [] rs a = tt
 every_kept P (g ∷ gs) [] a = tt
@@ -121,7 +122,7 @@ snoc_none : (id : List ℕ) (rs : List Row) (r : Row) → has_id id rs ≡ false
 snoc_none id rs r e f = has_snoc id rs r ∙ rw (e, f)
 
 -- rows that are allowed after those of `seen` are so, those that stay, after fewer
-from_kept : (seen fewer rs : List Row) (gs : List ℕ) → ((id : List ℕ) → has_id id seen ≡ false → has_id id fewer ≡ false)
+from_kept : (seen fewer rs : List Row) (gs : List Mark) → ((id : List ℕ) → has_id id seen ≡ false → has_id id fewer ≡ false)
     → AllFrom BodyOk seen_with seen rs
     → AllFrom BodyOk seen_with fewer (kept gs rs)
 unfolding kept
@@ -148,7 +149,7 @@ from_kept seen fewer (r ∷ rs) (g ∷ gs) f a =
     go false with_it more = more
 
 -- the buffer with the image of the rows that stay holds them
-pub kept_holds : (l : Layout) → LayoutOk l → (d : List ℕ) (rs : List Row) (gs : List ℕ) → Holds l d rs → length gs ≡ length rs
+pub kept_holds : (l : Layout) → LayoutOk l → (d : List ℕ) (rs : List Row) (gs : List Mark) → Holds l d rs → length gs ≡ length rs
     → Holds l (with_rows l d (kept gs rs)) (kept gs rs)
 unfolding with_rows
 kept_holds l ok d rs gs h same_number = record {

@@ -17,7 +17,7 @@ use Rattle.octets.proofs.Tests.{and_left, and_right}
 use Rattle.octets.proofs.SameLaws.{equal_same, not_same}
 use Rattle.octets.proofs.OverLaws.{over_has, has_front, Kept, kept_over, kept_has, put_fits, moved_fits}
 use Rattle.descriptor_spec.specs.declared.Fields.{Fields}
-use Rattle.descriptor_spec.specs.declared.Reading.TheVariants.{Read}
+use Rattle.std.specs.Prelude.{Ok}
 use Rattle.image_spec.specs.declared.layout.Layout.{Layout}
 use Rattle.descriptor_spec.specs.Allowed.{id_size}
 use Rattle.image_spec.specs.Layout.{header_size, header_width, count_place, row_size, most_rows, row_place, LayoutOk}
@@ -43,7 +43,7 @@ module _ (l : Layout) (ok : LayoutOk l) where
 
   -- in the image of the rows bs, with room for a row and its body, the writes leave the image of those rows and the new one, and the old
   -- bytes beyond its end
-  grown_image : (d : List ℕ) (bs : List Row) (b : Row) (f : Fields) → Holds l d bs → reading b.body ≡ Read f
+  grown_image : (d : List ℕ) (bs : List Row) (b : Row) (f : Fields) → Holds l d bs → reading b.body ≡ Ok f
       → length (image_of l bs) + row_size l + length b.body ≤ length d
       → grown l d (length bs) (length (image_of l bs)) b.body f.id f.mask b.used ≡ with_body l d bs b
   unfolding moved with_body
@@ -137,7 +137,7 @@ module _ (l : Layout) (ok : LayoutOk l) where
       )
 
   -- a body that reads fits where there is room for it
-  fits_room : (d : List ℕ) (bs : List Row) (b : Row) (f : Fields) → reading b.body ≡ Read f
+  fits_room : (d : List ℕ) (bs : List Row) (b : Row) (f : Fields) → reading b.body ≡ Ok f
       → fits l d (length bs) (length (image_of l bs)) b.body f.id ≡ has_room l d bs b
   unfolding fits has_room
   fits_room d bs b f e =

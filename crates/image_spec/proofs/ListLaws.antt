@@ -12,24 +12,25 @@ use Rattle.octets.proofs.SameLaws.{same_equal}
 use Rattle.octets.proofs.OptionLaws.{none_some}
 use Rattle.octets.proofs.Tests.{or_assoc}
 use Rattle.descriptor_spec.specs.declared.Fields.{Fields}
-use Rattle.descriptor_spec.specs.declared.Reading.{Reading}
-use Rattle.descriptor_spec.specs.declared.Reading.TheVariants.{Read, Structure, Validity}
+use Rattle.descriptor_spec.specs.Reading.{Reading}
+use Rattle.std.specs.Prelude.{Ok, Err}
+use Rattle.descriptor_spec.specs.declared.ReadError.TheVariants.{Structure, Validity}
 use Rattle.image_spec.specs.Image.{Row, reading, is_read, id_of, joined, has_id, BodyOk, seen_with, Every, body_with}
 use Rattle.image_spec.proofs.BodyLaws.{read_in}
 
 -- ---- a body that reads
 
 -- of a body that reads something was read
-pub read_is : (b : List ℕ) → is_read (reading b) ≡ true → (f : Fields) × (reading b ≡ Read f)
+pub read_is : (b : List ℕ) → is_read (reading b) ≡ true → (f : Fields) × (reading b ≡ Ok f)
 read_is b t = go (reading b) t
   where
-    go : (r : Reading) → is_read r ≡ true → (f : Fields) × (r ≡ Read f)
-    go (Read f) e = (f, refl)
-    go Structure e = absurd (false≢true e)
-    go Validity e = absurd (false≢true e)
+    go : (r : Reading) → is_read r ≡ true → (f : Fields) × (r ≡ Ok f)
+    go (Ok f) e = (f, refl)
+    go (Err Structure) e = absurd (false≢true e)
+    go (Err Validity) e = absurd (false≢true e)
 
 -- a body of which something was read reads
-pub is_read_lem : (b : List ℕ) (f : Fields) → reading b ≡ Read f → is_read (reading b) ≡ true
+pub is_read_lem : (b : List ℕ) (f : Fields) → reading b ≡ Ok f → is_read (reading b) ≡ true
 is_read_lem b f e = ap is_read e
 
 -- bodies that read have at most 32768 bytes each

@@ -1,4 +1,6 @@
 -- A lookup in document 01's numbers (specs/Check.antt). Assumes nothing.
+use Rattle.std.specs.Prelude.{Ok, Err, Some, None}
+use Rattle.image_spec.specs.Check.{contents, Held, ImageCheck, Finding, held_at, found_in, find_of as find-of, body_span, numbers_of}
 use mathlib.Core.Path.{◌≡◌, refl, sym, ap, ◌∙◌, subst}
 use mathlib.Core.Bool.{Bool, true, false}
 use mathlib.Core.List.{List}
@@ -13,33 +15,27 @@ use Rattle.octets.specs.Span.{span_of}
 use Rattle.octets.proofs.SpanLaws.{inside_fits}
 use Rattle.octets.proofs.BytesLaws.{part_has}
 use Rattle.octets.proofs.OptionLaws.{some_same, none_some}
-use Rattle.image_spec.specs.declared.Held.{Held}
-use Rattle.image_spec.specs.declared.Held.TheVariants.{Missing, Body}
-use Rattle.image_spec.specs.declared.ImageCheck.{ImageCheck}
-use Rattle.image_spec.specs.declared.ImageCheck.TheVariants.{Sound, Unsound}
-use Rattle.image_spec.specs.declared.Finding.{Finding}
-use Rattle.image_spec.specs.declared.Finding.TheVariants.{Found, Malformed, BadImage, NotFound}
+use Rattle.image_spec.specs.declared.FindError.TheVariants.{Malformed, BadImage, NotFound}
 use Rattle.descriptor_spec.specs.Allowed.{id_size}
 use Rattle.image_spec.specs.Image.{Row, body_with}
-use Rattle.image_spec.specs.Check.{held_at, found_in, find_of as find-of, body_span, numbers_of}
 use Rattle.image_spec.specs.Image.{image_of}
 use Rattle.image_spec.specs.Check.{layout_of}
 use Rattle.image_spec.specs.Readable.{Holds, check_of, rows_held, find_of}
 use Rattle.image_spec.specs.Promises.{refusal, FoundAt, LookupExactly, SoundExactly, EditionsKnown, BodyHanded}
-use Rattle.image_spec.specs.Laws.{HeldIs, CheckFits}
+use Rattle.image_spec.specs.Laws.{HeldIs, HeldFits, CheckFits}
 use Rattle.image_spec.proofs.FindLaws as found
 use Rattle.image_spec.proofs.NamedLaws.{named_ok, editions_named}
 
 -- ---- the check of an image that may be read
 
 check_tells : (s id : List ℕ) (rs : List Row) → Holds s rs
-    → (h : Held) × (check_of s id ≡ Sound (length rs) (length (image_of (layout_of s) rs)) h) × HeldIs s id rs h
+    → (h : Held) × (check_of s id ≡ contents (length rs) (length (image_of (layout_of s) rs)) h) × HeldIs s id rs h
 check_tells s = found.check_tells (layout_of s) (named_ok s) s
 
-check_says : (s id : List ℕ) → AreBytes s → (n end : ℕ) (h : Held) → check_of s id ≡ Sound n end h → Holds s (rows_held s)
+check_says : (s id : List ℕ) → AreBytes s → (n end : ℕ) (h : Held) → check_of s id ≡ contents n end h → Holds s (rows_held s)
 check_says s id bytes n end h e = (found.check_says (layout_of s) (named_ok s) s id bytes n end h e).holds
 
-check_unsound : (s id : List ℕ) → AreBytes s → ((rs : List Row) → Holds s rs → ⊥) → check_of s id ≡ Unsound
+check_unsound : (s id : List ℕ) → AreBytes s → ((rs : List Row) → Holds s rs → ⊥) → check_of s id ≡ None
 check_unsound s id bytes = (found.check_unsound (layout_of s) (named_ok s) s id bytes).1
 
 -- ---- what a lookup answers
@@ -55,7 +51,7 @@ unfolding find-of
 find_bad s id l = rw (ne_eqb (length id) id_size l, find-of)
 
 -- a check that calls the image unsound is answered 16
-unsound_16 : (s id : List ℕ) → length id ≡ id_size → check_of s id ≡ Unsound → numbers_of (find_of s id) ≡ refusal 16
+unsound_16 : (s id : List ℕ) → length id ≡ id_size → check_of s id ≡ None → numbers_of (find_of s id) ≡ refusal 16
 unsound_16 s id l e = ap numbers_of (find_in_lem s id l) ∙ ap (λ (v : ImageCheck). numbers_of (found_in v)) e
 
 -- `LookupExactly`
@@ -72,20 +68,20 @@ lookup_exactly = record {
   where
     missing : (s id : List ℕ) (bs : List Row) → body_with id bs ≡ none → (h : Held) → HeldIs s id bs h
         → numbers_of (held_at h) ≡ refusal 7
-    missing s id bs e Missing k = refl
-    missing s id bs e (Body row at len f) k = absurd (none_some (part s at len) (sym e ∙ k.which))
+    missing s id bs e None k = refl
+    missing s id bs e (Some x) k = absurd (none_some (part s x.at x.len) (sym e ∙ k.which))
 
     found : (s id : List ℕ) (bs : List Row) (b : List ℕ) → body_with id bs ≡ some b → (h : Held) → HeldIs s id bs h
         → FoundAt s b (numbers_of (held_at h))
-    found s id bs b e Missing k = absurd (none_some b (sym k ∙ e))
-    found s id bs b e (Body row at len f) k =
-        let q : part s at len ≡ b = some_same (part s at len) b (sym k.which ∙ e) in
-        record { answer = refl; bytes = q; len = sym (part_has s at len k.inside).1 ∙ ap length q; inside = k.inside }
+    found s id bs b e None k = absurd (none_some b (sym k ∙ e))
+    found s id bs b e (Some x) k =
+        let q : part s x.at x.len ≡ b = some_same (part s x.at x.len) b (sym k.which ∙ e) in
+        record { answer = refl; bytes = q; len = sym (part_has s x.at x.len k.inside).1 ∙ ap length q; inside = k.inside }
 
 -- a check that calls the image sound is not answered 16
-sound_other : (n end : ℕ) (h : Held) → (numbers_of (found_in (Sound n end h))).answer ≡ 16 → ⊥
-sound_other n end Missing e = omega arith
-sound_other n end (Body row at len f) e = omega arith
+sound_other : (n end : ℕ) (h : Held) → (numbers_of (found_in (contents n end h))).answer ≡ 16 → ⊥
+sound_other n end None e = omega arith
+sound_other n end (Some b) e = omega arith
 
 -- `SoundExactly`
 pub sound_exactly : SoundExactly
@@ -97,8 +93,8 @@ sound_exactly s id bytes l = (
 )
   where
     go : (v : ImageCheck) → check_of s id ≡ v → ((numbers_of (find_of s id)).answer ≡ 16 → ⊥) → (bs : List Row) × Holds s bs
-    go (Sound k end h) e n = (rows_held s, check_says s id bytes k end h e)
-    go Unsound e n = absurd (n (ap (λ r. r.answer) (unsound_16 s id l e)))
+    go (Some v) e n = (rows_held s, check_says s id bytes v.rows v.end v.held e)
+    go None e n = absurd (n (ap (λ r. r.answer) (unsound_16 s id l e)))
 
 -- `EditionsKnown`
 pub editions_known : EditionsKnown
@@ -108,22 +104,23 @@ editions_known s id l other = unsound_16 s id l (editions_named s id other)
 
 -- a body that was found lies in the image
 abbrev pub FindFits : List ℕ → Finding → Type 0
-FindFits s (Found at n) = at + n ≤ length s
-FindFits s Malformed = Unit {0}
-FindFits s BadImage = Unit {0}
-FindFits s NotFound = Unit {0}
+FindFits s (Ok p) = p.at + p.len ≤ length s
+FindFits s (Err refusal) = Unit {0}
 
 -- it does so for every id
 pub find_fits : (s id : List ℕ) → AreBytes s → FindFits s (find_of s id)
 unfolding find-of
 find_fits s id bytes = test (eqb (length id) id_size)
   where
-    go : (v : ImageCheck) → CheckFits s v → FindFits s (found_in v)
-    go (Sound n end Missing) k = tt
-    go (Sound n end (Body row at len f)) k = k.1.0
-    go Unsound k = tt
+    held : (h : Held) → HeldFits s h → FindFits s (held_at h)
+    held None k = tt
+    held (Some b) k = k.0
 
-    test : (t : Bool) → FindFits s (elim t as (λ t. Finding) [ true ↦ found_in (check_of s id) | false ↦ Malformed ])
+    go : (v : ImageCheck) → CheckFits s v → FindFits s (found_in v)
+    go (Some v) k = held v.held k.1
+    go None k = tt
+
+    test : (t : Bool) → FindFits s (elim t as (λ t. Finding) [ true ↦ found_in (check_of s id) | false ↦ Err Malformed ])
     test true = go (check_of s id) (found.check_inside (layout_of s) (named_ok s) s id bytes)
     test false = tt
 
@@ -132,8 +129,8 @@ pub body_handed : BodyHanded
 body_handed s id bytes = go (find_of s id) refl
   where
     go : (r : Finding) → find_of s id ≡ r → body_span s r ≡ span_of (numbers_of r).body_at (numbers_of r).body_len
-    go (Found at n) e = let l : at + n ≤ length s = subst (FindFits s) e (find_fits s id bytes) in inside_fits s at n (omega arith)
+    go (Ok p) e = let l : p.at + p.len ≤ length s = subst (FindFits s) e (find_fits s id bytes) in inside_fits s p.at p.len (omega arith)
         (omega arith)
-    go Malformed e = refl
-    go BadImage e = refl
-    go NotFound e = refl
+    go (Err Malformed) e = refl
+    go (Err BadImage) e = refl
+    go (Err NotFound) e = refl

@@ -6,6 +6,7 @@ use Prim.Native.Nat.{ℕ, suc, ◌+◌, ◌≤◌}
 use native.Mathlib.Omega.{arith}
 use native.Mathlib.Nat.{add-zero}
 use lib.ListN.{length, length-append}
+use Rattle.image_spec.specs.declared.Mark.{Mark}
 use Rattle.image_spec.specs.declared.layout.Layout.{Layout}
 use Rattle.image_spec.specs.Layout.{row_place, LayoutOk}
 use Rattle.image_spec.specs.Image.{Row, row, rows_of}
@@ -79,7 +80,7 @@ rows_at_end l ok i (p ∷ ps) =
 -- ---- those that stay
 
 -- the rows of those that stay are the rows that stay
-pub kept_entries : (gs : List ℕ) (ps : List Placed) → entries (kept gs ps) ≡ kept gs (entries ps)
+pub kept_entries : (gs : List Mark) (ps : List Placed) → entries (kept gs ps) ≡ kept gs (entries ps)
 unfolding entries kept
 kept_entries [] ps = refl
 kept_entries (g ∷ gs) [] = refl
@@ -91,7 +92,7 @@ kept_entries (g ∷ gs) (p ∷ ps) = go (stays g) (kept_entries gs ps)
     go false more = more
 
 -- so many stay as are counted
-pub kept_count : {A : Type 0} (gs : List ℕ) (xs : List A) (k : ℕ) → length gs ≡ length xs → count_kept gs k ≡ k + length (kept gs xs)
+pub kept_count : {A : Type 0} (gs : List Mark) (xs : List A) (k : ℕ) → length gs ≡ length xs → count_kept gs k ≡ k + length (kept gs xs)
 unfolding count_kept kept
 kept_count [] xs k n = omega arith
 kept_count (g ∷ gs) [] k n = absurd (omega arith)
@@ -103,7 +104,7 @@ kept_count (g ∷ gs) (x ∷ xs) k n = go (stays g) (λ k'. kept_count gs xs k' 
     go false more = more k
 
 -- no more stay than there are
-pub kept_few : {A : Type 0} (gs : List ℕ) (xs : List A) → length (kept gs xs) ≤ length xs
+pub kept_few : {A : Type 0} (gs : List Mark) (xs : List A) → length (kept gs xs) ≤ length xs
 unfolding kept
 kept_few [] xs = omega arith
 kept_few (g ∷ gs) [] = omega arith

@@ -12,7 +12,7 @@ use Rattle.octets.proofs.NumberLaws.{length_big_endian, number_in_lem, number_of
 use Rattle.octets.specs.Write.{over, put_at}
 use Rattle.octets.proofs.OverLaws.{over_has, over_append, Kept, kept_over, kept_has, kept_join, kept_self, put_fits}
 use Rattle.descriptor_spec.specs.declared.Fields.{Fields}
-use Rattle.descriptor_spec.specs.declared.Reading.TheVariants.{Read}
+use Rattle.std.specs.Prelude.{Ok}
 use Rattle.image_spec.specs.declared.layout.Layout.{Layout}
 use Rattle.descriptor_spec.specs.Allowed.{id_size}
 use Rattle.image_spec.specs.Layout.{mode_edition, header_size, header_width, edition_place, modes_place, count_place, header_zero}
@@ -132,7 +132,7 @@ module _ (l : Layout) (ok : LayoutOk l) where
   -- ---- a row in pieces
 
   -- the row of a body, written in its six pieces, is the row written
-  pub with_row_lem : (d : List ℕ) (r at : ℕ) (b : Row) (f : Fields) → reading b.body ≡ Read f → r + row_size l ≤ length d
+  pub with_row_lem : (d : List ℕ) (r at : ℕ) (b : Row) (f : Fields) → reading b.body ≡ Ok f → r + row_size l ≤ length d
       → with_row l d r at b.body f.id f.mask b.used ≡ over d r (row l at b)
   unfolding with_row row
   with_row_lem d r at b f e room =

@@ -5,8 +5,9 @@ use mathlib.Core.List.{List}
 use Prim.Native.Nat.{ℕ}
 use native.Mathlib.Omega.{arith}
 use Rattle.octets.specs.Bytes.{part}
-use Rattle.descriptor_spec.specs.declared.Reading.{Reading}
-use Rattle.descriptor_spec.specs.declared.Reading.TheVariants.{Read, Structure, Validity}
+use Rattle.descriptor_spec.specs.Reading.{Reading}
+use Rattle.std.specs.Prelude.{Ok, Err}
+use Rattle.descriptor_spec.specs.declared.ReadError.TheVariants.{Structure, Validity}
 use Rattle.descriptor_spec.specs.Model.{Descriptor, encode}
 use Rattle.descriptor_spec.specs.Allowed.{Formed, id_size}
 use Rattle.descriptor_spec.specs.Modes.{union_of}
@@ -64,9 +65,9 @@ unfolding reading
 read_zero b t = go (reading_of (read_of b)) t
   where
     go : (r : Reading) → is_read r ≡ true → number_of r ≡ 0
-    go (Read f) e = refl
-    go Structure e = absurd (false≢true e)
-    go Validity e = absurd (false≢true e)
+    go (Ok f) e = refl
+    go (Err Structure) e = absurd (false≢true e)
+    go (Err Validity) e = absurd (false≢true e)
 
 -- a body that is read with 0 is read
 pub zero_read : (b : List ℕ) → answer_of b ≡ 0 → is_read (reading b) ≡ true
@@ -74,9 +75,9 @@ unfolding reading
 zero_read b t = go (reading_of (read_of b)) t
   where
     go : (r : Reading) → number_of r ≡ 0 → is_read r ≡ true
-    go (Read f) e = refl
-    go Structure e = absurd (omega arith)
-    go Validity e = absurd (omega arith)
+    go (Ok f) e = refl
+    go (Err Structure) e = absurd (omega arith)
+    go (Err Validity) e = absurd (omega arith)
 
 -- `RowOfBody`
 pub row_of_body : RowOfBody

@@ -1,18 +1,20 @@
 -- The rows that go for a new one (specs/Removal.antt) are those that are chosen (specs/Choose.antt). Assumes nothing.
 use mathlib.Core.Path.{◌≡◌, refl, sym, ap, ap₂, ◌∙◌, subst}
-use mathlib.Core.Bool.{Bool, true, false, ◌&&◌}
+use mathlib.Core.Bool.{Bool, true, false, false≢true, ◌&&◌}
 use mathlib.Core.List.{List, [], ◌∷◌, ◌++◌}
 use Prim.Native.Nat.{ℕ, ◌≤◌, ◌<◌}
 use native.Mathlib.Omega.{arith}
 use lib.ListN.{length, get_or}
 use lib.Dec.{leb, ltb}
-use borrow.Author.Tests.{le-leb, lt-ltb, leb-true, ltb-true, eqb-true, eq-eqb}
+use borrow.Author.Tests.{le-leb, lt-ltb, leb-true, ltb-true}
 use Rattle.octets.proofs.Tests.{and_left, and_right}
+use Rattle.image_spec.specs.declared.Mark.{Mark}
+use Rattle.image_spec.specs.declared.Mark.TheVariants.{Current, Expired, Gone}
 use Rattle.image_spec.specs.declared.layout.Layout.{Layout}
 use Rattle.image_spec.specs.Layout.{most_rows, row_place, LayoutOk}
 use Rattle.image_spec.specs.Image.{Row, joined, image_of}
 use Rattle.image_spec.specs.Grow.{has_room}
-use Rattle.image_spec.specs.Close.{gone, kept}
+use Rattle.image_spec.specs.Close.{is_gone, kept}
 use Rattle.image_spec.specs.Choose.{unexpired, marked, fits_in, Chosen, chosen_of, choice_of, goes_of, staying_of}
 use Rattle.image_spec.specs.Removal.{left, Goes, Removal}
 use Rattle.image_spec.proofs.RowPlaceLaws.{place_order}
@@ -23,15 +25,21 @@ use Rattle.image_spec.proofs.MarkLaws.{Marks, marks_length, mark_gone, mark_left
 use Rattle.image_spec.proofs.MarkLaws.{unexpired_fewer, goes_length, goes_at, goes_there, left_kept, put_back_lem}
 use Rattle.image_spec.proofs.ChoiceLaws.{asked, going_first, fits_room, Ended, choice_ended, chosen_fits}
 
+-- the mark of a row that goes
+gone_is : (g : Mark) → is_gone g ≡ true → g ≡ Gone
+gone_is Current e = absurd (false≢true e)
+gone_is Expired e = absurd (false≢true e)
+gone_is Gone e = refl
+
 -- a row that goes is marked so
-goes_mark : (gs : List ℕ) (i : ℕ) → Goes (goes_of gs) i → get_or gs i 0 ≡ gone
-goes_mark gs i g = eqb-true (get_or gs i 0) gone (sym (goes_at gs i) ∙ g.flag)
+goes_mark : (gs : List Mark) (i : ℕ) → Goes (goes_of gs) i → get_or gs i Current ≡ Gone
+goes_mark gs i g = gone_is (get_or gs i Current) (sym (goes_at gs i) ∙ g.flag)
 
 -- a row that is marked so goes
-mark_goes : (gs : List ℕ) (i : ℕ) → get_or gs i 0 ≡ gone → Goes (goes_of gs) i
+mark_goes : (gs : List Mark) (i : ℕ) → get_or gs i Current ≡ Gone → Goes (goes_of gs) i
 mark_goes gs i z = record {
-  place = omega (arith, mark_below gs i 1 z, goes_length gs);
-  flag = goes_at gs i ∙ eq-eqb (get_or gs i 0) gone z;
+  place = omega (arith, mark_below gs i Gone refl z, goes_length gs);
+  flag = goes_at gs i ∙ ap is_gone z;
 }
 
 module _ (l : Layout) (ok : LayoutOk l) where
@@ -81,7 +89,7 @@ module _ (l : Layout) (ok : LayoutOk l) where
     unfolding staying_of
     choice_removal yes' =
         let e : Ended l ok d clock rs new choice = choice_ended l ok d clock rs new in
-        let gs : List ℕ = choice.marks in
+        let gs : List Mark = choice.marks in
         let m : Marks clock gs rs = e.going.marks in (
           record {
             one_each = goes_length gs ∙ marks_length clock gs rs m;

@@ -13,8 +13,9 @@ use Rattle.octets.specs.Number.{big_endian, number_at}
 use Rattle.octets.proofs.BytesLaws.{part_has, has_left, has_part, has_fits, has_after, has_both}
 use Rattle.octets.proofs.NumberLaws.{length_big_endian, number_of_has, has_of_number}
 use Rattle.descriptor_spec.specs.declared.Fields.{Fields}
-use Rattle.descriptor_spec.specs.declared.Reading.{Reading}
-use Rattle.descriptor_spec.specs.declared.Reading.TheVariants.{Read, Structure, Validity}
+use Rattle.descriptor_spec.specs.Reading.{Reading}
+use Rattle.std.specs.Prelude.{Ok, Err}
+use Rattle.descriptor_spec.specs.declared.ReadError.TheVariants.{Structure, Validity}
 use Rattle.image_spec.specs.declared.layout.Layout.{Layout}
 use Rattle.descriptor_spec.specs.Allowed.{id_size}
 use Rattle.image_spec.specs.Layout.{mode_edition, header_size, header_width, edition_place, modes_place, count_place, header_zero}
@@ -29,12 +30,12 @@ use Rattle.image_spec.proofs.BodyLaws.{read_in}
 -- ---- what reading says of a body
 
 -- the id of a body that reads is the part that was read
-pub id_read : (b : List ℕ) (f : Fields) → reading b ≡ Read f → id_of b ≡ part b f.id id_size
+pub id_read : (b : List ℕ) (f : Fields) → reading b ≡ Ok f → id_of b ≡ part b f.id id_size
 unfolding id_of
 id_read b f e = ap (id_in b) e
 
 -- the modes of a body that reads are the mask that was read
-pub modes_read : (b : List ℕ) (f : Fields) → reading b ≡ Read f → modes_of b ≡ f.mask
+pub modes_read : (b : List ℕ) (f : Fields) → reading b ≡ Ok f → modes_of b ≡ f.mask
 unfolding modes_of
 modes_read b f e = ap mask_in e
 
@@ -44,9 +45,9 @@ unfolding id_of
 id_length b = go (reading b) refl
   where
     go : (r : Reading) → reading b ≡ r → length (id_in b r) ≡ id_size
-    go (Read f) e = (part_has b f.id id_size (read_in b f e).id).1
-    go Structure e = refl
-    go Validity e = refl
+    go (Ok f) e = (part_has b f.id id_size (read_in b f e).id).1
+    go (Err Structure) e = refl
+    go (Err Validity) e = refl
 
 -- the mask of a body is below 16, whatever reading says
 pub modes_small : (b : List ℕ) → modes_of b < 16
@@ -54,9 +55,9 @@ unfolding modes_of
 modes_small b = go (reading b) refl
   where
     go : (r : Reading) → reading b ≡ r → mask_in r < 16
-    go (Read f) e = (read_in b f e).mask
-    go Structure e = omega arith
-    go Validity e = omega arith
+    go (Ok f) e = (read_in b f e).mask
+    go (Err Structure) e = omega arith
+    go (Err Validity) e = omega arith
 
 -- the bodies and one more are joined by the body's bytes
 pub joined_snoc : (bs : List Row) (b : Row) → joined (bs ++ (b ∷ [])) ≡ joined bs ++ b.body

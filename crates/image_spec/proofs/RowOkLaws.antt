@@ -9,8 +9,9 @@ use lib.Dec.{T, leb, leb→le}
 use Rattle.octets.specs.Bytes.{part, same}
 use Rattle.exact.specs.Reads.{Got, got, guard}
 use Rattle.descriptor_spec.specs.declared.Fields.{Fields}
-use Rattle.descriptor_spec.specs.declared.Reading.{Reading}
-use Rattle.descriptor_spec.specs.declared.Reading.TheVariants.{Read, Structure, Validity}
+use Rattle.descriptor_spec.specs.Reading.{Reading}
+use Rattle.std.specs.Prelude.{Ok, Err}
+use Rattle.descriptor_spec.specs.declared.ReadError.TheVariants.{Structure, Validity}
 use Rattle.image_spec.specs.declared.layout.Layout.{Layout}
 use Rattle.image_spec.specs.Layout.{row_place}
 use Rattle.image_spec.specs.Image.{reading}
@@ -26,10 +27,10 @@ guard_got false o r n e = absurd (let z : ◌≡◌ {A = ℕ} 0 1 = cc in omega 
 
 -- what is answered of a body was answered of what was read
 pub read_got : {R : Type 0} (x : Reading) (k : Fields → Got R) (r : R) (n : ℕ) → got r n ≡ on_read x k
-    → (f : Fields) × (x ≡ Read f) × (got r n ≡ k f)
-read_got (Read f) k r n e = (f, refl, e)
-read_got Structure k r n e = absurd (let z : ◌≡◌ {A = ℕ} 0 1 = cc in omega arith)
-read_got Validity k r n e = absurd (let z : ◌≡◌ {A = ℕ} 0 1 = cc in omega arith)
+    → (f : Fields) × (x ≡ Ok f) × (got r n ≡ k f)
+read_got (Ok f) k r n e = (f, refl, e)
+read_got (Err Structure) k r n e = absurd (let z : ◌≡◌ {A = ℕ} 0 1 = cc in omega arith)
+read_got (Err Validity) k r n e = absurd (let z : ◌≡◌ {A = ℕ} 0 1 = cc in omega arith)
 
 not_yes : (t : Bool) → not t ≡ true → t ≡ false
 not_yes true e = sym e
@@ -44,7 +45,7 @@ module _ (l : Layout) where
   -- what a row that passes the check says
   pub record RowOk (s : List ℕ) (i at : ℕ) (f : Fields) (next : ℕ) : Type 0 where
     pub inside : at + row_length s (row_place l i) ≤ length s
-    pub reads : reading (part s at (row_length s (row_place l i))) ≡ Read f
+    pub reads : reading (part s at (row_length s (row_place l i))) ≡ Ok f
     pub fits : row_fits l s (row_place l i) at f ≡ true
     pub new : id_among l s (row_id s (row_place l i)) i ≡ false
     pub end : next ≡ at + row_length s (row_place l i)
@@ -61,7 +62,7 @@ module _ (l : Layout) where
       let g = got_same f b.0 next (at + n) d.1 in
       record {
         inside = leb→le (at + n) (length s) (subst T (sym a.0) tt);
-        reads = b.1 ∙ ap Read (sym g.0);
+        reads = b.1 ∙ ap Ok (sym g.0);
         fits = ap (row_fits l s (row_place l i) at) g.0 ∙ c.0;
         new = not_yes (id_among l s (row_id s (row_place l i)) i) d.0;
         end = g.1;

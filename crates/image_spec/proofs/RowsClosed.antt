@@ -10,6 +10,7 @@ use Rattle.octets.specs.Write.{over, moved_down}
 use Rattle.octets.proofs.BytesLaws.{has_nil, has_left, has_fits, has_after, has_both}
 use Rattle.octets.proofs.OverLaws.{over_has, Kept, kept_over, kept_has, kept_join, kept_self}
 use Rattle.octets.proofs.MoveLaws.{down_has}
+use Rattle.image_spec.specs.declared.Mark.{Mark}
 use Rattle.image_spec.specs.declared.layout.Layout.{Layout}
 use Rattle.image_spec.specs.Layout.{row_size, row_place, LayoutOk}
 use Rattle.image_spec.specs.Image.{row}
@@ -25,7 +26,7 @@ module _ (l : Layout) (ok : LayoutOk l) where
     pub frame : Kept d d' (row_place l k) (row_place l (k + length ps))
 
   -- a row stays, and those after it close up
-  row_first : (d : List ℕ) (p : Placed) (ps qs : List Placed) (gs : List ℕ) (i k : ℕ) → k ≤ i → Has d (row_place l i) (rows_at l (p ∷ ps))
+  row_first : (d : List ℕ) (p : Placed) (ps qs : List Placed) (gs : List Mark) (i k : ℕ) → k ≤ i → Has d (row_place l i) (rows_at l (p ∷ ps))
       → ((d' : List ℕ) → Has d' (row_place l (i + 1)) (rows_at l ps) → Rows d' (closed_rows l d' gs (i + 1) (k + 1)) (k + 1) qs)
       → Rows d (closed_rows l (moved_down d (row_place l i) (row_place l k) (row_size l)) gs (i + 1) (k + 1)) k (p ∷ qs)
   unfolding rows_at
@@ -59,7 +60,7 @@ module _ (l : Layout) (ok : LayoutOk l) where
       })
 
   -- where rows stand from row i on, those that stay then stand from row k on; nothing beyond them is written
-  pub rows_closed : (d gs : List ℕ) (ps : List Placed) (i k : ℕ) → length gs ≡ length ps → k ≤ i → Has d (row_place l i) (rows_at l ps)
+  pub rows_closed : (d : List ℕ) (gs : List Mark) (ps : List Placed) (i k : ℕ) → length gs ≡ length ps → k ≤ i → Has d (row_place l i) (rows_at l ps)
       → Rows d (closed_rows l d gs i k) k (kept gs ps)
   unfolding closed_rows kept rows_at
   rows_closed d [] ps i k n le h = record { there = has_nil d (row_place l k); frame = kept_self d (row_place l k) (row_place l (k + 0)) }

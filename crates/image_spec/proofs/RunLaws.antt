@@ -10,11 +10,10 @@ use Rattle.exact.specs.Reads.{Got, got, refused, bind, AllFrom}
 use Rattle.octets.proofs.BytesLaws.{has_left, has_right, has_join, has_nil, has_part, has_after, has_both}
 use Rattle.exact.proofs.ReadsLaws.{bind_got}
 use Rattle.descriptor_spec.specs.declared.Fields.{Fields}
-use Rattle.image_spec.specs.declared.Held.{Held}
+use Rattle.image_spec.specs.Check.{Held, row_id, row_offset, row_length, row_at, held_with, rows_from, rows_held_from}
 use Rattle.image_spec.specs.declared.layout.Layout.{Layout}
 use Rattle.image_spec.specs.Layout.{row_size, row_place, LayoutOk}
 use Rattle.image_spec.specs.Image.{Row, reading, id_of, row, rows_of, joined, BodyOk, seen_with, Every, MomentOk}
-use Rattle.image_spec.specs.Check.{row_id, row_offset, row_length, row_at, held_with, rows_from, rows_held_from}
 use Rattle.image_spec.proofs.BodyLaws.{read_in}
 use Rattle.image_spec.proofs.RowPlaceLaws.{place_next, place_order}
 use Rattle.image_spec.proofs.RowLaws.{id_length, row_length_lem, row_parts, RowSays}

@@ -1,4 +1,5 @@
 -- The check of a whole image says that s begins with the image of bodies that are allowed, both ways (specs/Check.antt). Assumes nothing.
+use Rattle.std.specs.Prelude.{None}
 use mathlib.Core.Path.{◌≡◌, refl, sym, ap, ◌∙◌, subst}
 use mathlib.Core.Bool.{Bool, true, ◌&&◌}
 use mathlib.Core.List.{List, [], ◌++◌}
@@ -14,13 +15,11 @@ use Rattle.octets.proofs.Tests.{and_left, and_right}
 use Rattle.octets.proofs.BytesLaws.{has_left, has_fits, has_after, has_both, front_has}
 use Rattle.octets.proofs.NumberLaws.{number_of_has, has_of_number}
 use Rattle.octets.proofs.OverLaws.{has_front}
-use Rattle.image_spec.specs.declared.Held.{Held}
-use Rattle.image_spec.specs.declared.Held.TheVariants.{Missing}
+use Rattle.image_spec.specs.Check.{Held, row_count, header_fits, rows_from, checked, rows_held_from, rows_held}
 use Rattle.image_spec.specs.declared.layout.Layout.{Layout}
 use Rattle.image_spec.specs.Layout.{mode_edition, header_size, header_width, edition_place, modes_place, count_place, header_zero, most_rows}
 use Rattle.image_spec.specs.Layout.{row_place, LayoutOk}
 use Rattle.image_spec.specs.Image.{Row, header, rows_of, joined, image_of, RowsOk, Holds}
-use Rattle.image_spec.specs.Check.{row_count, header_fits, rows_from, checked, rows_held_from, rows_held}
 use Rattle.image_spec.proofs.RowOkLaws.{guard_got}
 use Rattle.image_spec.proofs.RowLaws.{header_length, rows_end, image_length, header_parts, parts_header}
 use Rattle.image_spec.proofs.RowPlaceLaws.{place_first, place_after_lem, place_small}
@@ -167,15 +166,15 @@ module _ (l : Layout) (ok : LayoutOk l) where
       let q : HeaderSays s n = holds_says s bs h in
       let room : row_place l n ≤ length s = omega (arith, holds_room s bs h, image_length l ok bs) in
       rw (count_of s bs h, le-leb header_size (length s) q.inside, says_fits s n few q, le-leb (row_place l n) (length s) room)
-      (rows_complete l ok s id bs [] 0 (row_place l n) Missing (place_small l ok n few) (past_none l ok s) (holds_run s bs h) ∙ ap
-      (got (held_from id 0 (row_place l n) Missing bs)) (sym (image_length l ok bs)))
+      (rows_complete l ok s id bs [] 0 (row_place l n) None (place_small l ok n few) (past_none l ok s) (holds_run s bs h) ∙ ap
+      (got (held_from id 0 (row_place l n) None bs)) (sym (image_length l ok bs)))
 
   -- what a check that passes says before the rows
   pub record Checked (s id : List ℕ) (h : Held) (end : ℕ) : Type 0 where
     pub inside : header_size ≤ length s
     pub header : header_fits l s ≡ true
     pub room : row_place l (row_count s) ≤ length s
-    pub rows : got h end ≡ rows_from l s id (row_count s) 0 (row_place l (row_count s)) Missing
+    pub rows : got h end ≡ rows_from l s id (row_count s) 0 (row_place l (row_count s)) None
 
   -- a check that answers passes
   pub check_is : (s id : List ℕ) (h : Held) (end : ℕ) → got h end ≡ checked l s id → Checked s id h end
@@ -198,7 +197,7 @@ module _ (l : Layout) (ok : LayoutOk l) where
       let n : ℕ = row_count s in
       let k : Checked s id h end = check_is s id h end e in
       let q = fits_says s k.inside k.header in
-      let y = rows_sound l ok s id bytes n [] 0 (row_place l n) end Missing h (past_none l ok s) n (omega arith) k.room k.rows in
+      let y = rows_sound l ok s id bytes n [] 0 (row_place l n) end None h (past_none l ok s) n (omega arith) k.room k.rows in
       let bs : List Row = y.0 in
       let c : length bs ≡ n = y.1 in
       let g : Run l ok s [] 0 (row_place l (length bs)) bs = subst (λ (m : ℕ). Run l ok s [] 0 (row_place l m) bs) (sym c) y.2 in

@@ -13,8 +13,10 @@ use borrow.Author.Tests.{leb-true}
 use Rattle.octets.specs.Bytes.{same}
 use Rattle.octets.proofs.Tests.{or_true, or_no_left, or_no_right}
 use Rattle.exact.specs.Reads.{AllFrom}
+use Rattle.image_spec.specs.declared.Mark.{Mark}
 use Rattle.image_spec.specs.declared.layout.Layout.{Layout}
-use Rattle.image_spec.specs.declared.Added.TheVariants.{Done, Full}
+use Rattle.std.specs.Prelude.{Ok, Err}
+use Rattle.image_spec.specs.declared.AddError.TheVariants.{Full}
 use Rattle.image_spec.specs.Layout.{LayoutOk}
 use Rattle.image_spec.specs.Image.{Row, id_of, joined, image_of, has_id, BodyOk, seen_with, Holds}
 use Rattle.image_spec.specs.Image.{body_with}
@@ -47,7 +49,7 @@ beyond a d m h =
     ∙ ap (λ (k : ℕ). drop k d) (sym e)
 
 -- the bodies of rows that stay are not longer than those of all
-joined_kept : (gs : List ℕ) (rs : List Row) → length (joined (kept gs rs)) ≤ length (joined rs)
+joined_kept : (gs : List Mark) (rs : List Row) → length (joined (kept gs rs)) ≤ length (joined rs)
 unfolding kept joined
 joined_kept [] rs = omega arith
 joined_kept (g ∷ gs) [] = omega arith
@@ -60,7 +62,7 @@ joined_kept (g ∷ gs) (r ∷ rs) = go (stays g) (joined_kept gs rs)
 
 module _ (l : Layout) (ok : LayoutOk l) where
   -- the image of rows that stay is not longer than that of all
-  image_kept : (gs : List ℕ) (rs : List Row) → length (image_of l (kept gs rs)) ≤ length (image_of l rs)
+  image_kept : (gs : List Mark) (rs : List Row) → length (image_of l (kept gs rs)) ≤ length (image_of l rs)
   image_kept gs rs =
       omega (
         arith,
@@ -95,7 +97,7 @@ module _ (l : Layout) (ok : LayoutOk l) where
     abbrev ks : List Row
     ks = staying_of l (length d) clock rs (length new.body)
 
-    abbrev gs : List ℕ
+    abbrev gs : List Mark
     gs = (choice_of l (length d) clock rs (length new.body)).marks
 
     module _ (short : length new.body ≤ 32768) where
@@ -134,7 +136,7 @@ module _ (l : Layout) (ok : LayoutOk l) where
       let room : has_room l w k new ≡ true = room_kept d clock rs new h short e in
       let a = body_added l ok w k new f (holds_kept d clock rs new h short) reads in (
         ap (λ (x : List ℕ). added_of l x (length k) (length (image_of l k)) new.body f.id) after
-            ∙ a.0 ∙ ap (λ (t : Bool). cond t Done Full) room,
+            ∙ a.0 ∙ ap (λ (t : Bool). cond t (Ok tt) (Err Full)) room,
         ap (λ (x : List ℕ). after_add l x (length k) (length (image_of l k)) new.body f.id f.mask new.used) after
             ∙ a.1 ∙ ap (λ (t : Bool). cond t (with_body l w k new) w) room ∙ body_over d k new,
       )

@@ -1,4 +1,6 @@
 -- An image of one edition copied in another is the image of the same rows (specs/Upgrade.antt). Assumes nothing.
+use Rattle.std.specs.Prelude.{None}
+use Rattle.image_spec.specs.Check.{contents, Held, ImageCheck, check_of, rows_held, numbers_of}
 use mathlib.Core.Path.{◌≡◌, refl, sym, ap, ap₂, ◌∙◌, subst}
 use mathlib.Core.Logic.{inl, inr}
 use mathlib.Core.Bool.{Bool, true, false}
@@ -17,16 +19,12 @@ use Rattle.octets.proofs.BytesLaws.{has_nil, has_left, has_part, has_after, has_
 use Rattle.octets.proofs.NumberLaws.{length_big_endian}
 use Rattle.octets.proofs.OverLaws.{over_has, has_front, Kept, kept_over, kept_has, kept_join, kept_self, put_fits}
 use Rattle.descriptor_spec.specs.Allowed.{id_size}
-use Rattle.image_spec.specs.declared.Held.{Held}
-use Rattle.image_spec.specs.declared.ImageCheck.{ImageCheck}
-use Rattle.image_spec.specs.declared.ImageCheck.TheVariants.{Sound, Unsound}
 use Rattle.image_spec.specs.declared.StoredNumbers.{StoredNumbers}
 use Rattle.image_spec.specs.declared.Written.{Written}
 use Rattle.image_spec.specs.declared.layout.Layout.{Layout}
 use Rattle.image_spec.specs.Layout.{header_size, header_width, count_place, body_width, offset_place, length_place, mask_place, zero_place}
 use Rattle.image_spec.specs.Layout.{mask_width, edition1, edition2, row_size, most_rows, moment_place, zero_size, moment_size, row_place, LayoutOk}
 use Rattle.image_spec.specs.Image.{Row, modes_of, header, row, rows_of, joined, image_of, Every, MomentOk, Holds, body_with}
-use Rattle.image_spec.specs.Check.{check_of, rows_held, numbers_of}
 use Rattle.image_spec.specs.Close.{with_rows}
 use Rattle.image_spec.specs.NewImage.{new_bytes}
 use Rattle.image_spec.specs.Upgrade.{row_copied, rows_copied, copied, new_length, upgrade_by, after_by, upgrade_of, after_upgrade, written_of}
@@ -261,7 +259,7 @@ module _ (from to : Layout) (ok : LayoutOk from) (ok' : LayoutOk to) (alike : mo
 
 -- what the check says of an image of edition 1
 told : (old : List ℕ) (rs : List Row) → Holds edition1 old rs
-    → (h : Held) × (check_of edition1 old [] ≡ Sound (length rs) (length (image_of edition1 rs)) h)
+    → (h : Held) × (check_of edition1 old [] ≡ contents (length rs) (length (image_of edition1 rs)) h)
 told old rs h = let w = check_tells edition1 edition1_ok old [] rs h in (w.0, w.1)
 
 -- the moments of such rows are 0
@@ -282,7 +280,7 @@ bad_image : (old d : List ℕ) → AreBytes old → ((rs : List Row) → Holds e
     → (written_of (upgrade_of old d) ≡ record { answer = 16; len = 0 }) × (after_upgrade old d ≡ d)
 unfolding upgrade_of after_upgrade
 bad_image old d bytes no_rows =
-    let e : check_of edition1 old [] ≡ Unsound = (check_unsound edition1 edition1_ok old [] bytes).1 no_rows in
+    let e : check_of edition1 old [] ≡ None = (check_unsound edition1 edition1_ok old [] bytes).1 no_rows in
     (ap (λ (v : ImageCheck). written_of (upgrade_by edition1 edition2 d v)) e, ap (after_by edition1 edition2 old d) e)
 
 -- a buffer that is shorter than the new image

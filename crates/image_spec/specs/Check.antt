@@ -1,26 +1,43 @@
 -- The check of an image and the lookup of an id, in one pass over the rows: what the code answers. A reader of the promises does not
 -- need this page.
+use Rattle.image_spec.specs.declared.StoredBody.{StoredBody}
+use Rattle.image_spec.specs.declared.Contents.{Contents}
 use Rattle.std.specs.Prelude.{Bool, true, false, not, cond, ◌&&◌, List, [], ◌∷◌, ℕ, zero, suc, ◌+◌, length, leb, eqb}
 use Rattle.octets.specs.Bytes.{part, same}
 use Rattle.octets.specs.Span.{Span, span_of, inside}
 use Rattle.octets.specs.Number.{number_at, number_in}
 use Rattle.exact.specs.Reads.{Got, got, refused, bind, guard}
 use Rattle.descriptor_spec.specs.declared.Fields.{Fields}
-use Rattle.descriptor_spec.specs.declared.Reading.{Reading}
-use Rattle.descriptor_spec.specs.declared.Reading.TheVariants.{Read, Structure, Validity}
-use Rattle.image_spec.specs.declared.Held.{Held}
-use Rattle.image_spec.specs.declared.Held.TheVariants.{Missing, Body}
-use Rattle.image_spec.specs.declared.ImageCheck.{ImageCheck}
-use Rattle.image_spec.specs.declared.ImageCheck.TheVariants.{Sound, Unsound}
-use Rattle.image_spec.specs.declared.Finding.{Finding}
+use Rattle.descriptor_spec.specs.Reading.{Reading}
+use Rattle.std.specs.Prelude.{Option, Some, None, Result, Ok, Err}
+use Rattle.descriptor_spec.specs.declared.Part.{Part}
+use Rattle.image_spec.specs.declared.FindError.{FindError}
 use Rattle.image_spec.specs.declared.StoredNumbers.{StoredNumbers}
-use Rattle.image_spec.specs.declared.Finding.TheVariants.{Found, Malformed, BadImage, NotFound}
+use Rattle.image_spec.specs.declared.FindError.TheVariants.{Malformed, BadImage, NotFound}
 use Rattle.image_spec.specs.declared.layout.Layout.{Layout}
 use Rattle.descriptor_spec.specs.Allowed.{id_size}
 use Rattle.image_spec.specs.Layout.{mode_edition, header_size, header_width, edition_place, modes_place, count_place, header_zero}
 use Rattle.image_spec.specs.Layout.{body_width, mask_width, offset_place, length_place, mask_place, zero_place, most_rows, zero_size}
 use Rattle.image_spec.specs.Layout.{row_place, moment_place, moment_size, edition1, edition2}
 use Rattle.image_spec.specs.Image.{Row, reading}
+
+-- ---- what is answered of an image
+
+-- the body with an id, or none has it
+abbrev pub Held : Type 0
+Held = Option StoredBody
+
+-- row i has it, of n bytes at the place, of which f was read
+abbrev pub held_body : ℕ → ℕ → ℕ → Fields → Held
+held_body i at n f = Some (record { row = i; at = at; len = n; fields = f })
+
+-- what a check of an image tells of it, or that it is not sound
+abbrev pub ImageCheck : Type 0
+ImageCheck = Option Contents
+
+-- it has n rows and ends at `end`, and that is held
+abbrev pub contents : ℕ → ℕ → Held → ImageCheck
+contents n end h = Some (record { rows = n; end = end; held = h })
 
 -- ---- numbers of the header and of the row at r
 
@@ -71,9 +88,8 @@ row_fits l s r at f =
 
 -- what was read, and then a reader
 abbrev pub on_read : {R : Type 0} → Reading → (Fields → Got R) → Got R
-on_read (Read f) k = k f
-on_read Structure k = refused
-on_read Validity k = refused
+on_read (Ok f) k = k f
+on_read (Err refusal) k = refused
 
 -- row i, whose body begins at `at`: what was read of the body, and the place after it
 unfoldable pub row_at : Layout → List ℕ → ℕ → ℕ → Got Fields
@@ -88,7 +104,7 @@ row_at l s i at =
 
 -- the body of row i at a place is the one looked for, or what was held before stays
 abbrev pub held_with : Bool → Held → ℕ → ℕ → ℕ → Fields → Held
-held_with true h i at n f = Body i at n f
+held_with true h i at n f = held_body i at n f
 held_with false h i at n f = h
 
 -- k rows from row i on, whose bodies begin at `at`: the body with the id, and the place after the last
@@ -104,14 +120,14 @@ checked l s id =
     let start = row_place l (row_count s) in
     guard (leb header_size (length s))
     (guard (header_fits l s)
-    (guard (leb start (length s)) (rows_from l s id (row_count s) 0 start Missing)))
+    (guard (leb start (length s)) (rows_from l s id (row_count s) 0 start None)))
 
 -- ---- what is answered
 
 -- the answer of a check, of an image of n rows
 abbrev pub check_answer : ℕ → Got Held → ImageCheck
-check_answer n (got h end) = Sound n end h
-check_answer n refused = Unsound
+check_answer n (got h end) = contents n end h
+check_answer n refused = None
 
 -- the check of an image for an id
 unfoldable pub check_of : Layout → List ℕ → List ℕ → ImageCheck
@@ -119,42 +135,48 @@ check_of l s id = check_answer (row_count s) (checked l s id)
 
 -- the image is sound
 abbrev pub is_sound : ImageCheck → Bool
-is_sound (Sound n end h) = true
-is_sound Unsound = false
+is_sound (Some v) = true
+is_sound None = false
+
+-- a body is held
+abbrev pub is_body : Held → Bool
+is_body (Some b) = true
+is_body None = false
 
 -- a body with the id is held
 abbrev pub is_held : ImageCheck → Bool
-is_held (Sound n end (Body i at len f)) = true
-is_held (Sound n end Missing) = false
-is_held Unsound = false
+is_held (Some v) = is_body v.held
+is_held None = false
+
+-- what a lookup answers: where the body lies, or why none is found
+abbrev pub Finding : Type 0
+Finding = Result Part FindError
 
 -- where the body is held
 abbrev pub held_at : Held → Finding
-held_at (Body i at n f) = Found at n
-held_at Missing = NotFound
+held_at (Some b) = Ok (record { at = b.at; len = b.len })
+held_at None = Err NotFound
 
 -- the lookup by what the check of the image says
 abbrev pub found_in : ImageCheck → Finding
-found_in (Sound n end h) = held_at h
-found_in Unsound = BadImage
+found_in (Some v) = held_at v.held
+found_in None = Err BadImage
 
 -- the lookup of an id: an id that is not 16 bytes, then the image, then the row
 unfoldable pub find_of : Layout → List ℕ → List ℕ → Finding
-find_of l s id = elim (eqb (length id) id_size) [ true ↦ found_in (check_of l s id) | false ↦ Malformed ]
+find_of l s id = elim (eqb (length id) id_size) [ true ↦ found_in (check_of l s id) | false ↦ Err Malformed ]
 
 -- document 01's answer for a lookup, and the place and length of the body
 abbrev pub numbers_of : Finding → StoredNumbers
-numbers_of (Found at n) = record { answer = 0; body_at = at; body_len = n }
-numbers_of Malformed = record { answer = 15; body_at = 0; body_len = 0 }
-numbers_of BadImage = record { answer = 16; body_at = 0; body_len = 0 }
-numbers_of NotFound = record { answer = 7; body_at = 0; body_len = 0 }
+numbers_of (Ok p) = record { answer = 0; body_at = p.at; body_len = p.len }
+numbers_of (Err Malformed) = record { answer = 15; body_at = 0; body_len = 0 }
+numbers_of (Err BadImage) = record { answer = 16; body_at = 0; body_len = 0 }
+numbers_of (Err NotFound) = record { answer = 7; body_at = 0; body_len = 0 }
 
 -- where the body that was found stands in s; nothing at the start where none was
 abbrev pub body_span : List ℕ → Finding → Span
-body_span s (Found at n) = inside s at n
-body_span s Malformed = span_of 0 0
-body_span s BadImage = span_of 0 0
-body_span s NotFound = span_of 0 0
+body_span s (Ok p) = inside s p.at p.len
+body_span s (Err refusal) = span_of 0 0
 
 -- ---- the rows that an image has
 

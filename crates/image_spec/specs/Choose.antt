@@ -1,28 +1,26 @@
 -- Which rows go where there is no room: the expired ones, least recently used first, the earlier row on a tie, only until there is room.
 -- These definitions compute. A reader of the promises does not need this page.
-use Rattle.std.specs.Prelude.{Bool, true, false, not, cond, ◌&&◌, List, [], ◌∷◌, ℕ, zero, suc, ◌+◌, ◌-◌, length, get_or, set, leb, ltb, eqb}
+use Rattle.std.specs.Prelude.{Bool, true, false, not, cond, ◌&&◌, List, [], ◌∷◌, ℕ, zero, suc, ◌+◌, ◌-◌, length, get_or, set, leb, ltb}
 use Rattle.octets.specs.Bytes.{part}
 use Rattle.octets.specs.Span.{inside}
 use Rattle.octets.specs.Number.{number_in}
-use Rattle.descriptor_spec.specs.declared.Reading.{Reading}
-use Rattle.descriptor_spec.specs.declared.Reading.TheVariants.{Read, Structure, Validity}
+use Rattle.descriptor_spec.specs.Reading.{Reading}
+use Rattle.std.specs.Prelude.{Option, Some, None, Ok, Err}
 use Rattle.image_spec.specs.declared.layout.Layout.{Layout}
-use Rattle.image_spec.specs.declared.Least.{Least}
-use Rattle.image_spec.specs.declared.Least.TheVariants.{IsRow, NoRow}
+use Rattle.image_spec.specs.declared.Mark.{Mark}
+use Rattle.image_spec.specs.declared.Mark.TheVariants.{Current, Expired, Gone}
 use Rattle.image_spec.specs.declared.Room.{Room}
-use Rattle.image_spec.specs.declared.Room.TheVariants.{Made, NoRoom}
 use Rattle.descriptor_spec.specs.Allowed.{longest}
 use Rattle.image_spec.specs.Layout.{body_width, offset_place, length_place, row_size, most_rows, moment_place, moment_size, row_place}
 use Rattle.image_spec.specs.Image.{Row, row_of, reading, image_of}
-use Rattle.image_spec.specs.Close.{current, expired, gone, keep, kept, closed_up}
+use Rattle.image_spec.specs.Close.{is_gone, keep, kept, closed_up}
 
 -- ---- which bodies are expired
 
 -- not_after of what was read; 0 where nothing was
 abbrev pub end_in : Reading → ℕ
-end_in (Read f) = f.not_after.0
-end_in Structure = 0
-end_in Validity = 0
+end_in (Ok f) = f.not_after.0
+end_in (Err refusal) = 0
 
 -- a body's not_after
 unfoldable pub end_of : List ℕ → ℕ
@@ -38,12 +36,12 @@ unexpired clock [] = []
 unexpired clock (r ∷ rs) = keep (not (is_expired clock r)) r (unexpired clock rs)
 
 -- the mark of a body: expired or not
-abbrev pub mark_by : Bool → ℕ
-mark_by true = expired
-mark_by false = current
+abbrev pub mark_by : Bool → Mark
+mark_by true = Expired
+mark_by false = Current
 
 -- the marks of rows before any goes
-unfoldable pub marked : ℕ → List Row → List ℕ
+unfoldable pub marked : ℕ → List Row → List Mark
 marked clock [] = []
 marked clock (r ∷ rs) = mark_by (is_expired clock r) ∷ marked clock rs
 
@@ -64,11 +62,11 @@ body_at l d i =
     part d p.start p.len
 
 -- its mark, from its body
-unfoldable pub mark_at : Layout → List ℕ → ℕ → ℕ → ℕ
+unfoldable pub mark_at : Layout → List ℕ → ℕ → ℕ → Mark
 mark_at l d clock i = mark_by (leb (end_of (body_at l d i)) clock)
 
 -- the marks of k rows from row i on
-unfoldable pub marks_from : Layout → List ℕ → ℕ → ℕ → ℕ → List ℕ
+unfoldable pub marks_from : Layout → List ℕ → ℕ → ℕ → ℕ → List Mark
 marks_from l d clock zero i = []
 marks_from l d clock (suc k) i = mark_at l d clock i ∷ marks_from l d clock k (i + 1)
 
@@ -85,20 +83,26 @@ pub record Ask : Type 0 where
 unfoldable pub short_of : Layout → ℕ → ℕ → ℕ → ℕ
 short_of l end more room = (end + row_size l + more) - room
 
--- the row that goes first, of the one found so far and, if it is expired and still there, row i
-unfoldable pub lesser : Bool → ℕ → ℕ → Least → Least
+-- a row with the mark is expired and still there
+abbrev pub may_go : Mark → Bool
+may_go Current = false
+may_go Expired = true
+may_go Gone = false
+
+-- the row that goes first, of the one found so far and, if it is expired and still there, row i; each with its last-used moment
+unfoldable pub lesser : Bool → ℕ → ℕ → Option (ℕ × ℕ) → Option (ℕ × ℕ)
 lesser false i u b = b
-lesser true i u NoRow = IsRow i u
-lesser true i u (IsRow j v) = cond (ltb u v) (IsRow i u) (IsRow j v)
+lesser true i u None = Some (i, u)
+lesser true i u (Some b) = cond (ltb u b.1) (Some (i, u)) (Some b)
 
 -- the least recently used of the expired rows from row i on that are still there, the earlier on a tie, and of the one found so far
-unfoldable pub least_from : (ℕ → ℕ) → List ℕ → ℕ → Least → Least
+unfoldable pub least_from : (ℕ → ℕ) → List Mark → ℕ → Option (ℕ × ℕ) → Option (ℕ × ℕ)
 least_from used [] i b = b
-least_from used (g ∷ gs) i b = least_from used gs (i + 1) (lesser (eqb g expired) i (used i) b)
+least_from used (g ∷ gs) i b = least_from used gs (i + 1) (lesser (may_go g) i (used i) b)
 
 -- the row that goes next
-abbrev pub least_of : Ask → List ℕ → Least
-least_of a gs = least_from a.used gs 0 NoRow
+abbrev pub least_of : Ask → List Mark → Option (ℕ × ℕ)
+least_of a gs = least_from a.used gs 0 None
 
 -- a row and the new body have room after so many rows and bytes were removed
 unfoldable pub fits_after : Layout → ℕ → ℕ → ℕ → ℕ → Bool
@@ -111,25 +115,25 @@ fits_in l a removed freed = fits_after l a.rows a.short removed freed
 -- the answer: whether there is room, the marks of the rows, and how many rows and bytes are removed
 pub record Chosen : Type 0 where
   pub ok : Bool
-  pub marks : List ℕ
+  pub marks : List Mark
   pub removed : ℕ
   pub freed : ℕ
 
-abbrev pub chosen_of : Bool → List ℕ → ℕ → ℕ → Chosen
+abbrev pub chosen_of : Bool → List Mark → ℕ → ℕ → Chosen
 chosen_of ok gs removed freed = record { ok = ok; marks = gs; removed = removed; freed = freed }
 
 -- there is room; or there is none, and no row may go; or one more goes
-abbrev pub one_step : Bool → Least → List ℕ → ℕ → ℕ → (ℕ → Chosen) → Chosen
+abbrev pub one_step : Bool → Option (ℕ × ℕ) → List Mark → ℕ → ℕ → (ℕ → Chosen) → Chosen
 one_step true b gs removed freed next = chosen_of true gs removed freed
-one_step false NoRow gs removed freed next = chosen_of false gs removed freed
-one_step false (IsRow j v) gs removed freed next = next j
+one_step false None gs removed freed next = chosen_of false gs removed freed
+one_step false (Some b) gs removed freed next = next b.0
 
 -- at most m more rows are chosen
-unfoldable pub chosen : Layout → Ask → ℕ → List ℕ → ℕ → ℕ → Chosen
+unfoldable pub chosen : Layout → Ask → ℕ → List Mark → ℕ → ℕ → Chosen
 chosen l a zero gs removed freed = chosen_of (fits_in l a removed freed) gs removed freed
 chosen l a (suc m) gs removed freed =
     one_step (fits_in l a removed freed) (least_of a gs) gs removed freed
-    (λ j. chosen l a m (set gs j gone) (removed + 1) (freed + (row_size l + a.size j)))
+    (λ j. chosen l a m (set gs j Gone) (removed + 1) (freed + (row_size l + a.size j)))
 
 -- ---- over a list of rows
 
@@ -147,9 +151,9 @@ unfoldable pub choice_of : Layout → ℕ → ℕ → List Row → ℕ → Chose
 choice_of l room clock rs more = chosen l (ask_of l rs more room) (length rs) (marked clock rs) 0 0
 
 -- whether each row goes, by its mark
-abbrev pub goes_of : List ℕ → List Bool
+abbrev pub goes_of : List Mark → List Bool
 goes_of [] = []
-goes_of (g ∷ gs) = eqb g gone ∷ goes_of gs
+goes_of (g ∷ gs) = is_gone g ∷ goes_of gs
 
 -- the rows that stay so that there is room for a body of `more` bytes
 unfoldable pub staying_of : Layout → ℕ → ℕ → List Row → ℕ → List Row
@@ -166,20 +170,24 @@ unfoldable pub choice_at : Layout → List ℕ → ℕ → ℕ → ℕ → ℕ �
 choice_at l d rows end clock more =
     chosen l (ask_at l d rows (short_of l end more (length d))) rows (marks_from l d clock rows 0) 0 0
 
+-- so many rows stay, and they end there
+abbrev pub made : ℕ → ℕ → Option Room
+made n e = Some (record { rows = n; end = e })
+
 -- by a choice, of an image of so many rows that ends at `end`: how many rows stay and where they end, or that there is no room
-abbrev pub room_by : ℕ → ℕ → Chosen → Room
-room_by rows end c = cond (c.ok && leb c.freed end) (Made (rows - c.removed) (end - c.freed)) NoRoom
+abbrev pub room_by : ℕ → ℕ → Chosen → Option Room
+room_by rows end c = cond (c.ok && leb c.freed end) (made (rows - c.removed) (end - c.freed)) None
 
 -- the answer: by the choice, where there are not more rows than there may be, they end in the buffer, and the body is not longer than it may
 -- be; else there is no room
-unfoldable pub room_of : Layout → List ℕ → ℕ → ℕ → ℕ → ℕ → Room
+unfoldable pub room_of : Layout → List ℕ → ℕ → ℕ → ℕ → ℕ → Option Room
 room_of l d rows end clock more =
-    cond (leb rows (most_rows l) && (leb end (length d) && leb more longest)) (room_by rows end (choice_at l d rows end clock more)) NoRoom
+    cond (leb rows (most_rows l) && (leb end (length d) && leb more longest)) (room_by rows end (choice_at l d rows end clock more)) None
 
 -- the rows that go are removed
-abbrev pub after_by : Layout → List ℕ → ℕ → ℕ → ℕ → ℕ → Room → List ℕ
-after_by l d rows end clock more (Made n e) = closed_up l d (choice_at l d rows end clock more).marks
-after_by l d rows end clock more NoRoom = d
+abbrev pub after_by : Layout → List ℕ → ℕ → ℕ → ℕ → ℕ → Option Room → List ℕ
+after_by l d rows end clock more (Some r) = closed_up l d (choice_at l d rows end clock more).marks
+after_by l d rows end clock more None = d
 
 -- the buffer after room was made
 unfoldable pub after_room : Layout → List ℕ → ℕ → ℕ → ℕ → ℕ → List ℕ

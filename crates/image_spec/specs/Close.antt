@@ -1,30 +1,26 @@
 -- Removing rows of an image in place: what the code writes, and what that is over a list of rows. First all rows that stay move down, with
 -- their old offsets; then their bodies, each found by its row's old offset, which is then written anew; then the row count. A reader of the
 -- promises does not need this page.
-use Rattle.std.specs.Prelude.{Bool, true, false, not, List, [], ◌∷◌, ◌++◌, ℕ, zero, suc, ◌+◌, length, drop, eqb}
+use Rattle.std.specs.Prelude.{Bool, true, false, not, List, [], ◌∷◌, ◌++◌, ℕ, zero, suc, ◌+◌, length, drop}
 use Rattle.octets.specs.Number.{big_endian, number_in}
 use Rattle.octets.specs.Write.{put_at, moved_down}
 use Rattle.image_spec.specs.declared.layout.Layout.{Layout}
+use Rattle.image_spec.specs.declared.Mark.{Mark}
+use Rattle.image_spec.specs.declared.Mark.TheVariants.{Current, Expired, Gone}
 use Rattle.image_spec.specs.Layout.{header_width, count_place, body_width, offset_place, length_place, row_size, row_place}
 use Rattle.image_spec.specs.Image.{Row, image_of}
 
--- ---- what is marked of each row, in a byte
+-- ---- what is marked of each row
 
--- its body is not expired
-abbrev pub current : ℕ
-current = 0
+-- a row with the mark goes
+abbrev pub is_gone : Mark → Bool
+is_gone Current = false
+is_gone Expired = false
+is_gone Gone = true
 
--- its body is expired
-abbrev pub expired : ℕ
-expired = 1
-
--- it goes
-abbrev pub gone : ℕ
-gone = 2
-
--- a row with the mark stays
-abbrev pub stays : ℕ → Bool
-stays g = not (eqb g gone)
+-- or stays
+abbrev pub stays : Mark → Bool
+stays g = not (is_gone g)
 
 -- ---- over lists
 
@@ -34,7 +30,7 @@ keep true x xs = x ∷ xs
 keep false x xs = xs
 
 -- the elements whose mark says that they stay
-unfoldable pub kept : {A : Type 0} → List ℕ → List A → List A
+unfoldable pub kept : {A : Type 0} → List Mark → List A → List A
 kept [] xs = []
 kept (g ∷ gs) [] = []
 kept (g ∷ gs) (x ∷ xs) = keep (stays g) x (kept gs xs)
@@ -56,12 +52,12 @@ one_more true k = k + 1
 one_more false k = k
 
 -- the rows from row i on, of which those that stay are moved down to row k and the following
-unfoldable pub closed_rows : Layout → List ℕ → List ℕ → ℕ → ℕ → List ℕ
+unfoldable pub closed_rows : Layout → List ℕ → List Mark → ℕ → ℕ → List ℕ
 closed_rows l d [] i k = d
 closed_rows l d (g ∷ gs) i k = closed_rows l (row_kept l (stays g) d i k) gs (i + 1) (one_more (stays g) k)
 
 -- so many rows stay, counted from k on
-unfoldable pub count_kept : List ℕ → ℕ → ℕ
+unfoldable pub count_kept : List Mark → ℕ → ℕ
 count_kept [] k = k
 count_kept (g ∷ gs) k = count_kept gs (one_more (stays g) k)
 
@@ -79,7 +75,7 @@ closed_bodies l d (suc m) i at =
     closed_bodies l (body_moved l d r at) m (i + 1) (at + number_in d (r + length_place) body_width)
 
 -- all of it: the rows first, since the first body's new place may lie in the rows; then the bodies, then the row count
-unfoldable pub closed_up : Layout → List ℕ → List ℕ → List ℕ
+unfoldable pub closed_up : Layout → List ℕ → List Mark → List ℕ
 closed_up l d gs =
     let k = count_kept gs 0 in
     let d₁ = closed_rows l d gs 0 0 in

@@ -1,8 +1,8 @@
 -- Edition 2, which is written: each definition that depends on the edition, under its own name, at the layout of edition 2. A reader of the
 -- promises does not need this page: they have the numbers.
-use Rattle.std.specs.Prelude.{Bool, List, ℕ}
-use Rattle.image_spec.specs.declared.ImageCheck.{ImageCheck}
-use Rattle.image_spec.specs.declared.Added.{Added}
+use Rattle.std.specs.Prelude.{Bool, Result, List, ℕ}
+use Rattle.image_spec.specs.Check.{ImageCheck}
+use Rattle.image_spec.specs.declared.AddError.{AddError}
 use Rattle.image_spec.specs.Layout.{edition2}
 use Rattle.image_spec.specs.Image.{Row}
 use Rattle.image_spec.specs.Image as image
@@ -41,7 +41,7 @@ rows_held = check.rows_held edition2
 abbrev pub after_new : List ℕ → List ℕ
 after_new = new_bytes.after_new edition2
 
-abbrev pub added_of : List ℕ → ℕ → ℕ → List ℕ → ℕ → Added
+abbrev pub added_of : List ℕ → ℕ → ℕ → List ℕ → ℕ → Result Unit AddError
 added_of = grow.added_of edition2
 
 abbrev pub after_add : List ℕ → ℕ → ℕ → List ℕ → ℕ → ℕ → ℕ → List ℕ

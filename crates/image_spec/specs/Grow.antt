@@ -1,11 +1,11 @@
 -- One body more in an image: what the code answers and writes, and what that is over a list of rows. A reader of the promises does not
 -- need this page.
-use Rattle.std.specs.Prelude.{Bool, cond, ◌&&◌, List, [], ◌∷◌, ◌++◌, ℕ, zero, suc, ◌+◌, length, drop, leb, ltb}
+use Rattle.std.specs.Prelude.{Bool, cond, Result, Ok, Err, ◌&&◌, List, [], ◌∷◌, ◌++◌, ℕ, zero, suc, ◌+◌, length, drop, leb, ltb}
 use Rattle.octets.specs.Bytes.{part}
 use Rattle.octets.specs.Number.{big_endian, number_in}
 use Rattle.octets.specs.Write.{put_at, moved_up}
-use Rattle.image_spec.specs.declared.Added.{Added}
-use Rattle.image_spec.specs.declared.Added.TheVariants.{Done, Full}
+use Rattle.image_spec.specs.declared.AddError.{AddError}
+use Rattle.image_spec.specs.declared.AddError.TheVariants.{Full}
 use Rattle.image_spec.specs.declared.layout.Layout.{Layout}
 use Rattle.descriptor_spec.specs.Allowed.{id_size}
 use Rattle.image_spec.specs.Layout.{header_width, count_place, body_width, mask_width, offset_place, length_place, mask_place, zero_place}
@@ -51,8 +51,8 @@ fits l d n end b id =
     && (leb (row_place l n) end && (leb (end + row_size l + length b) (length d) && leb (id + id_size) (length b)))
 
 -- the body is added where it fits
-unfoldable pub added_of : Layout → List ℕ → ℕ → ℕ → List ℕ → ℕ → Added
-added_of l d n end b id = cond (fits l d n end b id) Done Full
+unfoldable pub added_of : Layout → List ℕ → ℕ → ℕ → List ℕ → ℕ → Result Unit AddError
+added_of l d n end b id = cond (fits l d n end b id) (Ok tt) (Err Full)
 
 -- else the buffer is as it was
 unfoldable pub after_add : Layout → List ℕ → ℕ → ℕ → List ℕ → ℕ → ℕ → ℕ → List ℕ

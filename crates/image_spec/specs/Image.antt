@@ -5,8 +5,8 @@ use Rattle.std.proofs.Math.Option.{Option, none, some}
 use Rattle.octets.specs.Bytes.{part, same}
 use Rattle.octets.specs.Number.{big_endian}
 use Rattle.exact.specs.Reads.{AllFrom}
-use Rattle.descriptor_spec.specs.declared.Reading.{Reading}
-use Rattle.descriptor_spec.specs.declared.Reading.TheVariants.{Read, Structure, Validity}
+use Rattle.descriptor_spec.specs.Reading.{Reading}
+use Rattle.std.specs.Prelude.{Ok, Err}
 use Rattle.descriptor_spec.specs.Reader.{read_of}
 use Rattle.descriptor_spec.specs.Code.{reading_of}
 use Rattle.image_spec.specs.declared.layout.Layout.{Layout}
@@ -21,21 +21,18 @@ reading b = reading_of (read_of b)
 
 -- it is read with 0
 abbrev pub is_read : Reading → Bool
-is_read (Read f) = true
-is_read Structure = false
-is_read Validity = false
+is_read (Ok f) = true
+is_read (Err refusal) = false
 
 -- the descriptor id that was read; zeros where none was
 abbrev pub id_in : List ℕ → Reading → List ℕ
-id_in b (Read f) = part b f.id id_size
-id_in b Structure = replicate id_size 0
-id_in b Validity = replicate id_size 0
+id_in b (Ok f) = part b f.id id_size
+id_in b (Err refusal) = replicate id_size 0
 
 -- the union of the modes that were read; none where nothing was
 abbrev pub mask_in : Reading → ℕ
-mask_in (Read f) = f.mask
-mask_in Structure = 0
-mask_in Validity = 0
+mask_in (Ok f) = f.mask
+mask_in (Err refusal) = 0
 
 -- a body's descriptor id
 unfoldable pub id_of : List ℕ → List ℕ

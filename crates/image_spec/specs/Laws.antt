@@ -1,31 +1,27 @@
 -- What the crates above stand on, in the code's own answers, for any layout that may be. A reader of the promises does not
 -- need this page.
-use Rattle.std.specs.Prelude.{◌≡◌, ◌↔◌, ◌⊎◌, Bool, true, cond, List, [], ◌∷◌, ◌++◌, ℕ, ◌+◌, ◌*◌, ◌≤◌, ◌<◌, length, get_or, ◌^◌}
+use Rattle.std.specs.Prelude.{◌≡◌, ◌↔◌, ◌⊎◌, Bool, true, cond, List, [], ◌∷◌, ◌++◌, ℕ, ◌+◌, ◌*◌, ◌≤◌, ◌<◌, length, get_or, ◌^◌, Some, None}
+use Rattle.image_spec.specs.Check.{contents, Held, ImageCheck, row_length, row_at, layout_of, check_of, rows_held}
 use Rattle.std.proofs.Math.Option.{none, some}
 use Rattle.resource_spec.specs.Identifier.{fay_size, terminal_size}
 use Rattle.octets.specs.Bytes.{AreBytes, part}
 use Rattle.octets.specs.Number.{number_at}
 use Rattle.exact.specs.Reads.{got}
 use Rattle.descriptor_spec.specs.declared.Fields.{Fields}
-use Rattle.descriptor_spec.specs.declared.Reading.TheVariants.{Read}
+use Rattle.std.specs.Prelude.{None, Ok, Err}
 use Rattle.descriptor_spec.specs.Model.{Descriptor, encode}
 use Rattle.descriptor_spec.specs.Allowed.{Allowed, id_size}
 use Rattle.descriptor_spec.specs.Modes.{union_of}
-use Rattle.image_spec.specs.declared.Held.{Held}
-use Rattle.image_spec.specs.declared.Held.TheVariants.{Missing, Body}
-use Rattle.image_spec.specs.declared.ImageCheck.{ImageCheck}
-use Rattle.image_spec.specs.declared.ImageCheck.TheVariants.{Sound, Unsound}
-use Rattle.image_spec.specs.declared.Added.TheVariants.{Done, Full}
-use Rattle.image_spec.specs.declared.Room.TheVariants.{Made, NoRoom}
+use Rattle.image_spec.specs.declared.AddError.TheVariants.{Full}
 use Rattle.image_spec.specs.declared.layout.Layout.{Layout}
+use Rattle.image_spec.specs.declared.Mark.{Mark}
 use Rattle.image_spec.specs.Layout.{mode_edition, header_width, edition_place, modes_place, edition1, edition2, row_size, most_rows}
 use Rattle.image_spec.specs.Layout.{row_place, place_within}
 use Rattle.image_spec.specs.Layout.{LayoutOk}
 use Rattle.image_spec.specs.Image.{Row, row_of, reading, is_read, id_of, modes_of, image_of, MomentOk, RowsOk, Holds, body_with}
-use Rattle.image_spec.specs.Check.{row_length, row_at, layout_of, check_of, rows_held}
 use Rattle.image_spec.specs.Close.{kept, with_rows, closed_up}
 use Rattle.image_spec.specs.Grow.{added_of, after_add, has_room, with_body}
-use Rattle.image_spec.specs.Choose.{end_of, is_expired, unexpired, choice_of, staying_of, goes_of, room_of, after_room}
+use Rattle.image_spec.specs.Choose.{end_of, is_expired, unexpired, choice_of, staying_of, goes_of, made, room_of, after_room}
 use Rattle.image_spec.specs.Removal.{row_in, left, Goes, Removal}
 use Rattle.octets.specs.Bytes.{same}
 use Rattle.image_spec.specs.Layout.{moment_size}
@@ -63,7 +59,7 @@ pub record BodyIn (b : List ℕ) (f : Fields) : Type 0 where
 
 -- it is known of every body of which something was read
 abbrev pub ReadIn : Type 0
-ReadIn = (b : List ℕ) (f : Fields) → reading b ≡ Read f → BodyIn b f
+ReadIn = (b : List ℕ) (f : Fields) → reading b ≡ Ok f → BodyIn b f
 
 -- such a body is the encoding of an allowed descriptor, and has its id and modes
 abbrev pub BodyRead : Type 0
@@ -73,7 +69,7 @@ BodyRead = (b : List ℕ) → AreBytes b → is_read (reading b) ≡ true
 -- the encoding of an allowed descriptor is read, with its beginning, its id and its end
 abbrev pub EncodingRead : Type 0
 EncodingRead = (d : Descriptor) → AreBytes (encode d) → Allowed d
-    → (f : Fields) × (reading (encode d) ≡ Read f) × (f.not_before.0 ≡ d.payload.not_before) × (id_of (encode d) ≡ d.payload.id)
+    → (f : Fields) × (reading (encode d) ≡ Ok f) × (f.not_before.0 ≡ d.payload.not_before) × (id_of (encode d) ≡ d.payload.id)
     × (f.not_after.0 ≡ d.payload.not_after)
 
 -- ---- the body with an id
@@ -93,19 +89,19 @@ RowsNamedFor l = (s : List ℕ) (rs : List Row) → Holds l s rs → rows_held l
 pub record HeldBody (s id : List ℕ) (rs : List Row) (row at len : ℕ) (f : Fields) : Type 0 where
   pub which : body_with id rs ≡ some (part s at len)
   pub inside : at + len ≤ length s
-  pub reads : reading (part s at len) ≡ Read f
+  pub reads : reading (part s at len) ≡ Ok f
   pub below : row < length rs
   pub there : (get_or rs row (row_of [])).body ≡ part s at len
 
 -- what is held is the body with the id, or none has it
 abbrev pub HeldIs : List ℕ → List ℕ → List Row → Held → Type 0
-HeldIs s id rs Missing = body_with id rs ≡ none
-HeldIs s id rs (Body row at len f) = HeldBody s id rs row at len f
+HeldIs s id rs None = body_with id rs ≡ none
+HeldIs s id rs (Some b) = HeldBody s id rs b.row b.at b.len b.fields
 
 -- the check of an image says how many rows it has, where it ends, and which body has the id
 abbrev pub CheckTellsFor : Layout → Type 0
 CheckTellsFor l = (s id : List ℕ) (rs : List Row) → Holds l s rs
-    → (h : Held) × (check_of l s id ≡ Sound (length rs) (length (image_of l rs)) h) × HeldIs s id rs h
+    → (h : Held) × (check_of l s id ≡ contents (length rs) (length (image_of l rs)) h) × HeldIs s id rs h
 
 -- what is so of an image that a check calls sound
 pub record SoundCheck (l : Layout) (s id : List ℕ) (n end : ℕ) (h : Held) : Type 0 where
@@ -116,24 +112,24 @@ pub record SoundCheck (l : Layout) (s id : List ℕ) (n end : ℕ) (h : Held) : 
 
 -- bytes that a check calls sound hold the rows that stand in them, and what it says of them is so
 abbrev pub CheckSaysFor : Layout → Type 0
-CheckSaysFor l = (s id : List ℕ) → AreBytes s → (n end : ℕ) (h : Held) → check_of l s id ≡ Sound n end h → SoundCheck l s id n end h
+CheckSaysFor l = (s id : List ℕ) → AreBytes s → (n end : ℕ) (h : Held) → check_of l s id ≡ contents n end h → SoundCheck l s id n end h
 
 -- bytes that a check calls unsound hold no list of rows
 abbrev pub CheckUnsoundFor : Layout → Type 0
-CheckUnsoundFor l = (s id : List ℕ) → AreBytes s → (check_of l s id ≡ Unsound) ↔ ((rs : List Row) → Holds l s rs → ⊥)
+CheckUnsoundFor l = (s id : List ℕ) → AreBytes s → (check_of l s id ≡ None) ↔ ((rs : List Row) → Holds l s rs → ⊥)
 
 -- a check calls an image of other editions unsound
 abbrev pub EditionsCheckedFor : Layout → Type 0
 EditionsCheckedFor l = (s id : List ℕ)
     → (number_at s edition_place header_width ≡ l.edition → ⊥) ⊎ (number_at s modes_place header_width ≡ mode_edition → ⊥)
-    → check_of l s id ≡ Unsound
+    → check_of l s id ≡ None
 
 -- a check of an image that may be read calls one of another edition than 1 and 2, or of another mode edition, unsound
 abbrev pub EditionsNamed : Type 0
 EditionsNamed = (s id : List ℕ)
     → ((number_at s edition_place header_width ≡ 1 → ⊥) × (number_at s edition_place header_width ≡ 2 → ⊥))
     ⊎ (number_at s modes_place header_width ≡ mode_edition → ⊥)
-    → check_of (layout_of s) s id ≡ Unsound
+    → check_of (layout_of s) s id ≡ None
 
 -- the header of a buffer that holds rows in edition 1, or 2, names that edition
 abbrev pub HeaderNames : Type 0
@@ -143,13 +139,13 @@ HeaderNames =
 
 -- the body that is held lies in the image, and its fields are those that were read of it
 abbrev pub HeldFits : List ℕ → Held → Type 0
-HeldFits s Missing = Unit {0}
-HeldFits s (Body row at len f) = (at + len ≤ length s) × (reading (part s at len) ≡ Read f)
+HeldFits s None = Unit {0}
+HeldFits s (Some b) = (b.at + b.len ≤ length s) × (reading (part s b.at b.len) ≡ Ok b.fields)
 
 -- the image ends in the buffer, and so does what is held
 abbrev pub CheckFits : List ℕ → ImageCheck → Type 0
-CheckFits s (Sound n end h) = (end ≤ length s) × HeldFits s h
-CheckFits s Unsound = Unit {0}
+CheckFits s (Some v) = (v.end ≤ length s) × HeldFits s v.held
+CheckFits s None = Unit {0}
 
 -- the places that a check answers lie in the image
 abbrev pub CheckInsideFor : Layout → Type 0
@@ -160,8 +156,8 @@ CheckInsideFor l = (s id : List ℕ) → AreBytes s → CheckFits s (check_of l 
 -- A body that reads is added to a buffer that holds rows exactly where there is room for it; the buffer is then the image of the rows and
 -- the new one, and beyond it what stood there. Else no byte is changed.
 abbrev pub BodyAddedFor : Layout → Type 0
-BodyAddedFor l = (d : List ℕ) (rs : List Row) (r : Row) (f : Fields) → Holds l d rs → reading r.body ≡ Read f
-    → (added_of l d (length rs) (length (image_of l rs)) r.body f.id ≡ cond (has_room l d rs r) Done Full)
+BodyAddedFor l = (d : List ℕ) (rs : List Row) (r : Row) (f : Fields) → Holds l d rs → reading r.body ≡ Ok f
+    → (added_of l d (length rs) (length (image_of l rs)) r.body f.id ≡ cond (has_room l d rs r) (Ok tt) (Err Full))
     × (after_add l d (length rs) (length (image_of l rs)) r.body f.id f.mask r.used ≡ cond (has_room l d rs r) (with_body l d rs r) d)
 
 -- where there is room, and none of the rows has its id, the larger buffer holds the rows and the new one; its id then has its body, and
@@ -178,12 +174,12 @@ pub record OneMoreFor (l : Layout) : Type 0 where
 -- in a buffer that holds rows, of which each has a mark, the writes of a removal leave the image of the rows that stay, and beyond it what
 -- stood there
 abbrev pub ClosedUp : Type 0
-ClosedUp = (l : Layout) → LayoutOk l → (d : List ℕ) (rs : List Row) (gs : List ℕ) → Holds l d rs → length gs ≡ length rs
+ClosedUp = (l : Layout) → LayoutOk l → (d : List ℕ) (rs : List Row) (gs : List Mark) → Holds l d rs → length gs ≡ length rs
     → closed_up l d gs ≡ with_rows l d (kept gs rs)
 
 -- the buffer then holds the rows that stay
 abbrev pub KeptHolds : Type 0
-KeptHolds = (l : Layout) → LayoutOk l → (d : List ℕ) (rs : List Row) (gs : List ℕ) → Holds l d rs → length gs ≡ length rs
+KeptHolds = (l : Layout) → LayoutOk l → (d : List ℕ) (rs : List Row) (gs : List Mark) → Holds l d rs → length gs ≡ length rs
     → Holds l (with_rows l d (kept gs rs)) (kept gs rs)
 
 -- ---- which rows go for a new one
@@ -224,7 +220,7 @@ UnexpiredStayFor l = (d : List ℕ) (clock : ℕ) (rs : List Row) (new : Row)
 abbrev pub RoomMadeFor : Layout → Type 0
 RoomMadeFor l = (d : List ℕ) (rs : List Row) → Holds l d rs → (clock more : ℕ) → more ≤ 32768
     → (room_of l d (length rs) (length (image_of l rs)) clock more ≡ cond (choice_of l (length d) clock rs more).ok
-    (Made (length (staying_of l (length d) clock rs more)) (length (image_of l (staying_of l (length d) clock rs more)))) NoRoom)
+    (made (length (staying_of l (length d) clock rs more)) (length (image_of l (staying_of l (length d) clock rs more)))) None)
     × (after_room l d (length rs) (length (image_of l rs)) clock more ≡ cond (choice_of l (length d) clock rs more).ok
     (closed_up l d (choice_of l (length d) clock rs more).marks) d)
     × (length (choice_of l (length d) clock rs more).marks ≡ length rs)
@@ -234,11 +230,11 @@ RoomMadeFor l = (d : List ℕ) (rs : List Row) → Holds l d rs → (clock more 
 -- where there is room after a removal, a new row whose body reads is added, and the buffer is the image of the rows that stay and the new
 -- one, and beyond it what stood there
 abbrev pub StoredAfterFor : Layout → Type 0
-StoredAfterFor l = (d : List ℕ) (clock : ℕ) (rs : List Row) (new : Row) (f : Fields) → Holds l d rs → reading new.body ≡ Read f
+StoredAfterFor l = (d : List ℕ) (clock : ℕ) (rs : List Row) (new : Row) (f : Fields) → Holds l d rs → reading new.body ≡ Ok f
     → (choice_of l (length d) clock rs (length new.body)).ok ≡ true
     → let ks = staying_of l (length d) clock rs (length new.body) in
     let d₁ = after_room l d (length rs) (length (image_of l rs)) clock (length new.body) in
-    (added_of l d₁ (length ks) (length (image_of l ks)) new.body f.id ≡ Done)
+    (added_of l d₁ (length ks) (length (image_of l ks)) new.body f.id ≡ Ok tt)
     × (after_add l d₁ (length ks) (length (image_of l ks)) new.body f.id f.mask new.used ≡ with_body l d ks new)
 
 -- where its id is new, the buffer then holds them
@@ -357,5 +353,5 @@ PlacesWider = (from to : Layout) → row_size from ≤ row_size to → (n : ℕ)
 
 -- an image that a check calls sound has no more rows than there may be, and its bodies begin after them and end in the bytes, below 2 ^ 32
 abbrev pub SoundBounds : Type 0
-SoundBounds = (l : Layout) → LayoutOk l → (s id : List ℕ) → AreBytes s → (n end : ℕ) (h : Held) → check_of l s id ≡ Sound n end h
+SoundBounds = (l : Layout) → LayoutOk l → (s id : List ℕ) → AreBytes s → (n end : ℕ) (h : Held) → check_of l s id ≡ contents n end h
     → (n ≤ most_rows l) × (row_place l n ≤ end) × (end ≤ length s) × (end < 4294967296)

@@ -1,11 +1,9 @@
 -- An image that may be read, of edition 1 or of edition 2: each definition that depends on the edition, under its own name, at the layout
 -- that the image's header names. That such an image is one of edition 1 or of edition 2 is a promise.
 use Rattle.std.specs.Prelude.{List, ℕ}
-use Rattle.image_spec.specs.declared.ImageCheck.{ImageCheck}
-use Rattle.image_spec.specs.declared.Finding.{Finding}
+use Rattle.image_spec.specs.Check.{ImageCheck, layout_of, Finding}
 use Rattle.image_spec.specs.Image.{Row}
 use Rattle.image_spec.specs.Image as image
-use Rattle.image_spec.specs.Check.{layout_of}
 use Rattle.image_spec.specs.Check as check
 
 -- the bytes are the image of the rows in the edition that the header names, followed by anything

@@ -1,18 +1,16 @@
 -- An image of one edition turned into one of another, in a second buffer: what the code answers and writes. A reader of the promises does
 -- not need this page.
-use Rattle.std.specs.Prelude.{cond, List, [], ℕ, zero, suc, ◌+◌, ◌-◌, length, leb}
+use Rattle.std.specs.Prelude.{cond, Result, Ok, Err, List, [], ℕ, zero, suc, ◌+◌, ◌-◌, length, leb, Some, None}
 use Rattle.octets.specs.Bytes.{part}
 use Rattle.octets.specs.Number.{big_endian, number_in}
 use Rattle.octets.specs.Write.{put_at}
 use Rattle.image_spec.specs.declared.layout.Layout.{Layout}
-use Rattle.image_spec.specs.declared.ImageCheck.{ImageCheck}
-use Rattle.image_spec.specs.declared.ImageCheck.TheVariants.{Sound, Unsound}
-use Rattle.image_spec.specs.declared.Upgrade.{Upgrade}
-use Rattle.image_spec.specs.declared.Upgrade.TheVariants.{Upgraded, BadImage, TooShort}
+use Rattle.image_spec.specs.Check.{ImageCheck, check_of}
+use Rattle.image_spec.specs.declared.UpgradeError.{UpgradeError}
+use Rattle.image_spec.specs.declared.UpgradeError.TheVariants.{BadImage, TooShort}
 use Rattle.image_spec.specs.declared.Written.{Written}
 use Rattle.image_spec.specs.Layout.{header_width, count_place, body_width, offset_place, moment_place, moment_size, row_place}
 use Rattle.image_spec.specs.Layout.{edition1, edition2}
-use Rattle.image_spec.specs.Check.{check_of}
 use Rattle.image_spec.specs.NewImage.{new_bytes}
 
 -- ---- what is written
@@ -47,17 +45,19 @@ abbrev pub new_length : Layout → Layout → ℕ → ℕ → ℕ
 new_length from to n end = end + (row_place to n - row_place from n)
 
 -- by the check of the old image: 16 where it is not sound, 17 where the new one exceeds the buffer
-abbrev pub upgrade_by : Layout → Layout → List ℕ → ImageCheck → Upgrade
-upgrade_by from to d (Sound n end h) = cond (leb (new_length from to n end) (length d)) (Upgraded (new_length from to n end)) TooShort
-upgrade_by from to d Unsound = BadImage
+abbrev pub upgrade_by : Layout → Layout → List ℕ → ImageCheck → Result ℕ UpgradeError
+upgrade_by from to d (Some v) =
+    cond (leb (new_length from to v.rows v.end) (length d)) (Ok (new_length from to v.rows v.end)) (Err TooShort)
+upgrade_by from to d None = Err BadImage
 
 -- by the same check, what the buffer comes to: as it was, but where the new image fits
 abbrev pub after_by : Layout → Layout → List ℕ → List ℕ → ImageCheck → List ℕ
-after_by from to old d (Sound n end h) = cond (leb (new_length from to n end) (length d)) (copied from to old d n end) d
-after_by from to old d Unsound = d
+after_by from to old d (Some v) =
+    cond (leb (new_length from to v.rows v.end) (length d)) (copied from to old d v.rows v.end) d
+after_by from to old d None = d
 
 -- an image of edition 1 turned into one of edition 2 in the buffer d; no id is looked for
-unfoldable pub upgrade_of : List ℕ → List ℕ → Upgrade
+unfoldable pub upgrade_of : List ℕ → List ℕ → Result ℕ UpgradeError
 upgrade_of old d = upgrade_by edition1 edition2 d (check_of edition1 old [])
 
 -- the buffer after
@@ -65,7 +65,7 @@ unfoldable pub after_upgrade : List ℕ → List ℕ → List ℕ
 after_upgrade old d = after_by edition1 edition2 old d (check_of edition1 old [])
 
 -- document 02's answer, and with 0 the length of what was written
-abbrev pub written_of : Upgrade → Written
-written_of (Upgraded n) = record { answer = 0; len = n }
-written_of BadImage = record { answer = 16; len = 0 }
-written_of TooShort = record { answer = 17; len = 0 }
+abbrev pub written_of : Result ℕ UpgradeError → Written
+written_of (Ok n) = record { answer = 0; len = n }
+written_of (Err BadImage) = record { answer = 16; len = 0 }
+written_of (Err TooShort) = record { answer = 17; len = 0 }

@@ -1,7 +1,7 @@
 // The sizes, limits, places and editions of a stored image, each named once.
 
 // What an edition of the image fixes: its number, the most rows, where in a row the last-used moment begins, which goes up to the row's
-// end, and the bytes of a row.
+// end, and the bytes of a row. What it may be is no ghost field: the laws of specs/Laws.antt take a layout and `LayoutOk` apart.
 #[derive(Clone, Copy)]
 pub struct Layout {
     pub edition: u64,

@@ -7,29 +7,26 @@ pub mod layout;
 
 use descriptor_spec::Fields;
 
-// The body with an id: which row it has, where it lies in the image, how long it is, and what was read of it; or there is none.
+// The body with an id: which row it has, where it lies in the image, how long it is, and what was read of it.
 #[derive(Clone, Copy)]
-pub enum Held {
-    Missing,
-    Body {
-        row: usize,
-        at: usize,
-        len: usize,
-        fields: Fields,
-    },
+pub struct StoredBody {
+    pub row: usize,
+    pub at: usize,
+    pub len: usize,
+    pub fields: Fields,
 }
 
-// What a check of an image answers: how many rows it has, where it ends, and the body that was looked for; or that it is not sound.
+// What a check tells of a sound image: how many rows it has, where it ends, and the body that was looked for, where there is one.
 #[derive(Clone, Copy)]
-pub enum ImageCheck {
-    Sound { rows: u64, end: usize, held: Held },
-    Unsound,
+pub struct Contents {
+    pub rows: u64,
+    pub end: usize,
+    pub held: Option<StoredBody>,
 }
 
-// What a lookup answers: the body's place and length; 15, the id is not 16 bytes; 16, the image is not sound; 7, the id is not held.
+// Why a lookup finds no body: 15, the id is not 16 bytes; 16, the image is not sound; 7, the id is not held.
 #[derive(Clone, Copy)]
-pub enum Finding {
-    Found { at: usize, len: usize },
+pub enum FindError {
     Malformed,
     BadImage,
     NotFound,
@@ -45,39 +42,37 @@ pub struct StoredNumbers {
     pub body_len: u64,
 }
 
-// What making a new image answers: 0 or 17.
+// Why no new image is made: 17, the buffer is too short.
 #[derive(Clone, Copy)]
-pub enum Creation {
-    Done,
+pub enum CreateError {
     TooShort,
 }
 
-// What adding a body answers: it was added, or there is no room for it.
+// Why no body is added: there is no room for it.
 #[derive(Clone, Copy)]
-pub enum Added {
-    Done,
+pub enum AddError {
     Full,
 }
 
-// A row with its last-used moment, or none.
+// What is marked of a row: its body is not expired, or its body is; or the row goes.
 #[derive(Clone, Copy)]
-pub enum Least {
-    IsRow(usize, u64),
-    NoRow,
+pub enum Mark {
+    Current,
+    Expired,
+    Gone,
 }
 
-// What making room for a row and a body answers: how many rows stay and where their bodies end; or there is no room.
+// Where room was made for a row and a body: how many rows stay, and where their bodies end.
 #[derive(Clone, Copy)]
-pub enum Room {
-    Made { rows: u64, end: usize },
-    NoRoom,
+pub struct Room {
+    pub rows: u64,
+    pub end: usize,
 }
 
-// What turning an image of edition 1 into one of edition 2 answers: the length of the new image; 16, the old one is not a sound image of
-// edition 1; 17, the buffer is too short.
+// Why an image of edition 1 is not turned into one of edition 2: 16, the old one is not a sound image of edition 1; 17, the buffer is too
+// short.
 #[derive(Clone, Copy)]
-pub enum Upgrade {
-    Upgraded { len: usize },
+pub enum UpgradeError {
     BadImage,
     TooShort,
 }

@@ -7,12 +7,13 @@ use Prim.Native.Nat.{ℕ, suc, ◌+◌, ◌-◌, ◌≤◌, ◌<◌}
 use native.Mathlib.Omega.{arith}
 use lib.ListN.{length, take, drop}
 use lib.Dec.{leb, ltb}
-use borrow.Author.Tests.{lt-ltb, le-leb, ltb-true, leb-true, not-true, not-false}
+use borrow.Author.Tests.{lt-ltb, le-leb, lt-leb, leb-false, ltb-true, leb-true, not-true, not-false}
 use Rattle.octets.specs.Number.{big_endian, number_in}
 use Rattle.octets.specs.Write.{put_at, moved_up}
 use Rattle.octets.proofs.Tests.{and_left, and_right}
 use Rattle.octets.proofs.PartLaws.{lent_part}
-use Rattle.image_spec.specs.declared.Added.TheVariants.{Done, Full}
+use Rattle.std.specs.Prelude.{Ok, Err}
+use Rattle.image_spec.specs.declared.AddError.TheVariants.{Full}
 use Rattle.image_spec.specs.declared.layout.Layout.{Layout}
 use Rattle.descriptor_spec.specs.Allowed.{id_size}
 use Rattle.image_spec.specs.Layout.{header_width, count_place}
@@ -92,16 +93,17 @@ module _ (l : Layout) where
       go true e = absurd (o (fits_says d n end b id e))
       go false e = refl
 
-  -- what is so fits
-  pub fits_all : (d : List ℕ) (n end : ℕ) (b : List ℕ) (id : ℕ) → Fits d n end b id → true ≡ fits l d n end b id
+  -- where the rest is so, the code's test of the id is that of the definition
+  pub fits_id : (d : List ℕ) (n end : ℕ) (b : List ℕ) (id : ℕ) → n < most_rows l → row_place l n ≤ end
+      → end + row_size l + length b ≤ length d → id_size ≤ length b → leb id (length b - id_size) ≡ fits l d n end b id
   unfolding fits
-  fits_all d n end b id k =
-      rw (
-        lt-ltb n (most_rows l) k.0,
-        le-leb (row_place l n) end k.1,
-        le-leb (end + row_size l + length b) (length d) k.2,
-        le-leb (id + id_size) (length b) k.3,
-      )
+  fits_id d n end b id few begins room long =
+      rw (lt-ltb n (most_rows l) few, le-leb (row_place l n) end begins, le-leb (end + row_size l + length b) (length d) room)
+      (go (leb (id + id_size) (length b)) refl)
+    where
+      go : (t : Bool) → leb (id + id_size) (length b) ≡ t → leb id (length b - id_size) ≡ t
+      go true e = let k : id + id_size ≤ length b = leb-true (id + id_size) (length b) e in le-leb id (length b - id_size) (omega arith)
+      go false e = let k : length b < id + id_size = leb-false (id + id_size) (length b) e in lt-leb id (length b - id_size) (omega arith)
 
   -- ---- the body added
 
@@ -111,12 +113,12 @@ module _ (l : Layout) where
 
   module _ (d : List ℕ) (n end : ℕ) (b : List ℕ) (id mask used : ℕ) (t : Bool) (e : t ≡ fits l d n end b id) where
     -- what does not fit is not added
-    pub add_full : not t ≡ true → (Full ≡ added_of l d n end b id) × (d ≡ after_add l d n end b id mask used)
+    pub add_full : not t ≡ true → (Err Full ≡ added_of l d n end b id) × (d ≡ after_add l d n end b id mask used)
     unfolding added_of after_add
     add_full f = let k = sym e ∙ not-true t f in (rw k, rw k)
 
     -- what fits is added
     pub add_done : not t ≡ false → (d' : List ℕ) → d' ≡ grown l d n end b id mask used
-        → (Done ≡ added_of l d n end b id) × (d' ≡ after_add l d n end b id mask used)
+        → (Ok tt ≡ added_of l d n end b id) × (d' ≡ after_add l d n end b id mask used)
     unfolding added_of after_add
     add_done f d' g = let k = sym e ∙ not-false t f in (rw k, g ∙ rw k)

@@ -4,7 +4,6 @@
 mod copy;
 mod grow;
 mod moments;
-mod places;
 
 ghost use Rattle.std.specs.Prelude.{◌≡◌};
 ghost use Rattle.image_spec.specs.NewImage.{creation_of};
@@ -12,19 +11,22 @@ ghost use Rattle.image_spec.specs.Touch.{after_touch};
 ghost use Rattle.image_spec.specs.Upgrade.{upgrade_of, after_upgrade};
 ghost use Rattle.image_spec.specs.Edition2.{after_new, added_of, after_add};
 
+use crate::grow::NewRow;
+use image_spec::Room;
 use image_spec::layout::EDITION2;
-pub use image_spec::{Added, Creation, Upgrade, Written};
+pub use image_spec::{AddError, CreateError, UpgradeError, Written};
 use time::Seconds;
 
 // Makes a new image of no bodies; a buffer under 8 bytes is left as it was.
-pub fn new_image(image: &mut [u8]) -> Creation
+pub fn new_image(image: &mut [u8]) -> Result<(), CreateError>
     ensures { (result ≡ creation_of image.old) × (image.new ≡ after_new image.old) }
 {
     grow::new_image(EDITION2, image)
 }
 
 // Adds the body last to an image of so many rows, whose bodies end at `end`; its id stands at `id` in it, and it was last used at `used`.
-// Where it cannot be added nothing is written.
+// Where it cannot be added nothing is written. The parts stay plain parameters: `submission` has them in a struct of its own, and would take
+// that apart to fill another.
 pub fn add_body(
     image: &mut [u8],
     rows: u64,
@@ -33,11 +35,18 @@ pub fn add_body(
     id: usize,
     mask: u64,
     used: Seconds,
-) -> Added
+) -> Result<(), AddError>
     ensures { (result ≡ added_of image.old rows end body.now id)
         × (image.new ≡ after_add image.old rows end body.now id mask used.0) }
 {
-    grow::add_body(EDITION2, image, rows, end, body, id, mask, used)
+    let room = Room { rows, end };
+    let row = NewRow {
+        body,
+        id,
+        mask,
+        used,
+    };
+    grow::add_body(EDITION2, image, room, row)
 }
 
 // Raises the last-used moment of a row of the image, of edition 1 or 2, where the moment is later; in edition 1, whose rows have none, nothing
@@ -51,7 +60,7 @@ pub fn touch(image: &mut [u8], row: usize, moment: Seconds)
 
 // Turns the old image, of edition 1, into one of edition 2 in the buffer. Where the old one is not sound, or the buffer is too short, nothing
 // is written.
-pub fn upgrade(old: &[u8], image: &mut [u8]) -> Upgrade
+pub fn upgrade(old: &[u8], image: &mut [u8]) -> Result<usize, UpgradeError>
     ensures { (result ≡ upgrade_of old.now image.old)
         × (image.new ≡ after_upgrade old.now image.old) }
 {

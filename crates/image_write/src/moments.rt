@@ -36,6 +36,7 @@ pub(crate) fn put_moment(layout: Layout, d: &mut [u8], r: usize, moment: Seconds
 }
 
 // Writes the last-used moment of the row at r where it is later than the one that stands there.
+#[tactic(auto, using(crate::proofs::TouchCode::raise_not, crate::proofs::TouchCode::raise_done))]
 fn raise_moment(layout: Layout, d: &mut [u8], r: usize, moment: Seconds)
     requires { LayoutOk layout × (r + row_size layout ≤ length d.old) }
     ensures { d.new ≡ raised_at layout d.old r moment.0 }
@@ -48,6 +49,7 @@ fn raise_moment(layout: Layout, d: &mut [u8], r: usize, moment: Seconds)
 }
 
 // The same of row i, where it lies in the bytes.
+#[tactic(auto, using(crate::proofs::TouchCode::touch_not, crate::proofs::TouchCode::touch_done))]
 pub(crate) fn touch(layout: Layout, d: &mut [u8], i: usize, moment: Seconds)
     requires { LayoutOk layout }
     ensures { d.new ≡ touched_at layout d.old i moment.0 }

@@ -1,101 +1,54 @@
 -- Laws of rows of which no two have one id (specs/Table.antt of `lease_spec`), in the code's own form. Assumes nothing.
-use mathlib.Core.Path.{◌≡◌, refl, sym, ap, ap₂, ◌∙◌, subst}
-use mathlib.Core.Bool.{Bool, true, false, not, ◌&&◌, false≢true, and-true}
-use mathlib.Core.List.{List}
-use Prim.Native.Nat.{ℕ, zero, suc, ◌+◌, ◌-◌, ◌*◌, ◌%◌, ◌≤◌, ◌<◌}
-use native.Mathlib.Omega.{arith}
-use lib.ListN.{length, take, drop, get_or, set, length-set}
-use lib.Seq.{get_or-set_same, get_or-set_other}
-use lib.Dec.{leb, ltb, eqb}
-use borrow.Author.Tests.{not-false, ltb-true, ltb-false, leb-true, leb-false, eqb-true, eqb-false, le-ltb, eq-eqb, ne_eqb}
+use Rattle.std.proofs.Common.{◌≡◌, ℕ, zero, suc, ◌+◌, ◌-◌, ◌*◌, ◌%◌, ◌^◌, ◌≤◌, ◌<◌, Bool, true, false, not, List, length, get_or, set, take, drop, refl, sym, ap, ◌∙◌, subst, arith, leb, eqb, length-set, get_or-set_same, get_or-set_other}
+use mathlib.Core.Bool.{and-true, false≢true}
+use Rattle.std.proofs.Math.Nat.{pow-suc}
+use borrow.Author.Tests.{leb-true, leb-false, eqb-true, eqb-false}
+use Rattle.std.specs.Int.Bits.{bit_or}
+use Rattle.std.proofs.lemmas.Nat.{or_shifted}
 use Rattle.octets.specs.Bytes.{part}
-use Rattle.octets.specs.Number.{number_at, number_in}
-use Rattle.octets.proofs.Tests.{and_left, and_false, or_elim, or_false, or_no_left}
+use Rattle.octets.specs.Number.{number_at}
+use Rattle.octets.proofs.Tests.{and_false}
 use Rattle.octets.proofs.SameLaws.{not_same}
-use Rattle.octets.proofs.NumberLaws.{number_in_lem, number_part}
+use Rattle.octets.proofs.NumberLaws.{number_part}
 use Rattle.octets.proofs.PartLaws.{lent_part}
 use Rattle.descriptor_spec.specs.Allowed.{id_size}
 use Rattle.lease_spec.specs.Table.{lease_size, number_width, has_id, ids_differ, row_at, rows_from}
-use Rattle.lease.specs.Code.{below}
+use Rattle.lease.specs.Code.{id_number, slots, slot_of}
 use Rattle.lease.proofs.RowCode.{rows_first, rows_turn, rows_none, rows_all}
 
--- ---- ids as two numbers
+-- ---- an id as a number
 
-module _ (a b c d : ℕ) where
-  -- where the high numbers are equal the low ones tell
-  pub below_equal : a ≡ c → ltb b d ≡ below a b c d
-  unfolding below
-  below_equal h = rw (le-ltb a c (omega arith), eq-eqb a c h)
+-- a number is that of its first w bytes, and that of the k after them
+number_add : (s : List ℕ) (at w k : ℕ) → number_at s at (w + k) ≡ number_at s at w * 256 ^ k + number_at s (at + w) k
+unfolding number_at
+number_add s at w zero = let e : w + 0 ≡ w = omega arith in ap (number_at s at) e ∙ omega arith
+number_add s at w (suc k) =
+    let e : w + suc k ≡ suc (w + k) = omega arith in
+    let place : at + (w + k) ≡ at + w + k = omega arith in
+    ap (number_at s at) e ∙ rw (number_add s at w k, place, pow-suc) (omega arith)
 
-  -- else the high ones do
-  pub below_high : (a ≡ c → ⊥) → ltb a c ≡ below a b c d
-  unfolding below
-  below_high h = rw (ne_eqb a c h) (sym (or_false (ltb a c)))
-
-  -- an id is not below another whose high number is at most its own, and whose low number is too where the high ones are equal
-  not_below : c ≤ a → (a ≡ c → d ≤ b) → below a b c d ≡ false
-  unfolding below
-  not_below h k = rw (le-ltb a c h) (go (eqb a c) refl)
-    where
-      go : (t : Bool) → eqb a c ≡ t → (t && ltb b d) ≡ false
-      go true e = le-ltb b d (k (eqb-true a c e))
-      go false e = refl
-
-  -- what is known of an id that is not below another
-  below_false : below a b c d ≡ false → (c ≤ a) × (a ≡ c → d ≤ b)
-  unfolding below
-  below_false e =
-      (ltb-false a c (or_no_left (ltb a c) (eqb a c && ltb b d) e), λ h. ltb-false b d (below_equal h ∙ e))
-
-  -- what is known of an id that is below another
-  below_true : below a b c d ≡ true → (a ≤ c) × (a ≡ c → b < d)
-  unfolding below
-  below_true e = (
-    or_elim (ltb a c) (eqb a c && ltb b d) (λ h. omega (arith, ltb-true a c h))
-        (λ h. omega (arith, eqb-true a c (and_left (eqb a c) (ltb b d) h))) e,
-    λ h. ltb-true b d (below_equal h ∙ e),
-  )
-
--- no id is below itself
-below_self : (a b : ℕ) → below a b a b ≡ false
-below_self a b = not_below a b a b (omega arith) (λ h. omega arith)
-
--- an id that is not below another one is not below an id that is
-below_less : (a b c d e f : ℕ) → below a b c d ≡ true → below e f c d ≡ false → below e f a b ≡ false
-below_less a b c d e f h k =
-    let p = below_true a b c d h in
-    let q = below_false e f c d k in
-    not_below e f a b (omega (arith, p.0, q.0))
-    (λ g. let u : a ≡ c = omega (arith, p.0, q.0) in omega (arith, p.1 u, q.1 (g ∙ u)))
-
--- the high number of the id of row j: its first 8 bytes
-abbrev pub high_of : List ℕ → ℕ → ℕ
-high_of s j = number_at s (lease_size * j) number_width
-
--- the low number: its last 8
-abbrev pub low_of : List ℕ → ℕ → ℕ
-low_of s j = number_at s (lease_size * j + number_width) number_width
+-- the number of an id is that of its two halves
+pub halves_joined : (s : List ℕ) (i : ℕ) → number_at s (lease_size * i) number_width < 2 ^ 64
+    → number_at s (lease_size * i + number_width) number_width < 2 ^ 64
+    → bit_or (number_at s (lease_size * i) number_width * 2 ^ 64 % 2 ^ 128) (number_at s (lease_size * i + number_width) number_width)
+    ≡ id_number s i
+halves_joined s i h l =
+    let high = number_at s (lease_size * i) number_width in
+    let low = number_at s (lease_size * i + number_width) number_width in
+    let fits : high * 2 ^ 64 % 2 ^ 128 ≡ high * 2 ^ 64 = omega arith in
+    ap (λ (x : ℕ). bit_or x low) fits ∙ or_shifted high 64 low l ∙ sym (number_add s (lease_size * i) number_width number_width)
 
 -- the id of row j
 abbrev id_of : List ℕ → ℕ → List ℕ
 id_of s j = part s (lease_size * j) id_size
 
-module _ (s : List ℕ) (j k : ℕ) (e : id_of s j ≡ id_of s k) where
-  -- rows with one id have one high number
-  same_high : high_of s j ≡ high_of s k
-  same_high =
-      let at : (m : ℕ) → lease_size * m + 0 ≡ lease_size * m = λ m. omega arith in
-      let f = number_part s (lease_size * j) id_size 0 number_width (omega arith) in
-      let g = number_part s (lease_size * k) id_size 0 number_width (omega arith) in
-      ap (λ (p : ℕ). number_at s p number_width) (sym (at j)) ∙ sym f ∙ ap (λ (x : List ℕ). number_at x 0 number_width) e
-      ∙ g ∙ ap (λ (p : ℕ). number_at s p number_width) (at k)
-
-  -- and one low number
-  same_low : low_of s j ≡ low_of s k
-  same_low =
-      let f = number_part s (lease_size * j) id_size number_width number_width (omega arith) in
-      let g = number_part s (lease_size * k) id_size number_width number_width (omega arith) in
-      sym f ∙ ap (λ (x : List ℕ). number_at x number_width number_width) e ∙ g
+-- rows with one id have one number
+same_number : (s : List ℕ) (j k : ℕ) → id_of s j ≡ id_of s k → id_number s j ≡ id_number s k
+same_number s j k e =
+    let is : (i : ℕ) → id_number s i ≡ number_at (id_of s i) 0 id_size = λ i.
+    let at : lease_size * i + 0 ≡ lease_size * i = omega arith in
+    ap (λ (p : ℕ). number_at s p id_size) (sym at) ∙ sym (number_part s (lease_size * i) id_size 0 id_size (omega arith)) in
+    is j ∙ ap (λ (x : List ℕ). number_at x 0 id_size) e ∙ sym (is k)
 
 -- an id that each row from row i on differs from is in none of them
 id_absent : (s id : List ℕ) (i m : ℕ) → ((j : ℕ) → i ≤ j → j < i + m → id_of s j ≡ id → ⊥) → has_id (rows_from s i m) id ≡ false
@@ -137,77 +90,34 @@ differ_more : (s : List ℕ) (n i : ℕ) → 0 < i → i ≤ n → ids_differ (r
 unfolding ids_differ row_at
 differ_more s n i pos h d t e = ap ids_differ (rows_turn s i n pos h) ∙ rw (e, d) (and-true (not t))
 
--- the high number that is read is that of the id of row i - 1
-high_is : (s : List ℕ) (n i : ℕ) → lease_size * n ≤ length s → 0 < i → i ≤ n → {h : ℕ}
-    → h ≡ number_in s (lease_size * (i - 1)) number_width → h ≡ high_of s (i - 1)
-high_is s n i room pos h e = e ∙ number_in_lem s (lease_size * (i - 1)) number_width (omega arith) (omega arith)
-
--- so is the low number
-low_is : (s : List ℕ) (n i : ℕ) → lease_size * n ≤ length s → 0 < i → i ≤ n → {l : ℕ}
-    → l ≡ number_in s (lease_size * (i - 1) + number_width) number_width → l ≡ low_of s (i - 1)
-low_is s n i room pos h e = e ∙ number_in_lem s (lease_size * (i - 1) + number_width) number_width (omega arith) (omega arith)
-
 -- ---- ids that ascend
 
--- the rows from row i on have different ids, and none of these is below the two numbers
-pub record Ascends (s : List ℕ) (n i high low : ℕ) : Type 0 where
+-- the rows from row i on have different ids, and none of these is below the number
+pub record Ascends (s : List ℕ) (n i number : ℕ) : Type 0 where
   pub inside : i ≤ n
   pub differ : ids_differ (rows_from s i (n - i)) ≡ true
-  pub least : (j : ℕ) → i ≤ j → j < n → below (high_of s j) (low_of s j) high low ≡ false
+  pub least : (j : ℕ) → i ≤ j → j < n → number ≤ id_number s j
 
 -- before the first turn no row was looked at
-pub ascends_begin : (s : List ℕ) (n high low : ℕ) → Ascends s n n high low
-ascends_begin s n high low = record {
-  inside = omega arith;
-  differ = differ_none s n;
-  least = λ j p q. absurd (omega arith);
-}
+pub ascends_begin : (s : List ℕ) (n number : ℕ) → Ascends s n n number
+ascends_begin s n number = record { inside = omega arith; differ = differ_none s n; least = λ j p q. absurd (omega arith) }
 
 -- after the last turn all were
-pub ascends_end : (s : List ℕ) (n i high low : ℕ) → Ascends s n i high low → i ≡ 0 → ids_differ (rows_from s 0 n) ≡ true
-ascends_end s n i high low d e = sym (ap ids_differ (rows_all s i n e)) ∙ d.differ
+pub ascends_end : (s : List ℕ) (n i number : ℕ) → Ascends s n i number → i ≡ 0 → ids_differ (rows_from s 0 n) ≡ true
+ascends_end s n i number d e = sym (ap ids_differ (rows_all s i n e)) ∙ d.differ
 
-module _ (s : List ℕ) (n i high low : ℕ) (room : lease_size * n ≤ length s) (d : Ascends s n i high low) (pos : 0 < i) {h l : ℕ}
-    (eh : h ≡ number_in s (lease_size * (i - 1)) number_width)
-    (el : l ≡ number_in s (lease_size * (i - 1) + number_width) number_width) {b : Bool} (eb : b ≡ below h l high low)
-    (fb : not b ≡ false) where
-  -- its id is below the two numbers
-  below_is : below (high_of s (i - 1)) (low_of s (i - 1)) high low ≡ true
-  below_is =
-      sym (ap₂ (λ (x y : ℕ). below x y high low) (high_is s n i room pos d.inside eh) (low_is s n i room pos d.inside el))
-      ∙ sym eb ∙ not-false b fb
-
-  -- so it is in none of the rows from row i on
-  below_absent : has_id (rows_from s i (n - i)) (id_of s (i - 1)) ≡ false
-  below_absent =
-      id_absent s (id_of s (i - 1)) i (n - i)
-      (λ j p q e. false≢true (sym (d.least j p (omega (arith, d.inside)))
-      ∙ ap₂ (λ (x y : ℕ). below x y high low) (same_high s j (i - 1) e) (same_low s j (i - 1) e) ∙ below_is))
-
-  -- it is added, and is the least
-  pub ascends_more : Ascends s n (i - 1) h l
-  ascends_more = record {
-    inside = omega (arith, d.inside);
-    differ = differ_more s n i pos d.inside d.differ false below_absent;
-    least = rw (high_is s n i room pos d.inside eh, low_is s n i room pos d.inside el)
-        (from_less (λ (j : ℕ). below (high_of s j) (low_of s j) (high_of s (i - 1)) (low_of s (i - 1)) ≡ false) i n
-        (below_self (high_of s (i - 1)) (low_of s (i - 1)))
-        (λ j p q. below_less (high_of s (i - 1)) (low_of s (i - 1)) high low (high_of s j) (low_of s j) below_is (d.least j p q)));
-  }
+-- a row whose id is below them is added, and its id is the least
+pub ascends_more : (s : List ℕ) (n i number : ℕ) → Ascends s n i number → 0 < i → id_number s (i - 1) < number
+    → Ascends s n (i - 1) (id_number s (i - 1))
+ascends_more s n i number d pos below = record {
+  inside = omega (arith, d.inside);
+  differ = differ_more s n i pos d.inside d.differ false (id_absent s (id_of s (i - 1)) i (n - i)
+      (λ j p q e. absurd (omega (arith, below, d.least j p (omega (arith, d.inside)), same_number s j (i - 1) e))));
+  least = from_less (λ (j : ℕ). id_number s (i - 1) ≤ id_number s j) i n (omega arith)
+      (λ j p q. omega (arith, below, d.least j p q));
+}
 
 -- ---- ids in any order
-
--- how many slots there are
-abbrev pub slots : ℕ
-slots = 8192
-
--- the slot of an id, by its two numbers
-abbrev pub slot_by : ℕ → ℕ → ℕ
-slot_by high low = (high % slots + low % slots) % slots
-
--- the slot of row j
-abbrev pub slot_of : List ℕ → ℕ → ℕ
-slot_of s j = slot_by (high_of s j) (low_of s j)
 
 -- a slot that is marked stays so where a slot is marked
 mark_stays : (seen : List Bool) (k m : ℕ) → k < length seen → get_or seen m false ≡ true → get_or (set seen k true) m false ≡ true
@@ -222,7 +132,7 @@ pub record Marked (s : List ℕ) (n i : ℕ) (seen : List Bool) : Type 0 where
   pub inside : i ≤ n
   pub size : length seen ≡ slots
   pub differ : ids_differ (rows_from s i (n - i)) ≡ true
-  pub marked : (j : ℕ) → i ≤ j → j < n → get_or seen (slot_of s j) false ≡ true
+  pub marked : (j : ℕ) → i ≤ j → j < n → get_or seen (slot_of (id_number s j)) false ≡ true
 
 -- before the first turn no row was looked at
 pub marked_begin : (s : List ℕ) (n : ℕ) (seen : List Bool) → length seen ≡ slots → Marked s n n seen
@@ -237,30 +147,24 @@ marked_begin s n seen e = record {
 pub marked_end : (s : List ℕ) (n i : ℕ) (seen : List Bool) → Marked s n i seen → i ≡ 0 → true ≡ ids_differ (rows_from s 0 n)
 marked_end s n i seen d e = sym d.differ ∙ ap ids_differ (rows_all s i n e)
 
-module _ (s : List ℕ) (n i : ℕ) (seen : List Bool) (room : lease_size * n ≤ length s) (d : Marked s n i seen) (pos : 0 < i) {h l : ℕ}
-    (eh : h ≡ number_in s (lease_size * (i - 1)) number_width) (el : l ≡ number_in s (lease_size * (i - 1) + number_width) number_width) where
-  -- the slot that is looked at is that of row i - 1
-  slot_is : slot_by h l ≡ slot_of s (i - 1)
-  slot_is = ap₂ slot_by (high_is s n i room pos d.inside eh) (low_is s n i room pos d.inside el)
-
+module _ (s : List ℕ) (n i : ℕ) (seen : List Bool) (d : Marked s n i seen) (pos : 0 < i) (slot : ℕ) (fits : slot < slots)
+    (es : slot ≡ slot_of (id_number s (i - 1))) where
   -- with row i - 1, whose slot is marked, the rows still have different ids where its id is in none of them
-  marked_more : has_id (rows_from s i (n - i)) (id_of s (i - 1)) ≡ false → Marked s n (i - 1) (set seen (slot_by h l) true)
+  marked_more : has_id (rows_from s i (n - i)) (id_of s (i - 1)) ≡ false → Marked s n (i - 1) (set seen slot true)
   marked_more e = record {
     inside = omega (arith, d.inside);
     size = simp length-set d.size;
     differ = differ_more s n i pos d.inside d.differ false e;
-    marked = from_less (λ (j : ℕ). get_or (set seen (slot_by h l) true) (slot_of s j) false ≡ true) i n
-        (ap (λ (k : ℕ). get_or (set seen (slot_by h l) true) k false) (sym slot_is)
-        ∙ get_or-set_same seen (slot_by h l) true false (omega (arith, d.size)))
-        (λ j p q. mark_stays seen (slot_by h l) (slot_of s j) (omega (arith, d.size)) (d.marked j p q));
+    marked = from_less (λ (j : ℕ). get_or (set seen slot true) (slot_of (id_number s j)) false ≡ true) i n
+        (ap (λ (k : ℕ). get_or (set seen slot true) k false) (sym es) ∙ get_or-set_same seen slot true false (omega (arith, d.size)))
+        (λ j p q. mark_stays seen slot (slot_of (id_number s j)) (omega (arith, d.size)) (d.marked j p q));
   }
 
   -- an id whose slot was not marked is in none of the rows from row i on
-  pub marked_fresh : get_or seen (slot_by h l) false ≡ false → Marked s n (i - 1) (set seen (slot_by h l) true)
+  pub marked_fresh : get_or seen slot false ≡ false → Marked s n (i - 1) (set seen slot true)
   marked_fresh e =
       marked_more (id_absent s (id_of s (i - 1)) i (n - i)
-      (λ j p q f. false≢true (sym e
-      ∙ ap (λ (k : ℕ). get_or seen k false) (slot_is ∙ sym (ap₂ slot_by (same_high s j (i - 1) f) (same_low s j (i - 1) f)))
+      (λ j p q f. false≢true (sym e ∙ ap (λ (k : ℕ). get_or seen k false) (es ∙ ap slot_of (sym (same_number s j (i - 1) f)))
       ∙ d.marked j p (omega (arith, d.inside)))))
 
   module _ {t : Bool}
@@ -280,5 +184,5 @@ module _ (s : List ℕ) (n i : ℕ) (seen : List Bool) (room : lease_size * n �
         sym (differ_back s n (i - 1) (omega (arith, d.inside)) (differ_more s n i pos d.inside d.differ true (searched ∙ g)))
 
     -- another one is not
-    pub marked_other : t ≡ false → Marked s n (i - 1) (set seen (slot_by h l) true)
+    pub marked_other : t ≡ false → Marked s n (i - 1) (set seen slot true)
     marked_other g = marked_more (searched ∙ g)

@@ -1,11 +1,10 @@
 // The lease table: its rows, and the lease under an id. A loop over all rows goes from the last to the first, as the definitions do.
-ghost use Rattle.std.specs.Prelude.{◌≡◌, true, cond, ◌+◌, ◌*◌, ◌-◌, ◌≤◌, length};
-ghost use Rattle.lease_spec.specs.declared.LeaseFound.TheVariants.{Malformed};
-ghost use Rattle.lease.specs.Code.{below};
-ghost use Rattle.lease_spec.specs.Table.{lease_size, has_id, ids_differ, lease_under, lease_at, lease_read, rows_from, rows_ok, found_of, find_in};
+ghost use Rattle.std.specs.Prelude.{◌≡◌, true, cond, Ok, Err, ◌+◌, ◌*◌, ◌-◌, ◌≤◌, ◌<◌, length};
+ghost use Rattle.lease.specs.Code.{id_number, slots, slot_of};
+ghost use Rattle.lease_spec.specs.Table.{lease_size, has_id, ids_differ, lease_under, lease_at, lease_read, rows_from, rows_ok, malformed, find_in};
 
 use crate::states::is_within;
-use crate::{Lease, LeaseFound, LeaseRead};
+use crate::{Lease, Malformed};
 use descriptor_spec::sizes::ID_SIZE;
 use lease_spec::sizes::{
     FLAG_PLACE, FLAG_WIDTH, GRACE_PLACE, LAST_SYNC_PLACE, LEASE_SIZE, NUMBER_WIDTH, SKEW_PLACE,
@@ -18,6 +17,7 @@ use time::{Milliseconds, Seconds};
 const SLOTS: usize = 8192;
 
 // The lease whose row is the 64 bytes from the place on.
+#[tactic(auto, using(octets::proofs::NumberLaws::number_in_lem), unfolding(lease_spec::specs::Table::lease_at))]
 fn lease_at(table: &[u8], at: usize) -> Lease
     requires { at + lease_size ≤ length table.now }
     ensures { result ≡ lease_at table.now at }
@@ -33,78 +33,78 @@ fn lease_at(table: &[u8], at: usize) -> Lease
 }
 
 // The lease whose row begins at the place, where its bytes are all there and allowed.
-pub(crate) fn read_row(table: &[u8], at: usize) -> LeaseRead
+#[tactic(auto, using(octets::proofs::NumberLaws::number_in_lem), unfolding(lease_spec::specs::Table::lease_read, lease_spec::specs::Table::row_ok))]
+pub fn read_row(table: &[u8], at: usize) -> Option<Lease>
     ensures { result ≡ lease_read table.now at }
 {
-    if table.len() < LEASE_SIZE {
-        return LeaseRead::NoLease;
-    }
-    if table.len() - LEASE_SIZE < at {
-        return LeaseRead::NoLease;
-    }
-    if 1 < number_at(table, at + FLAG_PLACE, FLAG_WIDTH) {
-        return LeaseRead::NoLease;
-    }
-    if number_at(table, at + ZERO_PLACE, ZERO_WIDTH) != 0 {
-        return LeaseRead::NoLease;
+    if table.len() < LEASE_SIZE
+        || table.len() - LEASE_SIZE < at
+        || 1 < number_at(table, at + FLAG_PLACE, FLAG_WIDTH)
+        || number_at(table, at + ZERO_PLACE, ZERO_WIDTH) != 0
+    {
+        return None;
     }
     let lease = lease_at(table, at);
-    if !is_within(lease) {
-        return LeaseRead::NoLease;
-    }
-    LeaseRead::IsLease(lease)
+    if is_within(lease) { Some(lease) } else { None }
 }
 
 // Whether one of the rows from row `from` on, up to row n, has the id.
+#[tactic(auto, using(crate::proofs::RowCode::id_turn, crate::proofs::RowCode::id_none))]
 fn has_id(table: &[u8], from: usize, n: usize, id: &[u8]) -> bool
     requires { (from ≤ n) × (lease_size * n ≤ length table.now) }
     ensures { result ≡ has_id (rows_from table.now from (n - from)) id.now }
 {
-    let mut i = from;
-    while i < n {
+    for i in from..n {
         let at = LEASE_SIZE * i;
         if same_bytes(&table[at..at + ID_SIZE], id) {
             return true;
         }
-        i += 1;
     }
     false
 }
 
-// Whether the id of two numbers is below the other one.
-fn is_below(high: u64, low: u64, other_high: u64, other_low: u64) -> bool
-    ensures { result ≡ below high low other_high other_low }
+// The id of row i as a number. It stands in both loops, where a call would cost half as much again.
+#[inline(always)]
+#[tactic(auto, using(octets::proofs::NumberLaws::number_in_lem, crate::proofs::IdCode::halves_joined))]
+fn id_number(table: &[u8], i: usize) -> u128
+    requires { lease_size * (i + 1) ≤ length table.now }
+    ensures { result ≡ id_number table.now i }
 {
-    if high == other_high {
-        return low < other_low;
-    }
-    high < other_high
+    let at = LEASE_SIZE * i;
+    let high = u128::from(number_at(table, at, NUMBER_WIDTH));
+    let low = u128::from(number_at(table, at + NUMBER_WIDTH, NUMBER_WIDTH));
+    high << 64 | low
+}
+
+// The slot of an id, which both halves of it tell.
+#[tactic(auto, unfolding(crate::specs::Code::slot_of))]
+fn slot_of(id: u128) -> usize
+    ensures value { result ≡ slot_of id }
+    ensures upper_bound { result < slots }
+{
+    ((id ^ id >> 64) % SLOTS as u128) as usize
 }
 
 // Whether each id of the n rows is below the one after it; then no two rows have one id.
+#[tactic(auto, using(crate::proofs::IdCode::ascends_end))]
 fn ids_ascend(table: &[u8], n: usize) -> bool
     requires { lease_size * n ≤ length table.now }
     ensures { result ≡ true → ids_differ (rows_from table.now 0 n) ≡ true }
 {
-    let mut i = n;
-    let mut least_high: u64 = 18446744073709551615;
-    let mut least_low: u64 = 18446744073709551615;
-    while 0 < i {
-        i -= 1;
-        let at = LEASE_SIZE * i;
-        let high = number_at(table, at, NUMBER_WIDTH);
-        let low = number_at(table, at + NUMBER_WIDTH, NUMBER_WIDTH);
-        if !is_below(high, low, least_high, least_low) {
+    let mut least = u128::MAX;
+    for i in (0..n).rev() {
+        let id = id_number(table, i);
+        if id >= least {
             return false;
         }
-        least_high = high;
-        least_low = low;
+        least = id;
     }
     true
 }
 
-// Whether no two of the n rows have one id. A table whose ids ascend is looked at once. In another one each row marks a slot, which both
-// numbers of its id tell, and only an id whose slot is marked already is searched for among the rows after it.
+// Whether no two of the n rows have one id. A table whose ids ascend is looked at once. In another one each row marks the slot of its id,
+// and only an id whose slot is marked already is searched for among the rows after it.
+#[tactic(auto, using(crate::proofs::IdCode::marked_end))]
 fn ids_differ(table: &[u8], n: usize) -> bool
     requires { lease_size * n ≤ length table.now }
     ensures { result ≡ ids_differ (rows_from table.now 0 n) }
@@ -113,57 +113,44 @@ fn ids_differ(table: &[u8], n: usize) -> bool
         return true;
     }
     let mut seen = [false; SLOTS];
-    let mut i = n;
-    while 0 < i {
-        i -= 1;
+    for i in (0..n).rev() {
         let at = LEASE_SIZE * i;
-        let high = number_at(table, at, NUMBER_WIDTH) as usize % SLOTS;
-        let low = number_at(table, at + NUMBER_WIDTH, NUMBER_WIDTH) as usize % SLOTS;
-        let slot = (high + low) % SLOTS;
+        let slot = slot_of(id_number(table, i));
         let again = seen[slot];
         seen[slot] = true;
-        if again {
-            if has_id(table, i + 1, n, &table[at..at + ID_SIZE]) {
-                return false;
-            }
+        if again && has_id(table, i + 1, n, &table[at..at + ID_SIZE]) {
+            return false;
         }
     }
     true
 }
 
 // The lease that one of the n rows has under the id.
-fn search(table: &[u8], n: usize, id: &[u8]) -> LeaseFound
+#[tactic(auto, using(crate::proofs::RowCode::search_laws))]
+fn search(table: &[u8], n: usize, id: &[u8]) -> Result<Option<Lease>, Malformed>
     requires { lease_size * n ≤ length table.now }
     ensures { result ≡ cond (rows_ok table.now 0 n)
-        (found_of (lease_under (rows_from table.now 0 n) id.now)) Malformed }
+        (Ok (lease_under (rows_from table.now 0 n) id.now)) (Err malformed) }
 {
-    let mut i = n;
-    let mut found = LeaseFound::Missing;
-    while 0 < i {
-        i -= 1;
+    let mut found = None;
+    for i in (0..n).rev() {
         let at = LEASE_SIZE * i;
-        match read_row(table, at) {
-            LeaseRead::IsLease(lease) => {
-                if same_bytes(&table[at..at + ID_SIZE], id) {
-                    found = LeaseFound::Found(lease);
-                }
-            }
-            LeaseRead::NoLease => return LeaseFound::Malformed,
+        let lease = read_row(table, at).ok_or(Malformed)?;
+        if same_bytes(&table[at..at + ID_SIZE], id) {
+            found = Some(lease);
         }
     }
-    found
+    Ok(found)
 }
 
-// The lease that the table has under the id.
-pub(crate) fn find(table: &[u8], id: &[u8]) -> LeaseFound
+// The lease that the table has under the id, where there is one; an error where the bytes are no lease table.
+#[tactic(auto, using(octets::proofs::Tests::and_false), unfolding(lease_spec::specs::Table::find_in, lease_spec::specs::Table::table_ok, lease_spec::specs::Table::rows_of))]
+pub fn find(table: &[u8], id: &[u8]) -> Result<Option<Lease>, Malformed>
     ensures { result ≡ find_in table.now id.now }
 {
-    if table.len() % LEASE_SIZE != 0 {
-        return LeaseFound::Malformed;
-    }
     let n = table.len() / LEASE_SIZE;
-    if !ids_differ(table, n) {
-        return LeaseFound::Malformed;
+    if table.len() % LEASE_SIZE != 0 || !ids_differ(table, n) {
+        return Err(Malformed);
     }
     search(table, n, id)
 }

@@ -1,22 +1,21 @@
 -- The laws of specs/Laws.antt, proved. Assumes nothing.
-use mathlib.Core.Path.{◌≡◌, refl, sym, ap, ◌∙◌, subst}
+use mathlib.Core.Path.{◌≡◌, refl, ap, ◌∙◌, subst}
 use mathlib.Core.Logic.{inl, inr}
 use mathlib.Core.Bool.{Bool, true, false, cond, ◌&&◌}
 use mathlib.Core.List.{List, [], ◌∷◌, ◌++◌}
-use mathlib.Core.Option.{Option, none, some}
 use Prim.Native.Nat.{ℕ, zero, suc, ◌+◌, ◌*◌, ◌/◌, ◌%◌, ◌≤◌}
 use native.Mathlib.Omega.{arith}
 use lib.ListN.{length}
 use lib.Dec.{leb, eqb}
+use Rattle.std.proofs.Common.{Some, Ok, Err}
+use Rattle.std.proofs.lemmas.Option.{same_Some, none-some}
 use Rattle.octets.specs.Bytes.{same}
 use Rattle.octets.specs.Number.{number_at}
 use Rattle.octets.proofs.Tests.{and_left, and_right}
-use Rattle.octets.proofs.OptionLaws.{some_same, none_some}
 use Rattle.lease_spec.specs.declared.Lease.{Lease}
-use Rattle.lease_spec.specs.declared.LeaseFound.TheVariants.{Found, Malformed}
 use Rattle.lease_spec.specs.Lease.{lease_ok}
 use Rattle.lease_spec.specs.Table.{Row, lease_size, flag_place, flag_width, zero_place, zero_width, lease_at, row_ok, row_at, rows_from}
-use Rattle.lease_spec.specs.Table.{rows_of, lease_under, rows_ok, ids_differ, table_ok, found_of, find_in}
+use Rattle.lease_spec.specs.Table.{rows_of, lease_under, rows_ok, ids_differ, table_ok, malformed, find_in}
 use Rattle.lease_spec.specs.Promises.{row_with_sync, Allowed, IsRow}
 use Rattle.lease_spec.specs.Laws.{lease_in, BytesTable, OlderRows, TestsWithin, FoundWithin}
 use Rattle.lease_spec.proofs.StateLaws.{ok_within}
@@ -69,35 +68,30 @@ row_within s at e =
     and_right zeros (lease_ok (lease_at s at)) (and_right (leb (number_at s (at + flag_place) flag_width) 1) (zeros && lease_ok (lease_at s at)) e)
 
 -- a lease that is found among rows that may stand is within the limits
-under_within : (s : List ℕ) (i n : ℕ) (id : List ℕ) (l : Lease) → rows_ok s i n ≡ true → lease_under (rows_from s i n) id ≡ some l
+under_within : (s : List ℕ) (i n : ℕ) (id : List ℕ) (l : Lease) → rows_ok s i n ≡ true → lease_under (rows_from s i n) id ≡ Some l
     → lease_ok l ≡ true
 unfolding rows_ok rows_from lease_under row_at
-under_within s i zero id l e f = absurd (none_some l f)
+under_within s i zero id l e f = absurd (none-some l f)
 under_within s i (suc n) id l e f =
     go (same (row_at s (lease_size * i)).id id)
     (under_within s (i + 1) n id l (and_right (row_ok s (lease_size * i)) (rows_ok s (i + 1) n) e)) f
   where
-    go : (b : Bool) → (lease_under (rows_from s (i + 1) n) id ≡ some l → lease_ok l ≡ true)
-        → cond b (some (lease_at s (lease_size * i))) (lease_under (rows_from s (i + 1) n) id) ≡ some l → lease_ok l ≡ true
+    go : (b : Bool) → (lease_under (rows_from s (i + 1) n) id ≡ Some l → lease_ok l ≡ true)
+        → cond b (Some (lease_at s (lease_size * i))) (lease_under (rows_from s (i + 1) n) id) ≡ Some l → lease_ok l ≡ true
     go true k g =
-        subst (λ (x : Lease). lease_ok x ≡ true) (some_same (lease_at s (lease_size * i)) l g)
+        subst (λ (x : Lease). lease_ok x ≡ true) (same_Some (lease_at s (lease_size * i)) l g)
         (row_within s (lease_size * i) (and_left (row_ok s (lease_size * i)) (rows_ok s (i + 1) n) e))
     go false k g = k g
-
--- what is found of an option is its lease
-lease_in_lem : (o : Option Lease) → lease_in (found_of o) ≡ o
-lease_in_lem (some l) = refl
-lease_in_lem none = refl
 
 -- `FoundWithin`
 pub found_within : FoundWithin
 unfolding find_in table_ok rows_of
 found_within s id l e = go (table_ok s) refl e
   where
-    go : (t : Bool) → table_ok s ≡ t → cond t (found_of (lease_under (rows_of s) id)) Malformed ≡ Found l → lease_ok l ≡ true
+    go : (t : Bool) → table_ok s ≡ t → cond t (Ok (lease_under (rows_of s) id)) (Err malformed) ≡ Ok (Some l) → lease_ok l ≡ true
     go true k f =
         let n = length s / lease_size in
         let both = and_right (eqb (length s % lease_size) 0) (rows_ok s 0 n && ids_differ (rows_of s)) k in
         let ok = and_left (rows_ok s 0 n) (ids_differ (rows_of s)) both in
-        under_within s 0 n id l ok (sym (lease_in_lem (lease_under (rows_of s) id)) ∙ ap lease_in f)
-    go false k f = absurd (none_some l (ap lease_in f))
+        under_within s 0 n id l ok (ap lease_in f)
+    go false k f = absurd (none-some l (ap lease_in f))

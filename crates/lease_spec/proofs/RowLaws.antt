@@ -9,6 +9,8 @@ use lib.ListN.{length, take, drop, get_or, length-append}
 use lib.Seq.{take_at, drop_at, get_or-take, get_or-drop}
 use lib.Dec.{leb, eqb}
 use borrow.Author.Tests.{leb-true, eqb-true, le-leb, lt-leb}
+use Rattle.std.proofs.Common.{None, Some}
+use Rattle.std.proofs.lemmas.Option.{cond_some}
 use Rattle.octets.specs.Bytes.{AreBytes, part, Has}
 use Rattle.octets.specs.Number.{big_endian, number_at}
 use Rattle.octets.proofs.BytesLaws.{all_has, has_all, has_left, has_after, has_both, has_part, part_has}
@@ -17,7 +19,6 @@ use Rattle.octets.proofs.PartLaws.{part_part, part_bytes}
 use Rattle.octets.proofs.Tests.{and_left, and_right}
 use Rattle.descriptor_spec.specs.Allowed.{id_size}
 use Rattle.lease_spec.specs.declared.Lease.{Lease}
-use Rattle.lease_spec.specs.declared.LeaseRead.TheVariants.{IsLease, NoLease}
 use Rattle.lease_spec.specs.Lease.{lease_ok}
 use Rattle.lease_spec.specs.Table.{Row, lease_size, flag_place, flag_width, zero_place, zero_width, last_sync_place, ttl_place, grace_place}
 use Rattle.lease_spec.specs.Table.{skew_place, tolerance_place, number_width, flag_of, row_bytes, lease_at, row_ok, lease_read, row_at}
@@ -215,7 +216,7 @@ part_middle before s after = ap (take (length s)) (drop_at before (s ++ after) (
 
 -- what is read where 64 bytes stand is what they say
 read_middle : (before s after : List ℕ) → length s ≡ lease_size
-    → lease_read (before ++ (s ++ after)) (length before) ≡ cond (row_ok s 0) (IsLease (row_at s 0).lease) NoLease
+    → lease_read (before ++ (s ++ after)) (length before) ≡ cond (row_ok s 0) (Some (row_at s 0).lease) None
 unfolding lease_read row_at
 read_middle before s after h =
     let d = before ++ (s ++ after) in
@@ -226,22 +227,17 @@ read_middle before s after h =
     let lease : lease_at d at ≡ lease_at s 0 = lease_part d at ∙ ap (λ (x : List ℕ). lease_at x 0) here in
     rw (le-leb (at + lease_size) (length d) fits, ok, lease)
 
--- a lease is read exactly where the test holds
-read_by : (t : Bool) (x l : Lease) → cond t (IsLease x) NoLease ≡ IsLease l → (t ≡ true) × (x ≡ l)
-read_by true x l e = (refl, cc)
-read_by false x l e = absurd (let z : ◌≡◌ {A = ℕ} 0 1 = cc in omega arith)
-
 -- `RowExactly`
 pub row_exactly : RowExactly
 row_exactly before s after l b h = (
   λ e.
-      let p = read_by (row_ok s 0) (row_at s 0).lease l (sym (read_middle before s after h) ∙ e) in
+      let p = cond_some (row_ok s 0) (row_at s 0).lease l (sym (read_middle before s after h) ∙ e) in
       let q = row_stands s b h p.0 in
       (row_at s 0, q.0, p.1, q.1),
   λ p.
       let q = row_back s p.0 p.1 p.3 in
-      read_middle before s after h ∙ ap (λ (t : Bool). cond t (IsLease (row_at s 0).lease) NoLease) q.0
-      ∙ ap (λ (r : Row). IsLease r.lease) q.1 ∙ ap IsLease p.2,
+      read_middle before s after h ∙ ap (λ (t : Bool). cond t (Some (row_at s 0).lease) None) q.0
+      ∙ ap (λ (r : Row). Some r.lease) q.1 ∙ ap Some p.2,
 )
 
 -- `RowShort`

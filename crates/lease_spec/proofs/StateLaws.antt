@@ -5,11 +5,14 @@ use Prim.Native.Nat.{ℕ, ◌+◌, ◌^◌, ◌≤◌, ◌<◌}
 use native.Mathlib.Omega.{arith}
 use lib.Dec.{leb, ltb}
 use borrow.Author.Tests.{ltb-true, ltb-false, leb-true, leb-false, lt-ltb, le-ltb, le-leb, lt-leb}
+use Rattle.std.proofs.Common.{Option, None, Some}
+use Rattle.std.proofs.lemmas.Option.{same_Some, none-some}
+use Rattle.std.proofs.lemmas.Bool.Decides.{nat_tests}
 use Rattle.octets.proofs.Tests.{by_cond, and_left, and_right}
 use Rattle.lease_spec.specs.declared.Lease.{Lease}
 use Rattle.lease_spec.specs.declared.LeaseState.{LeaseState}
 use Rattle.lease_spec.specs.declared.LeaseState.TheVariants as states
-use Rattle.lease_spec.specs.Lease.{latest, length_end, longest_skew, lease_ok, clock_ok, last_active, last_stale, is_future, margin_of}
+use Rattle.lease_spec.specs.Lease.{latest, lease_ok, clock_ok, last_active, last_stale, is_future, margin_of}
 use Rattle.lease_spec.specs.Lease.{state_within, state_of}
 use Rattle.lease_spec.specs.Promises.{Within, active_end, stale_end, StateExactly, OutsideExactly, StaleOrExpired, with_sync}
 use Rattle.lease_spec.specs.Promises.{OlderSync, LaterClock}
@@ -20,33 +23,18 @@ use Rattle.lease_spec.proofs.MarginLaws.{below_sub, sub_most, active_end_lem, st
 -- a lease whose numbers pass the tests is within the limits
 pub ok_within : (l : Lease) → lease_ok l ≡ true → Within l
 unfolding lease_ok
-ok_within l e =
-    let sync = leb l.last_sync.0 latest in
-    let ttl = ltb l.ttl.0 length_end in
-    let grace = ltb l.grace.0 length_end in
-    let skew = leb l.skew.0 longest_skew in
-    let tolerance = leb l.tolerance.0 longest_skew in
-    let e₁ = and_right sync (ttl && (grace && (skew && tolerance))) e in
-    let e₂ = and_right ttl (grace && (skew && tolerance)) e₁ in
-    let e₃ = and_right grace (skew && tolerance) e₂ in
-    record {
-      sync = leb-true l.last_sync.0 latest (and_left sync _ e);
-      ttl = ltb-true l.ttl.0 length_end (and_left ttl _ e₁);
-      grace = ltb-true l.grace.0 length_end (and_left grace _ e₂);
-      skew = leb-true l.skew.0 longest_skew (and_left skew _ e₃);
-      tolerance = leb-true l.tolerance.0 longest_skew (and_right skew _ e₃);
-    }
+ok_within l e = record {
+  sync = grind (arith, nat_tests);
+  ttl = grind (arith, nat_tests);
+  grace = grind (arith, nat_tests);
+  skew = grind (arith, nat_tests);
+  tolerance = grind (arith, nat_tests);
+}
 
 -- and one that is within them passes
 pub within_ok : (l : Lease) → Within l → lease_ok l ≡ true
 unfolding lease_ok
-within_ok l w = rw (
-  le-leb l.last_sync.0 latest w.sync,
-  lt-ltb l.ttl.0 length_end w.ttl,
-  lt-ltb l.grace.0 length_end w.grace,
-  le-leb l.skew.0 longest_skew w.skew,
-  le-leb l.tolerance.0 longest_skew w.tolerance,
-)
+within_ok l w = grind (arith, nat_tests, w.sync, w.ttl, w.grace, w.skew, w.tolerance)
 
 -- where the tests of the lease and of the clock hold both are within the limits
 tests_within : (l : Lease) (n : ℕ) → (lease_ok l && clock_ok n) ≡ true → Within l × (n ≤ 2 ^ 53)
@@ -55,7 +43,7 @@ tests_within l n e =
     (ok_within l (and_left (lease_ok l) (leb n latest) e), leb-true n latest (and_right (lease_ok l) (leb n latest) e))
 
 -- where both are, the tests of the state tell
-state_within_lem : (l : Lease) (n : ℕ) → Within l → n ≤ 2 ^ 53 → state_of l n ≡ state_within l n
+state_within_lem : (l : Lease) (n : ℕ) → Within l → n ≤ 2 ^ 53 → state_of l n ≡ Some (state_within l n)
 unfolding state_of clock_ok
 state_within_lem l n w h = rw (within_ok l w, le-leb n latest h)
 
@@ -68,7 +56,6 @@ Says l n states.Future = (l.revoked ≡ false) × (n + l.skew.0 < l.last_sync.0)
 Says l n (states.Active m) = (l.revoked ≡ false) × (l.last_sync.0 ≤ n + l.skew.0) × (n ≤ active_end l) × (margin_of l n ≡ m)
 Says l n (states.Stale m) = (l.revoked ≡ false) × (active_end l < n) × (n ≤ stale_end l) × (margin_of l n ≡ m)
 Says l n states.Expired = (l.revoked ≡ false) × (stale_end l < n)
-Says l n states.Outside = ⊥
 
 -- it is so of the state that is told
 says : (l : Lease) (n : ℕ) → Says l n (state_within l n)
@@ -119,33 +106,34 @@ module _ (l : Lease) (n : ℕ) where
 pub state_exactly : StateExactly
 state_exactly l n w h =
     let e = state_within_lem l n w h in
-    let told : (x : LeaseState) → state_of l n ≡ x → Says l n x = λ x i. subst (Says l n) (sym e ∙ i) (says l n) in
+    let told : (x : LeaseState) → state_of l n ≡ Some x → Says l n x
+    = λ x i. subst (Says l n) (same_Some (state_within l n) x (sym e ∙ i)) (says l n) in
     let sync = l.last_sync.0 in
     let skew = l.skew.0 in
     record {
-      revoked = (told states.Revoked, λ r. e ∙ is_revoked_lem l n r);
+      revoked = (told states.Revoked, λ r. e ∙ ap Some (is_revoked_lem l n r));
       future = (
         λ i. let p = told states.Future i in (p.0, (below_sub n sync skew).1 p.1),
-        λ p. e ∙ is_future_lem l n p.0 ((below_sub n sync skew).0 p.1),
+        λ p. e ∙ ap Some (is_future_lem l n p.0 ((below_sub n sync skew).0 p.1)),
       );
       active = λ m. (
         λ i. let p = told (states.Active m) i in (p.0, (sub_most sync skew n).1 p.1, p.2, p.3),
-        λ p. e ∙ is_active l n p.0 ((sub_most sync skew n).0 p.1) p.2 ∙ ap states.Active p.3,
+        λ p. e ∙ ap Some (is_active l n p.0 ((sub_most sync skew n).0 p.1) p.2 ∙ ap states.Active p.3),
       );
-      stale = λ m. (told (states.Stale m), λ p. e ∙ is_stale l n p.0 p.1 p.2 ∙ ap states.Stale p.3);
-      expired = (told states.Expired, λ p. e ∙ is_expired_lem l n p.0 p.1);
+      stale = λ m. (told (states.Stale m), λ p. e ∙ ap Some (is_stale l n p.0 p.1 p.2 ∙ ap states.Stale p.3));
+      expired = (told states.Expired, λ p. e ∙ ap Some (is_expired_lem l n p.0 p.1));
     }
 
--- where the lease or the clock is outside the limits no other state is told
-not_within : (l : Lease) (n : ℕ) → (Within l × (n ≤ 2 ^ 53) → ⊥) → state_of l n ≡ states.Outside
+-- where the lease or the clock is outside the limits no state is told
+not_within : (l : Lease) (n : ℕ) → (Within l × (n ≤ 2 ^ 53) → ⊥) → state_of l n ≡ None
 unfolding state_of
-not_within l n h = by_cond (λ (x : LeaseState). x ≡ states.Outside) (lease_ok l && clock_ok n)
+not_within l n h = by_cond (λ (x : Option LeaseState). x ≡ None) (lease_ok l && clock_ok n)
     (λ e. absurd (h (tests_within l n e))) (λ e. refl)
 
 -- `OutsideExactly`
 pub outside_exactly : OutsideExactly
 outside_exactly l n = (
-  λ e p. subst (Says l n) (sym (state_within_lem l n p.0 p.1) ∙ e) (says l n),
+  λ e p. none-some (state_within l n) (sym e ∙ state_within_lem l n p.0 p.1),
   not_within l n,
 )
 
@@ -161,22 +149,21 @@ record Late (l : Lease) (n : ℕ) : Type 0 where
 -- it is so where the state is stale or expired
 late_is : (l : Lease) (n : ℕ) → StaleOrExpired (state_of l n) → Late l n
 unfolding state_of
-late_is l n = by_cond (λ (x : LeaseState). StaleOrExpired x → Late l n) (lease_ok l && clock_ok n)
+late_is l n = by_cond (λ (x : Option LeaseState). StaleOrExpired x → Late l n) (lease_ok l && clock_ok n)
     (λ e. let p = tests_within l n e in go (state_within l n) (says l n) p.0 p.1) (λ e f. absurd f)
   where
-    go : (x : LeaseState) → Says l n x → Within l → n ≤ 2 ^ 53 → StaleOrExpired x → Late l n
+    go : (x : LeaseState) → Says l n x → Within l → n ≤ 2 ^ 53 → StaleOrExpired (Some x) → Late l n
     go states.Revoked s w h f = absurd f
     go states.Future s w h f = absurd f
     go (states.Active m) s w h f = absurd f
     go (states.Stale m) s w h f = record { within = w; clock = h; current = s.0; past = s.1 }
     go states.Expired s w h f = record { within = w; clock = h; current = s.0; past = omega (arith, s.1) }
-    go states.Outside s w h f = absurd f
 
 -- and the state is one of the two where it is so
 is_late : (l : Lease) (n : ℕ) → Late l n → StaleOrExpired (state_of l n)
 is_late l n f = rw (state_within_lem l n f.within f.clock) (go (leb n (stale_end l)) refl)
   where
-    go : (t : Bool) → leb n (stale_end l) ≡ t → StaleOrExpired (state_within l n)
+    go : (t : Bool) → leb n (stale_end l) ≡ t → StaleOrExpired (Some (state_within l n))
     go true e = rw (is_stale l n f.current f.past (leb-true n (stale_end l) e)) tt
     go false e = rw (is_expired_lem l n f.current (leb-false n (stale_end l) e)) tt
 

@@ -1,23 +1,22 @@
 -- The lease table: the bytes of rows, the rows of bytes, and the lease under an id (specs/Table.antt). Assumes nothing.
 use mathlib.Core.Path.{◌≡◌, refl, sym, ap, ap₂, ◌∙◌, subst}
 use mathlib.Core.Logic.{inl, inr, ⊎_elim}
-use mathlib.Core.Bool.{Bool, true, false, not, cond, ◌&&◌, false≢true}
+use mathlib.Core.Bool.{Bool, true, false, not, cond, ◌&&◌, false≢true, true≢false}
 use mathlib.Core.List.{List, [], ◌∷◌, ◌++◌}
-use mathlib.Core.Option.{Option, none, some}
 use Prim.Native.Nat.{ℕ, zero, suc, ◌+◌, ◌*◌, ◌/◌, ◌%◌, ◌≤◌}
 use native.Mathlib.Omega.{arith}
 use lib.ListN.{length, take, drop, length-append}
 use lib.Seq.{take-add, take_at, take_all, drop_at, drop-drop}
 use lib.Dec.{eqb}
 use borrow.Author.Tests.{eqb-true, not-true}
+use Rattle.std.proofs.Common.{Option, None, Some, Result, Ok, Err, is_ok}
 use Rattle.octets.specs.Bytes.{AreBytes, part, same}
 use Rattle.octets.proofs.SameLaws.{same_equal, equal_same, not_same}
 use Rattle.octets.proofs.Tests.{by_cond, and_left, and_right, and_both, or_no_left, or_no_right}
 use Rattle.lease_spec.specs.declared.Lease.{Lease}
-use Rattle.lease_spec.specs.declared.LeaseFound.{LeaseFound}
-use Rattle.lease_spec.specs.declared.LeaseFound.TheVariants.{Found, Missing, Malformed}
+use Rattle.lease_spec.specs.declared.Malformed.{Malformed}
 use Rattle.lease_spec.specs.Table.{Row, has_id, ids_differ, lease_under, lease_size, row_bytes, table_bytes, row_ok, row_at, rows_from}
-use Rattle.lease_spec.specs.Table.{rows_of, rows_ok, table_ok, found_of, find_in}
+use Rattle.lease_spec.specs.Table.{rows_of, rows_ok, table_ok, malformed, find_in}
 use Rattle.lease_spec.specs.Promises.{IsRow, AreRows, TableLaidOut, TableExactly, RowsBack, UnderExactly, FoundExactly}
 use Rattle.lease_spec.specs.Promises.{MissingExactly, MalformedExactly}
 use Rattle.lease_spec.proofs.RowLaws.{row_length_lem, row_there, there_row}
@@ -137,36 +136,35 @@ table_exactly s b = (
 -- ---- the lease under an id
 
 -- what is so where x is found under the id
-abbrev Finds : List Row → List ℕ → LeaseFound → Type 0
-Finds rs id (Found l) = (r : Row) × IsRow r rs × (r.id ≡ id) × (r.lease ≡ l)
-Finds rs id Missing = (r : Row) → IsRow r rs → r.id ≡ id → ⊥
-Finds rs id Malformed = ⊥
+abbrev Finds : List Row → List ℕ → Option Lease → Type 0
+Finds rs id (Some l) = (r : Row) × IsRow r rs × (r.id ≡ id) × (r.lease ≡ l)
+Finds rs id None = (r : Row) → IsRow r rs → r.id ≡ id → ⊥
 
 -- it is so of what is found among the rows
-finds : (rs : List Row) (id : List ℕ) → Finds rs id (found_of (lease_under rs id))
+finds : (rs : List Row) (id : List ℕ) → Finds rs id (lease_under rs id)
 unfolding lease_under
 finds [] id = λ r i k. i
-finds (x ∷ xs) id = by_cond (λ (o : Option Lease). Finds (x ∷ xs) id (found_of o)) (same x.id id)
+finds (x ∷ xs) id = by_cond (Finds (x ∷ xs) id) (same x.id id)
     (λ e. (x, inl refl, same_equal x.id id e, refl)) (λ e. go e (lease_under xs id) (finds xs id))
   where
-    go : same x.id id ≡ false → (o : Option Lease) → Finds xs id (found_of o) → Finds (x ∷ xs) id (found_of o)
-    go e (some l) p = (p.0, inr p.1, p.2, p.3)
-    go e none h = λ r i k.
+    go : same x.id id ≡ false → (o : Option Lease) → Finds xs id o → Finds (x ∷ xs) id o
+    go e (Some l) p = (p.0, inr p.1, p.2, p.3)
+    go e None h = λ r i k.
         ⊎_elim (λ here. false≢true (sym e ∙ equal_same x.id id (ap (λ (y : Row). y.id) here ∙ k))) (λ there. h r there k) i
 
 -- the lease of a row is found under its id
-is_found : (rs : List Row) (r : Row) → AreRows rs → IsRow r rs → lease_under rs r.id ≡ some r.lease
+is_found : (rs : List Row) (r : Row) → AreRows rs → IsRow r rs → lease_under rs r.id ≡ Some r.lease
 unfolding lease_under
 is_found [] r a i = absurd i
 is_found (x ∷ xs) r a (inl i) =
     let here : same x.id r.id ≡ true = equal_same x.id r.id (ap (λ (y : Row). y.id) i) in
-    ap (λ (t : Bool). cond t (some x.lease) (lease_under xs r.id)) here ∙ ap (λ (y : Row). some y.lease) i
+    ap (λ (t : Bool). cond t (Some x.lease) (lease_under xs r.id)) here ∙ ap (λ (y : Row). Some y.lease) i
 is_found (x ∷ xs) r a (inr i) =
     let other : same x.id r.id ≡ false = not_same x.id r.id (λ k. a.1 r i (sym k)) in
-    ap (λ (t : Bool). cond t (some x.lease) (lease_under xs r.id)) other ∙ is_found xs r a.2 i
+    ap (λ (t : Bool). cond t (Some x.lease) (lease_under xs r.id)) other ∙ is_found xs r a.2 i
 
 -- where no row has the id none is found
-is_missing : (rs : List Row) (id : List ℕ) → ((r : Row) → IsRow r rs → r.id ≡ id → ⊥) → lease_under rs id ≡ none
+is_missing : (rs : List Row) (id : List ℕ) → ((r : Row) → IsRow r rs → r.id ≡ id → ⊥) → lease_under rs id ≡ None
 unfolding lease_under
 is_missing [] id h = refl
 is_missing (x ∷ xs) id h = rw (not_same x.id id (h x (inl refl))) (is_missing xs id (λ r i. h r (inr i)))
@@ -175,39 +173,38 @@ is_missing (x ∷ xs) id h = rw (not_same x.id id (h x (inl refl))) (is_missing 
 pub under_exactly : UnderExactly
 under_exactly rs id a = (
   λ l. (
-    λ e. subst (Finds rs id) (ap found_of e) (finds rs id),
-    λ p. ap (lease_under rs) (sym p.2) ∙ is_found rs p.0 a p.1 ∙ ap some p.3,
+    λ e. subst (Finds rs id) e (finds rs id),
+    λ p. ap (lease_under rs) (sym p.2) ∙ is_found rs p.0 a p.1 ∙ ap Some p.3,
   ),
-  (λ e. subst (Finds rs id) (ap found_of e) (finds rs id), is_missing rs id),
+  (λ e. subst (Finds rs id) e (finds rs id), is_missing rs id),
 )
 
 -- the bytes of rows have under an id what the rows have
-find_rows : (rs : List Row) (id : List ℕ) → AreRows rs → find_in (table_bytes rs) id ≡ found_of (lease_under rs id)
+find_rows : (rs : List Row) (id : List ℕ) → AreRows rs → find_in (table_bytes rs) id ≡ Ok (lease_under rs id)
 unfolding find_in
 find_rows rs id a = rw (table_ok_lem rs a, rows_back rs a)
 
--- so what is so of what is found among the rows is so of the answer
-told : (rs : List Row) (id : List ℕ) (x : LeaseFound) → AreRows rs → find_in (table_bytes rs) id ≡ x → Finds rs id x
-told rs id x a e = subst (Finds rs id) (sym (find_rows rs id a) ∙ e) (finds rs id)
+-- so the rows have what is found in their bytes
+under_found : (rs : List Row) (id : List ℕ) (o : Option Lease) → AreRows rs → find_in (table_bytes rs) id ≡ Ok o → lease_under rs id ≡ o
+under_found rs id o a e = let f : ◌≡◌ {A = Result (Option Lease) Malformed} (Ok (lease_under rs id)) (Ok o) = sym (find_rows rs id a) ∙ e in cc
 
 -- `FoundExactly`
 pub found_exactly : FoundExactly
-found_exactly rs id l a = (
-  told rs id (Found l) a,
-  λ p.
-      find_rows rs id a ∙ ap (λ (i : List ℕ). found_of (lease_under rs i)) (sym p.2) ∙ ap found_of (is_found rs p.0 a p.1)
-      ∙ ap Found p.3,
-)
+found_exactly rs id l a =
+    let p = (under_exactly rs id a).0 l in
+    (λ e. p.0 (under_found rs id (Some l) a e), λ r. find_rows rs id a ∙ ap Ok (p.1 r))
 
 -- `MissingExactly`
 pub missing_exactly : MissingExactly
-missing_exactly rs id a = (told rs id Missing a, λ h. find_rows rs id a ∙ ap found_of (is_missing rs id h))
+missing_exactly rs id a =
+    let p = (under_exactly rs id a).1 in
+    (λ e. p.0 (under_found rs id None a e), λ h. find_rows rs id a ∙ ap Ok (p.1 h))
 
 -- `MalformedExactly`
 pub malformed_exactly : MalformedExactly
 unfolding find_in
 malformed_exactly s id = (go (table_ok s), λ e. rw e)
   where
-    go : (t : Bool) → cond t (found_of (lease_under (rows_of s) id)) Malformed ≡ Malformed → t ≡ false
-    go true e = absurd (subst (Finds (rows_of s) id) e (finds (rows_of s) id))
+    go : (t : Bool) → cond t (Ok (lease_under (rows_of s) id)) (Err malformed) ≡ Err malformed → t ≡ false
+    go true e = absurd (true≢false (ap is_ok e))
     go false e = refl

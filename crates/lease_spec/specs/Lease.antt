@@ -1,6 +1,6 @@
 -- A lease, its limits, its state at a clock, and its margin. Document 02, §4, after source 001, "State Definitions". L is the last sync,
 -- T the ttl, G the grace, D the skew, E the tolerance, and N the clock in milliseconds.
-use Rattle.std.specs.Prelude.{Bool, cond, ◌&&◌, ℕ, ◌+◌, ◌*◌, pos, ◌-ℤ◌, leb, ltb}
+use Rattle.std.specs.Prelude.{Bool, cond, Option, None, Some, ◌&&◌, ℕ, ◌+◌, ◌*◌, pos, ◌-ℤ◌, leb, ltb}
 use Rattle.time.specs.declared.Margin.{Margin}
 use Rattle.time.specs.Time.{per_second}
 use Rattle.lease_spec.specs.declared.Lease.{Lease}
@@ -60,6 +60,6 @@ state_within l n =
     (cond (leb n (last_active l)) (states.Active (margin_of l n))
     (cond (leb n (last_stale l)) (states.Stale (margin_of l n)) states.Expired)))
 
--- the state of any lease at any clock
-unfoldable pub state_of : Lease → ℕ → LeaseState
-state_of l n = cond (lease_ok l && clock_ok n) (state_within l n) states.Outside
+-- the state of any lease at any clock; outside the limits there is none
+unfoldable pub state_of : Lease → ℕ → Option LeaseState
+state_of l n = cond (lease_ok l && clock_ok n) (Some (state_within l n)) None

@@ -1,17 +1,14 @@
 -- What is promised of leases, and nothing else. Each statement `NameOfIt` is proved in proofs/Promises.antt as `name_of_it`. L is the last
 -- sync, T the ttl, G the grace, D the skew, E the tolerance, and N the clock in milliseconds.
-use Rattle.std.specs.Prelude.{◌≡◌, ◌↔◌, ◌⊎◌, true, false, List, [], ◌∷◌, ◌++◌, ℕ, ◌+◌, ◌*◌, ◌^◌, ◌≤◌, ◌<◌, length, replicate, pos, negsuc, ◌+ℤ◌, ◌-ℤ◌, ◌≤ℤ◌, ◌<ℤ◌}
-use Rattle.std.proofs.Math.Option.{none, some}
+use Rattle.std.specs.Prelude.{◌≡◌, ◌↔◌, ◌⊎◌, true, false, Option, None, Some, Ok, Err, List, [], ◌∷◌, ◌++◌, ℕ, ◌+◌, ◌*◌, ◌^◌, ◌≤◌, ◌<◌, length, replicate, pos, negsuc, ◌+ℤ◌, ◌-ℤ◌, ◌≤ℤ◌, ◌<ℤ◌}
 use Rattle.octets.specs.Bytes.{AreBytes}
 use Rattle.octets.specs.Number.{big_endian}
 use Rattle.time.specs.declared.Margin.{Margin}
 use Rattle.lease_spec.specs.declared.Lease.{Lease}
 use Rattle.lease_spec.specs.declared.LeaseState.{LeaseState}
 use Rattle.lease_spec.specs.declared.LeaseState.TheVariants as states
-use Rattle.lease_spec.specs.declared.LeaseRead.TheVariants.{IsLease, NoLease}
-use Rattle.lease_spec.specs.declared.LeaseFound.TheVariants as finds
 use Rattle.lease_spec.specs.Lease.{margin_of, state_of}
-use Rattle.lease_spec.specs.Table.{Row, lease_under, row_bytes, table_bytes, lease_read, rows_of, table_ok, find_in}
+use Rattle.lease_spec.specs.Table.{Row, lease_under, row_bytes, table_bytes, lease_read, rows_of, table_ok, malformed, find_in}
 
 -- ---- the state of a lease
 
@@ -34,13 +31,13 @@ stale_end l = l.last_sync.0 + l.ttl.0 * 1000 + l.grace.0 * 1000 + l.tolerance.0
 -- the state, each exactly: revoked where the flag says so; else future where N < L − D; active up to L + T + E; stale up to
 -- L + T + G + E; and expired after that
 pub record States (l : Lease) (n : ℕ) : Type 0 where
-  pub revoked : (state_of l n ≡ states.Revoked) ↔ (l.revoked ≡ true)
-  pub future : (state_of l n ≡ states.Future) ↔ ((l.revoked ≡ false) × (pos n <ℤ (pos l.last_sync.0 -ℤ pos l.skew.0)))
-  pub active : (m : Margin) → (state_of l n ≡ states.Active m)
+  pub revoked : (state_of l n ≡ Some states.Revoked) ↔ (l.revoked ≡ true)
+  pub future : (state_of l n ≡ Some states.Future) ↔ ((l.revoked ≡ false) × (pos n <ℤ (pos l.last_sync.0 -ℤ pos l.skew.0)))
+  pub active : (m : Margin) → (state_of l n ≡ Some (states.Active m))
       ↔ ((l.revoked ≡ false) × ((pos l.last_sync.0 -ℤ pos l.skew.0) ≤ℤ pos n) × (n ≤ active_end l) × (margin_of l n ≡ m))
-  pub stale : (m : Margin) → (state_of l n ≡ states.Stale m)
+  pub stale : (m : Margin) → (state_of l n ≡ Some (states.Stale m))
       ↔ ((l.revoked ≡ false) × (active_end l < n) × (n ≤ stale_end l) × (margin_of l n ≡ m))
-  pub expired : (state_of l n ≡ states.Expired) ↔ ((l.revoked ≡ false) × (stale_end l < n))
+  pub expired : (state_of l n ≡ Some states.Expired) ↔ ((l.revoked ≡ false) × (stale_end l < n))
 
 -- they are the states of each lease within the limits, at each clock up to 2^53
 abbrev pub StateExactly : Type 0
@@ -48,7 +45,7 @@ StateExactly = (l : Lease) (n : ℕ) → Within l → n ≤ 2 ^ 53 → States l 
 
 -- a lease or a clock outside the limits has none of them
 abbrev pub OutsideExactly : Type 0
-OutsideExactly = (l : Lease) (n : ℕ) → (state_of l n ≡ states.Outside) ↔ (Within l × (n ≤ 2 ^ 53) → ⊥)
+OutsideExactly = (l : Lease) (n : ℕ) → (state_of l n ≡ None) ↔ (Within l × (n ≤ 2 ^ 53) → ⊥)
 
 -- ---- the margin
 
@@ -69,13 +66,13 @@ MarginFits = (l : Lease) (n : ℕ) → Within l → n ≤ 2 ^ 53
 -- ---- stale and expired leases
 
 -- a lease that is stale or expired
-abbrev pub StaleOrExpired : LeaseState → Type 0
-StaleOrExpired (states.Stale m) = Unit {0}
-StaleOrExpired states.Expired = Unit {0}
-StaleOrExpired states.Revoked = ⊥
-StaleOrExpired states.Future = ⊥
-StaleOrExpired (states.Active m) = ⊥
-StaleOrExpired states.Outside = ⊥
+abbrev pub StaleOrExpired : Option LeaseState → Type 0
+StaleOrExpired (Some (states.Stale m)) = Unit {0}
+StaleOrExpired (Some states.Expired) = Unit {0}
+StaleOrExpired (Some states.Revoked) = ⊥
+StaleOrExpired (Some states.Future) = ⊥
+StaleOrExpired (Some (states.Active m)) = ⊥
+StaleOrExpired None = ⊥
 
 -- the same lease with another last sync
 abbrev pub with_sync : Lease → ℕ → Lease
@@ -122,11 +119,11 @@ AreRows (r ∷ rs) = Allowed r × ((x : Row) → IsRow x rs → x.id ≡ r.id �
 -- 64 bytes at a place are read as a lease exactly when they are those of an allowed row with that lease
 abbrev pub RowExactly : Type 0
 RowExactly = (before s after : List ℕ) (l : Lease) → AreBytes s → length s ≡ 64
-    → (lease_read (before ++ (s ++ after)) (length before) ≡ IsLease l) ↔ ((r : Row) × Allowed r × (r.lease ≡ l) × (s ≡ row_bytes r))
+    → (lease_read (before ++ (s ++ after)) (length before) ≡ Some l) ↔ ((r : Row) × Allowed r × (r.lease ≡ l) × (s ≡ row_bytes r))
 
 -- and where fewer than 64 bytes are left no row is read
 abbrev pub RowShort : Type 0
-RowShort = (s : List ℕ) (at : ℕ) → length s < at + 64 → lease_read s at ≡ NoLease
+RowShort = (s : List ℕ) (at : ℕ) → length s < at + 64 → lease_read s at ≡ None
 
 -- the five numbers of a lease, in 8 bytes each, big-endian: L, T, G, D and E
 abbrev pub numbers_of : Lease → List ℕ
@@ -155,19 +152,19 @@ RowsBack = (rs : List Row) → AreRows rs → rows_of (table_bytes rs) ≡ rs
 -- rows have a lease under an id exactly when one of them has both, and none exactly when no row has the id
 abbrev pub UnderExactly : Type 0
 UnderExactly = (rs : List Row) (id : List ℕ) → AreRows rs
-    → ((l : Lease) → (lease_under rs id ≡ some l) ↔ ((r : Row) × IsRow r rs × (r.id ≡ id) × (r.lease ≡ l)))
-    × ((lease_under rs id ≡ none) ↔ ((r : Row) → IsRow r rs → r.id ≡ id → ⊥))
+    → ((l : Lease) → (lease_under rs id ≡ Some l) ↔ ((r : Row) × IsRow r rs × (r.id ≡ id) × (r.lease ≡ l)))
+    × ((lease_under rs id ≡ None) ↔ ((r : Row) → IsRow r rs → r.id ≡ id → ⊥))
 
 -- so a lease is found in their bytes under an id exactly when a row has both
 abbrev pub FoundExactly : Type 0
 FoundExactly = (rs : List Row) (id : List ℕ) (l : Lease) → AreRows rs
-    → (find_in (table_bytes rs) id ≡ finds.Found l) ↔ ((r : Row) × IsRow r rs × (r.id ≡ id) × (r.lease ≡ l))
+    → (find_in (table_bytes rs) id ≡ Ok (Some l)) ↔ ((r : Row) × IsRow r rs × (r.id ≡ id) × (r.lease ≡ l))
 
 -- and none exactly when no row has the id
 abbrev pub MissingExactly : Type 0
 MissingExactly = (rs : List Row) (id : List ℕ) → AreRows rs
-    → (find_in (table_bytes rs) id ≡ finds.Missing) ↔ ((r : Row) → IsRow r rs → r.id ≡ id → ⊥)
+    → (find_in (table_bytes rs) id ≡ Ok None) ↔ ((r : Row) → IsRow r rs → r.id ≡ id → ⊥)
 
 -- bytes that are no lease table are malformed, and no others
 abbrev pub MalformedExactly : Type 0
-MalformedExactly = (s id : List ℕ) → (find_in s id ≡ finds.Malformed) ↔ (table_ok s ≡ false)
+MalformedExactly = (s id : List ℕ) → (find_in s id ≡ Err malformed) ↔ (table_ok s ≡ false)

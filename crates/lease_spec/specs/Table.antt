@@ -1,15 +1,11 @@
 -- The lease table: its rows, their bytes, and the lease that it has under an id. Document 02, §4.
-use Rattle.std.specs.Prelude.{Bool, true, false, not, cond, ◌&&◌, ◌||◌, List, [], ◌∷◌, ◌++◌, ℕ, zero, suc, ◌+◌, ◌*◌, ◌/◌, ◌%◌, length, leb, eqb}
-use Rattle.std.proofs.Math.Option.{Option, none, some}
+use Rattle.std.specs.Prelude.{Bool, true, false, not, cond, Option, None, Some, Result, Ok, Err, ◌&&◌, ◌||◌, List, [], ◌∷◌, ◌++◌, ℕ, zero, suc, ◌+◌, ◌*◌, ◌/◌, ◌%◌, length, leb, eqb}
 use Rattle.octets.specs.Bytes.{part, same}
 use Rattle.octets.specs.Number.{big_endian, number_at}
 use Rattle.time.specs.Time.{seconds, milliseconds}
 use Rattle.descriptor_spec.specs.Allowed.{id_size}
 use Rattle.lease_spec.specs.declared.Lease.{Lease}
-use Rattle.lease_spec.specs.declared.LeaseRead.{LeaseRead}
-use Rattle.lease_spec.specs.declared.LeaseRead.TheVariants.{IsLease, NoLease}
-use Rattle.lease_spec.specs.declared.LeaseFound.{LeaseFound}
-use Rattle.lease_spec.specs.declared.LeaseFound.TheVariants.{Found, Missing, Malformed}
+use Rattle.lease_spec.specs.declared.Malformed.{Malformed}
 use Rattle.lease_spec.specs.Lease.{lease_ok}
 
 -- ---- rows
@@ -31,8 +27,8 @@ ids_differ (r ∷ rs) = not (has_id rs r.id) && ids_differ rs
 
 -- the lease of the row that has the id
 unfoldable pub lease_under : List Row → List ℕ → Option Lease
-lease_under [] id = none
-lease_under (r ∷ rs) id = cond (same r.id id) (some r.lease) (lease_under rs id)
+lease_under [] id = None
+lease_under (r ∷ rs) id = cond (same r.id id) (Some r.lease) (lease_under rs id)
 
 -- ---- the bytes of a row
 
@@ -114,8 +110,8 @@ row_ok s at =
     && (eqb (number_at s (at + zero_place) zero_width) 0 && lease_ok (lease_at s at))
 
 -- what is read at a place; no row where the bytes end before it does
-unfoldable pub lease_read : List ℕ → ℕ → LeaseRead
-lease_read s at = cond (leb (at + lease_size) (length s) && row_ok s at) (IsLease (lease_at s at)) NoLease
+unfoldable pub lease_read : List ℕ → ℕ → Option Lease
+lease_read s at = cond (leb (at + lease_size) (length s) && row_ok s at) (Some (lease_at s at)) None
 
 -- the row at a place
 unfoldable pub row_at : List ℕ → ℕ → Row
@@ -139,11 +135,10 @@ rows_ok s i (suc n) = row_ok s (lease_size * i) && rows_ok s (i + 1) n
 unfoldable pub table_ok : List ℕ → Bool
 table_ok s = eqb (length s % lease_size) 0 && (rows_ok s 0 (length s / lease_size) && ids_differ (rows_of s))
 
--- a lease or none, as the code answers it
-abbrev pub found_of : Option Lease → LeaseFound
-found_of (some l) = Found l
-found_of none = Missing
+-- the error of bytes that are no lease table
+abbrev pub malformed : Malformed
+malformed = record {}
 
 -- what bytes have under an id
-unfoldable pub find_in : List ℕ → List ℕ → LeaseFound
-find_in s id = cond (table_ok s) (found_of (lease_under (rows_of s) id)) Malformed
+unfoldable pub find_in : List ℕ → List ℕ → Result (Option Lease) Malformed
+find_in s id = cond (table_ok s) (Ok (lease_under (rows_of s) id)) (Err malformed)

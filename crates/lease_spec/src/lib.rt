@@ -1,5 +1,5 @@
 // Leases, as document 02 §4 has them after source 001. What is promised of them is in specs/Promises.antt. No function: here are the types
-// of a lease, its state, and what a row and a table answer; `lease` has the functions.
+// of a lease, its state, and the error of a table; `lease` has the functions.
 #![tactic(auto)]
 
 pub mod sizes;
@@ -20,7 +20,7 @@ pub struct Lease {
 }
 
 // The state of a lease at a clock. Active and stale have the margin: how long it is to the last active millisecond, below zero where that
-// has passed. Outside is for a lease or a clock outside the limits.
+// has passed.
 #[derive(Clone, Copy)]
 pub enum LeaseState {
     Revoked,
@@ -28,20 +28,8 @@ pub enum LeaseState {
     Active(Margin),
     Stale(Margin),
     Expired,
-    Outside,
 }
 
-// What a row of 64 bytes is read as.
+// The error of bytes that are no lease table.
 #[derive(Clone, Copy)]
-pub enum LeaseRead {
-    IsLease(Lease),
-    NoLease,
-}
-
-// What a lease table has under an id: a lease, or no row; or it is no lease table.
-#[derive(Clone, Copy)]
-pub enum LeaseFound {
-    Found(Lease),
-    Missing,
-    Malformed,
-}
+pub struct Malformed;

@@ -1,2 +1,1 @@
-pub mod OverCode
 pub mod LineCode

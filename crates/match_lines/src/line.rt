@@ -3,10 +3,10 @@ ghost use Rattle.std.specs.Prelude.{◌≡◌};
 ghost use Rattle.match_lines_spec.specs.Lines.{verdict_at, verdict as verdictOn};
 ghost use Rattle.match_lines_spec.specs.Block.{verdict_if};
 
-use crate::Verdict;
-use resource::Matching;
+use match_lines_spec::Verdict;
 
 // The verdict on a line with its first space after n bytes.
+#[tactic(auto, using(crate::proofs::LineCode::parted_laws))]
 fn parted(line: &[u8], n: usize) -> Verdict
     ensures { result ≡ verdict_at line.now n }
 {
@@ -14,14 +14,15 @@ fn parted(line: &[u8], n: usize) -> Verdict
         return Verdict::IsBad;
     }
     match resource::match_texts(&line[..n], &line[n + 1..]) {
-        Matching::Yes { names: _ } => Verdict::IsYes,
-        Matching::No => Verdict::IsNo,
-        Matching::Malformed => Verdict::IsBad,
+        Ok(Some(_)) => Verdict::IsYes,
+        Ok(None) => Verdict::IsNo,
+        Err(_) => Verdict::IsBad,
     }
 }
 
-// The verdict on a line.
-pub(crate) fn verdict(line: &[u8]) -> Verdict
+// The verdict on a line, given without its newline.
+#[tactic(auto, using(crate::proofs::LineCode::verdict_laws))]
+pub fn judge(line: &[u8]) -> Verdict
     ensures { result ≡ verdictOn line.now }
 {
     if line.len() <= 600 {
@@ -34,8 +35,5 @@ pub(crate) fn verdict(line: &[u8]) -> Verdict
 pub(crate) fn verdict_if(long: bool, line: &[u8]) -> Verdict
     ensures { result ≡ verdict_if long line.now }
 {
-    if long {
-        return Verdict::IsBad;
-    }
-    verdict(line)
+    if long { Verdict::IsBad } else { judge(line) }
 }

@@ -10,8 +10,8 @@ use lib.ListN.{length, take, drop, length-append}
 use lib.Seq.{take_at}
 use lib.Dec.{eqb, leb}
 use borrow.Author.Tests.{eqb-true, leb-true, leb-false, le-leb, lt-leb}
-use Rattle.resource_spec.specs.declared.Matching.{Matching}
-use Rattle.resource_spec.specs.declared.Matching.TheVariants.{Yes, No, Malformed}
+use Rattle.std.proofs.Common.{Option, Some, None, Result, Ok, Err}
+use Rattle.resource_spec.specs.declared.Malformed.{Malformed}
 use Rattle.resource_spec.specs.Characters.{codes}
 use Rattle.octets.specs.Scan.{bytes_before}
 use Rattle.resource_spec.specs.Pattern.{Path, path_text, Pattern, pattern_text, admits, names_matched}
@@ -44,18 +44,19 @@ parts_at (b ∷ bs) h = go (eqb b 32) refl (parts_at bs)
 -- ---- what matching answers, from its numbers
 
 -- the numbers for yes and no are those of yes and no alone
-cond_matching : (m : Matching) (b : Bool) (n : ℕ) → numbers_of m ≡ record { answer = 0; yes = cond b 1 0; names = n } → m ≡ yes_with b n
-cond_matching (Yes k) true n e = ap Yes (ap (λ x. x.names) e)
-cond_matching (Yes k) false n e = absurd (omega (arith, ap (λ x. x.yes) e))
-cond_matching No true n e = absurd (omega (arith, ap (λ x. x.yes) e))
-cond_matching No false n e = refl
-cond_matching Malformed b n e = absurd (omega (arith, ap (λ x. x.answer) e))
+cond_matching : (m : Result (Option ℕ) Malformed) (b : Bool) (n : ℕ) → numbers_of m ≡ record { answer = 0; yes = cond b 1 0; names = n }
+    → m ≡ Ok (yes_with b n)
+cond_matching (Ok (Some k)) true n e = ap (λ (x : ℕ). Ok (Some x)) (ap (λ x. x.names) e)
+cond_matching (Ok (Some k)) false n e = absurd (omega (arith, ap (λ x. x.yes) e))
+cond_matching (Ok None) true n e = absurd (omega (arith, ap (λ x. x.yes) e))
+cond_matching (Ok None) false n e = refl
+cond_matching (Err malformed) b n e = absurd (omega (arith, ap (λ x. x.answer) e))
 
 -- 15 is the number of malformed texts alone
-bad_matching : (m : Matching) → numbers_of m ≡ record { answer = 15; yes = 0; names = 0 } → m ≡ Malformed
-bad_matching (Yes k) e = absurd (omega (arith, ap (λ n. n.answer) e))
-bad_matching No e = absurd (omega (arith, ap (λ n. n.answer) e))
-bad_matching Malformed e = refl
+bad_matching : (m : Result (Option ℕ) Malformed) → numbers_of m ≡ record { answer = 15; yes = 0; names = 0 } → m ≡ Err (record {})
+bad_matching (Ok (Some k)) e = absurd (omega (arith, ap (λ n. n.answer) e))
+bad_matching (Ok None) e = absurd (omega (arith, ap (λ n. n.answer) e))
+bad_matching (Err malformed) e = refl
 
 -- ---- the verdict
 
@@ -79,12 +80,12 @@ asks_verdict line p x a =
     let fits : leb (length (l ++ (32 ∷ r))) 600 ≡ true =
     le-leb (length (l ++ (32 ∷ r))) 600 (omega (arith, size, a.pattern_fits, a.path_fits)) in
     let some : leb (length (l ++ (32 ∷ r))) (length l) ≡ false = lt-leb (length (l ++ (32 ∷ r))) (length l) (omega (arith, size)) in
-    let m : matching l r ≡ yes_with (admits p x) (names_matched p x) =
+    let m : matching l r ≡ Ok (yes_with (admits p x) (names_matched p x)) =
     cond_matching (matching l r) (admits p x) (names_matched p x)
     (matching_exact p x a.pattern a.path a.pattern_fits a.path_fits) in
     rw (a.spelled, fits, n, some, take_at l (32 ∷ r) (length l) refl, after_space l r, m) (go (admits p x) (names_matched p x))
   where
-    go : (b : Bool) (n : ℕ) → verdict_of (yes_with b n) ≡ verdict_for b
+    go : (b : Bool) (n : ℕ) → verdict_of (Ok (yes_with b n)) ≡ verdict_for b
     go true n = refl
     go false n = refl
 

@@ -7,7 +7,7 @@ use Rattle.octets.specs.Write.{over}
 use Rattle.match_lines_spec.specs.declared.Verdict.{Verdict}
 use Rattle.match_lines_spec.specs.declared.Verdict.TheVariants.{IsBad}
 use Rattle.match_lines_spec.specs.declared.Progress.{Progress}
-use Rattle.match_lines_spec.specs.declared.Progress.TheVariants.{Done, NoRoom}
+use Rattle.std.specs.Prelude.{Option, Some, None}
 use Rattle.match_lines_spec.specs.Lines.{longest_line, verdict_line, verdict, last_line}
 
 -- what comes of a block: what is written, the bytes that are kept of a line that has begun, and whether that line is too long
@@ -56,12 +56,14 @@ line_length s = bytes_before 10 s
 -- how many bytes are kept at the end of a block whose last line begins at `from`, and whether that line is too long
 unfoldable pub end_of : Bool → List ℕ → ℕ → ℕ → Progress
 end_of long s from written =
-    cond (long || ltb longest_line (length s - from)) (Done written 0 true) (Done written (length s - from) false)
+    cond (long || ltb longest_line (length s - from)) (record { written = written; kept = 0; long = true })
+    (record { written = written; kept = length s - from; long = false })
 
 -- what a block comes to: an output of fewer than four bytes for each of the block is refused
-unfoldable pub progress_of : Bool → List ℕ → ℕ → Progress
+unfoldable pub progress_of : Bool → List ℕ → ℕ → Option Progress
 progress_of long s room =
-    cond (ltb (room / 4) (length s)) NoRoom (Done (length (fed long s).out) (length (fed long s).kept) (fed long s).long)
+    let f = fed long s in
+    cond (ltb (room / 4) (length s)) None (Some (record { written = length f.out; kept = length f.kept; long = f.long }))
 
 -- the output after a block: the answers are at its start, and the rest is as it was
 unfoldable pub output_of : Bool → List ℕ → List ℕ → List ℕ
@@ -72,8 +74,8 @@ unfoldable pub buffer_of : Bool → List ℕ → ℕ → ℕ → List ℕ
 buffer_of long d n room = cond (ltb (room / 4) (length (take n d))) d (over d 0 (fed long (take n d)).kept)
 
 -- what the end of the input comes to
-unfoldable pub end_progress : Bool → List ℕ → ℕ → Progress
-end_progress long s room = cond (ltb room 4) NoRoom (Done (length (ended long s)) 0 false)
+unfoldable pub end_progress : Bool → List ℕ → ℕ → Option Progress
+end_progress long s room = cond (ltb room 4) None (Some (record { written = length (ended long s); kept = 0; long = false }))
 
 -- the output after the end of the input
 unfoldable pub end_output : Bool → List ℕ → List ℕ → List ℕ

@@ -3,8 +3,8 @@
 -- each.
 use Rattle.std.specs.Prelude.{true, false, cond, List, [], ◌∷◌, ◌++◌, ℕ, suc, length, take, drop, leb, eqb}
 use Rattle.octets.specs.Scan.{bytes_before}
-use Rattle.resource_spec.specs.declared.Matching.{Matching}
-use Rattle.resource_spec.specs.declared.Matching.TheVariants.{Yes, No, Malformed}
+use Rattle.std.specs.Prelude.{Option, Some, None, Result, Ok, Err}
+use Rattle.resource_spec.specs.declared.Malformed.{Malformed}
 use Rattle.resource_spec.specs.Text.{matching}
 use Rattle.match_lines_spec.specs.declared.Verdict.{Verdict}
 use Rattle.match_lines_spec.specs.declared.Verdict.TheVariants.{IsYes, IsNo, IsBad}
@@ -20,10 +20,10 @@ verdict_line IsNo = 110 ∷ 111 ∷ 10 ∷ []
 verdict_line IsBad = 98 ∷ 97 ∷ 100 ∷ 10 ∷ []
 
 -- bad is also for what matching answers with 15
-abbrev pub verdict_of : Matching → Verdict
-verdict_of (Yes names) = IsYes
-verdict_of No = IsNo
-verdict_of Malformed = IsBad
+abbrev pub verdict_of : Result (Option ℕ) Malformed → Verdict
+verdict_of (Ok (Some names)) = IsYes
+verdict_of (Ok None) = IsNo
+verdict_of (Err malformed) = IsBad
 
 -- how many bytes stand before the first space, or all where there is none
 abbrev pub before_space : List ℕ → ℕ

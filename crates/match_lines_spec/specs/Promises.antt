@@ -3,7 +3,7 @@
 use Rattle.std.specs.Prelude.{◌≡◌, ◌↔◌, List, [], ◌∷◌, ◌++◌, Bool, true, false, ℕ, ◌-◌, ◌*◌, ◌≤◌, ◌<◌, length, take, drop}
 use Rattle.resource_spec.specs.Characters.{codes}
 use Rattle.resource_spec.specs.Pattern.{Path, IsPath, path_text, Pattern, IsPattern, pattern_text, admits}
-use Rattle.match_lines_spec.specs.declared.Progress.TheVariants.{Done, NoRoom}
+use Rattle.std.specs.Prelude.{Some, None}
 use Rattle.match_lines_spec.specs.Lines.{verdict_line, verdict, answers}
 use Rattle.match_lines_spec.specs.Block.{fed, ended, progress_of, output_of, buffer_of, end_progress, end_output}
 
@@ -93,7 +93,8 @@ OutFits = (long : Bool) (s : List ℕ) → length (fed long s).out ≤ 4 * lengt
 -- where the output has four bytes for each byte of a block, the block's answers are at its start, and the rest of it is as it was
 abbrev pub BlockWritten : Type 0
 BlockWritten = (long : Bool) (s out : List ℕ) → 4 * length s ≤ length out
-    → (progress_of long s (length out) ≡ Done (length (fed long s).out) (length (fed long s).kept) (fed long s).long)
+    → (progress_of long s (length out)
+    ≡ Some (record { written = length (fed long s).out; kept = length (fed long s).kept; long = (fed long s).long }))
     × (output_of long s out ≡ (fed long s).out ++ drop (length (fed long s).out) out)
 
 -- the bytes that are kept of a block, the first n of a buffer, are then at the buffer's start, and the rest of it is as it was
@@ -104,15 +105,15 @@ BlockKept = (long : Bool) (d : List ℕ) (n room : ℕ) → 4 * length (take n d
 -- with a shorter output nothing is done
 abbrev pub BlockRefused : Type 0
 BlockRefused = (long : Bool) (d : List ℕ) (n : ℕ) (out : List ℕ) → length out < 4 * length (take n d)
-    → (progress_of long (take n d) (length out) ≡ NoRoom) × (output_of long (take n d) out ≡ out) × (buffer_of long d n (length out) ≡ d)
+    → (progress_of long (take n d) (length out) ≡ None) × (output_of long (take n d) out ≡ out) × (buffer_of long d n (length out) ≡ d)
 
 -- at the end of the input, where the output has four bytes, the answer to a last line without newline is at its start, and the rest of
 -- it is as it was
 abbrev pub EndWritten : Type 0
 EndWritten = (long : Bool) (s out : List ℕ) → 4 ≤ length out
-    → (end_progress long s (length out) ≡ Done (length (ended long s)) 0 false)
+    → (end_progress long s (length out) ≡ Some (record { written = length (ended long s); kept = 0; long = false }))
     × (end_output long s out ≡ ended long s ++ drop (length (ended long s)) out)
 
 -- with a shorter output nothing is done
 abbrev pub EndRefused : Type 0
-EndRefused = (long : Bool) (s out : List ℕ) → length out < 4 → (end_progress long s (length out) ≡ NoRoom) × (end_output long s out ≡ out)
+EndRefused = (long : Bool) (s out : List ℕ) → length out < 4 → (end_progress long s (length out) ≡ None) × (end_output long s out ≡ out)

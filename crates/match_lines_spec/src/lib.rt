@@ -12,13 +12,11 @@ pub enum Verdict {
 }
 
 // What was done with a block: how many bytes were written at the start of the output; how many of the block's last bytes are kept for
-// the next; whether the line that has begun is too long. NoRoom: the output is too short, and nothing was done.
+// the next; whether the line that has begun is too long. What may be refused answers None where the output is too short; then nothing was
+// done.
 #[derive(Clone, Copy)]
-pub enum Progress {
-    Done {
-        written: usize,
-        kept: usize,
-        long: bool,
-    },
-    NoRoom,
+pub struct Progress {
+    pub written: usize,
+    pub kept: usize,
+    pub long: bool,
 }

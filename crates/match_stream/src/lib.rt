@@ -2,23 +2,12 @@
 // written for what was read; no contract can say what a program reads or writes.
 #![tactic(auto)]
 
-ghost use Rattle.std.specs.Counts.{IsPrefixLen};
-
-use match_lines::Progress;
 use std::io;
 use std::io::{Read, Write};
 
-// n, or the length of s where n is more.
-fn within(n: usize, s: &[u8]) -> usize
-    ensures { IsPrefixLen result s.now }
-{
-    if n <= s.len() { n } else { s.len() }
-}
-
 // Writes the first n bytes of `out`, or fails where a write takes nothing or fails.
 fn write<W: Write>(output: &mut W, out: &[u8], n: usize) -> io::Result<()> {
-    let size = within(n, out);
-    output.write_all(&out[..size])
+    output.write_all(&out[..n.min(out.len())])
 }
 
 // Reads into the buffer from the place `kept` on, and answers how many bytes the buffer then has; `kept` at the end of the input.
@@ -39,12 +28,8 @@ fn finish<W: Write>(
     out: &mut [u8],
 ) -> io::Result<()> {
     match match_lines::answer_end(buffer, kept, long, out) {
-        Progress::Done {
-            written,
-            kept: _,
-            long: _,
-        } => write(output, out, written),
-        Progress::NoRoom => Ok(()),
+        Some(progress) => write(output, out, progress.written),
+        None => Ok(()),
     }
 }
 
@@ -62,22 +47,14 @@ pub fn answer_input<R: Read, W: Write>(
     // a proved loop has to end, and nothing says that an input does: the count is one that no run uses up
     for _ in 0..u64::MAX {
         match read_more(input, buffer, kept) {
+            Ok(n) if n == kept => return finish(output, buffer, kept, long, out),
             Ok(n) => {
-                if n == kept {
-                    return finish(output, buffer, kept, long, out);
-                }
-                match match_lines::answer_block(buffer, n, long, out) {
-                    Progress::Done {
-                        written,
-                        kept: k,
-                        long: l,
-                    } => {
-                        write(output, out, written)?;
-                        kept = k;
-                        long = l;
-                    }
-                    Progress::NoRoom => return Ok(()),
-                }
+                let Some(progress) = match_lines::answer_block(buffer, n, long, out) else {
+                    return Ok(());
+                };
+                write(output, out, progress.written)?;
+                kept = progress.kept;
+                long = progress.long;
             }
             Err(e) => {
                 finish(output, buffer, kept, long, out)?;

@@ -3,7 +3,6 @@
 use mathlib.Core.Path.{◌≡◌, refl, sym, ap, ap₂, ◌∙◌}
 use mathlib.Core.Bool.{Bool, true, false, not, cond}
 use mathlib.Core.List.{List}
-use mathlib.Core.Option.{Option, none, some}
 use Prim.Native.Nat.{ℕ, zero, suc, ◌+◌, ◌-◌, ◌≤◌, ◌<◌}
 use native.Mathlib.Numerals.{add-one}
 use native.Mathlib.Nat.{add-zero, zero-add}
@@ -20,13 +19,13 @@ use Rattle.octets.proofs.SameLaws.{same_equal}
 use Rattle.descriptor_spec.specs.Model.{Grant}
 use Rattle.descriptor_spec.specs.Reader.{has_mode, GrantSeen, grant_at, Seen, read, read_of}
 use Rattle.descriptor_spec.specs.Laws.{SeenAs, InTurn, no_more, one_more}
-use Rattle.narrowing_spec.specs.declared.Narrowing.TheVariants.{NotCovered}
-use Rattle.narrowing.specs.declared.search.Found.{Found}
-use Rattle.narrowing.specs.declared.search.Found.TheVariants.{At, Nothing}
-use Rattle.narrowing_spec.specs.Escape.{Rule, covered, can_take, escapes_with, deepest, choose, least, is_some, or_zero, fewest_names}
+use Rattle.narrowing_spec.specs.declared.NarrowingError.TheVariants.{NotCovered}
+use Rattle.std.proofs.Common.{Option, Some, None, Err, is_some}
+use Rattle.narrowing.specs.declared.search.Escape.{Escape}
+use Rattle.narrowing_spec.specs.Escape.{Rule, covered, can_take, escapes_with, deepest, least, or_zero, fewest_names}
 use Rattle.narrowing_spec.specs.Escape.{lowest_mode, rule_at, first_rule}
 use Rattle.narrowing.specs.Range.{most}
-use Rattle.narrowing.specs.Code.{below, marked_at, lacks_at, found_at, lowest_from, lowest_in, zeros, escape_in, or_next, first_in}
+use Rattle.narrowing.specs.Code.{below, marked_at, lacks_at, at_mode, found_at, lowest_from, lowest_in, zeros, escape_in, or_next, first_in}
 use Rattle.narrowing_spec.specs.Narrow.{rules_in, answer_at}
 use Rattle.narrowing_spec.specs.Laws.{rule_for, rules_of}
 use Rattle.narrowing_spec.proofs.Laws.{rules_in_turn, least_fails, least_same, names_settle}
@@ -40,12 +39,12 @@ least_longer : (f : ℕ → Bool) (c : ℕ) → ((j : ℕ) → c ≤ j → f j �
     → least f a (suc n) ≡ least f a (suc (n + e))
 least_longer f c s a zero e h = go (f a) refl
   where
-    go : (b : Bool) → f a ≡ b → choose b (some a) none ≡ choose b (some a) (least f (suc a) (0 + e))
+    go : (b : Bool) → f a ≡ b → cond b (Some a) None ≡ cond b (Some a) (least f (suc a) (0 + e))
     go true q = refl
     go false q = sym (least_fails f (suc a) (0 + e) (λ j l g. s j (omega arith) ∙ sym (s a (omega arith)) ∙ q))
 least_longer f c s a (suc n) e h =
     let i : suc (n + e) ≡ suc n + e = omega arith in
-    ap (choose (f a) (some a)) (least_longer f c s (suc a) n e (omega arith) ∙ ap (least f (suc a)) i)
+    ap (cond (f a) (Some a)) (least_longer f c s (suc a) n e (omega arith) ∙ ap (least f (suc a)) i)
 
 -- a search from 0 on, where 0 fails and nothing changes after n + 1, finds what one from 1 on does
 deep_search : (f g : ℕ → Bool) (n t : ℕ) → f 0 ≡ false → ((j : ℕ) → n < j → f j ≡ f (suc n)) → n < t
@@ -53,7 +52,7 @@ deep_search : (f g : ℕ → Bool) (n t : ℕ) → f 0 ≡ false → ((j : ℕ) 
 deep_search f g n t z s l h =
     let two : 2 + n ≡ suc (suc n) = omega arith in
     let size : suc (n + (t - suc n)) ≡ t = omega arith in
-    ap (least f 0) two ∙ ap (λ (b : Bool). choose b (some 0) (least f 1 (suc n))) z
+    ap (least f 0) two ∙ ap (λ (b : Bool). cond b (Some 0) (least f 1 (suc n))) z
     ∙ least_longer f (suc n) (λ j i. s j i) 1 n (t - suc n) (omega arith) ∙ ap (least f 1) size ∙ least_same f g 1 t later
   where
     later : (j : ℕ) → 1 ≤ j → j < 1 + t → f j ≡ g j
@@ -64,7 +63,7 @@ deep_search f g n t z s l h =
 flat_search : (f g : ℕ → Bool) (n : ℕ) → f 0 ≡ g 0 → ((j : ℕ) → f (suc j) ≡ false) → least f 0 (2 + n) ≡ least g 0 1
 flat_search f g n z s =
     let two : 2 + n ≡ suc (suc n) = omega arith in
-    ap (least f 0) two ∙ ap₂ (λ (b : Bool) (o : Option ℕ). choose b (some 0) o) z (least_fails f 1 (suc n) later)
+    ap (least f 0) two ∙ ap₂ (λ (b : Bool) (o : Option ℕ). cond b (Some 0) o) z (least_fails f 1 (suc n) later)
   where
     later : (j : ℕ) → 1 ≤ j → j < 1 + suc n → f j ≡ false
     later zero i l = absurd (omega arith)
@@ -94,16 +93,16 @@ fewest_flat qs g d m t e o =
     (λ j. rw (e, o))
 
 -- in a mode that the rule does not have no path escapes by it
-fewest_off : (qs : List Rule) (g : Rule) (m : ℕ) → has_mode g.mask m ≡ false → fewest_names qs g m ≡ none
+fewest_off : (qs : List Rule) (g : Rule) (m : ℕ) → has_mode g.mask m ≡ false → fewest_names qs g m ≡ None
 unfolding fewest_names
 fewest_off qs g m o = least_fails (escapes_with qs g m) 0 (2 + deepest qs) (λ j l g. rw o)
 
 -- ---- the modes of a rule
 
 -- what is found of a rule: the lowest mode with its fewest names
-abbrev found_of : List Rule → Rule → Option ℕ → Found
-found_of qs g none = Nothing
-found_of qs g (some m) = At m (or_zero (fewest_names qs g m))
+abbrev found_of : List Rule → Rule → Option ℕ → Option Escape
+found_of qs g None = None
+found_of qs g (Some m) = Some (at_mode m (or_zero (fewest_names qs g m)))
 
 -- the search of numbers of names answers the fewest in each mode
 abbrev Fewest : List Rule → Rule → List ℕ → ℕ → ℕ → Type 0
@@ -122,12 +121,12 @@ lowest_step qs g d from to m n h = go (has_mode g.mask m) refl
 
 -- a mode in which a path escapes comes before the next modes
 found_step : (qs : List Rule) (g : Rule) (m : ℕ) (rest : Option ℕ)
-    → found_at m (fewest_names qs g m) (found_of qs g rest) ≡ found_of qs g (choose (is_some (fewest_names qs g m)) (some m) rest)
+    → found_at m (fewest_names qs g m) (found_of qs g rest) ≡ found_of qs g (cond (is_some (fewest_names qs g m)) (Some m) rest)
 found_step qs g m rest = go (fewest_names qs g m) refl
   where
-    go : (o : Option ℕ) → fewest_names qs g m ≡ o → found_at m o (found_of qs g rest) ≡ found_of qs g (choose (is_some o) (some m) rest)
-    go none e = refl
-    go (some k) e = ap (λ (o : Option ℕ). At m (or_zero o)) (sym e)
+    go : (o : Option ℕ) → fewest_names qs g m ≡ o → found_at m o (found_of qs g rest) ≡ found_of qs g (cond (is_some o) (Some m) rest)
+    go None e = refl
+    go (Some k) e = ap (λ (o : Option ℕ). Some (at_mode m (or_zero o))) (sym e)
 
 -- the search of modes answers the lowest with its fewest names
 lowest_found : (qs : List Rule) (g : Rule) (d : List ℕ) (from to m n : ℕ) → Fewest qs g d from to
@@ -180,13 +179,13 @@ first_step s at count shared t i n from next g e = rw (first_in, e, add-one)
 -- an escape by a rule comes before those by the next rules
 answer_step : (qs cs : List Rule) (i : ℕ) (rest : Option ℕ)
     → or_next i (found_of qs (rule_at cs i) (lowest_mode qs (rule_at cs i))) (answer_at qs cs rest)
-    ≡ answer_at qs cs (choose (is_some (lowest_mode qs (rule_at cs i))) (some i) rest)
+    ≡ answer_at qs cs (cond (is_some (lowest_mode qs (rule_at cs i))) (Some i) rest)
 answer_step qs cs i rest = go (lowest_mode qs (rule_at cs i)) refl
   where
     go : (o : Option ℕ) → lowest_mode qs (rule_at cs i) ≡ o
-        → or_next i (found_of qs (rule_at cs i) o) (answer_at qs cs rest) ≡ answer_at qs cs (choose (is_some o) (some i) rest)
-    go none e = refl
-    go (some m) e = ap (λ (o : Option ℕ). NotCovered i (or_zero o) (or_zero (fewest_names qs (rule_at cs i) (or_zero o)))) (sym e)
+        → or_next i (found_of qs (rule_at cs i) o) (answer_at qs cs rest) ≡ answer_at qs cs (cond (is_some o) (Some i) rest)
+    go None e = refl
+    go (Some m) e = ap (λ (o : Option ℕ). Err (NotCovered i (or_zero o) (or_zero (fewest_names qs (rule_at cs i) (or_zero o))))) (sym e)
 
 -- the rule of the mask that is seen of a grant, the child's terminal id and the levels that are seen is the grant's
 rule_seen : {s u : List ℕ} {g : Grant} {v : GrantSeen} → SeenAs s u g v → rule_with v.mask u (below s v.pattern) ≡ rule_for g

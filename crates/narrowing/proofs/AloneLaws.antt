@@ -2,26 +2,25 @@
 use mathlib.Core.Path.{◌≡◌, refl, sym, ap, ◌∙◌, subst}
 use mathlib.Core.Bool.{Bool, true, false, not, cond, ◌||◌}
 use mathlib.Core.List.{List}
-use mathlib.Core.Option.{none}
 use Prim.Native.Nat.{ℕ, zero, suc, ◌+◌, ◌-◌, ◌≤◌, ◌<◌}
 use native.Mathlib.Decide.{dec_lt}
 use native.Mathlib.Omega.{arith}
-use lib.ListN.{length, get_or, take, drop, length-replicate}
+use lib.ListN.{length, get_or, length-replicate}
 use lib.Dec.{eqb, leb, ltb}
 use lib.Bits.{bit_or}
-use borrow.Author.Tests.{leb-true, eqb-true, ne_eqb, eq-eqb, le-leb, lt-ltb}
-use Rattle.octets.specs.Bytes.{part}
+use borrow.Author.Tests.{leb-true, eqb-true, le-leb, lt-ltb}
 use Rattle.resource_spec.specs.Level.{levels}
 use Rattle.resource_spec.specs.Pattern.{ends_deep}
 use Rattle.resource_spec.specs.Text.{levels_of}
 use Rattle.octets.proofs.Tests.{and_left, and_right, no_flag}
 use Rattle.descriptor_spec.specs.Reader.{has_mode}
-use Rattle.narrowing.specs.declared.range.Range.{Range}
-use Rattle.narrowing.specs.declared.search.Found.TheVariants.{Nothing}
+use Rattle.narrowing.specs.Range.{Range}
+use Rattle.narrowing.specs.declared.search.Row.{Row}
+use Rattle.std.proofs.Common.{None}
 use Rattle.narrowing_spec.specs.Escape.{least}
 use Rattle.narrowing.specs.Range.{in_range, most, text_range}
-use Rattle.narrowing.specs.Code.{row_start, row_end, row_mask, row_levels, marked_rows, lacks_at, lowest_from, lowest_in, zeros, EscapeOf}
-use Rattle.narrowing.specs.Code.{full_range, row_covers}
+use Rattle.narrowing.specs.Code.{row_at, row_levels, marked_rows, lacks_at, lowest_from, lowest_in, zeros, EscapeOf}
+use Rattle.narrowing.specs.Code.{row_marked, full_range, row_covers}
 use Rattle.narrowing_spec.proofs.Laws.{least_fails}
 use Rattle.narrowing.proofs.RangeLaws.{marked_at_lem, or_mode}
 use Rattle.narrowing.proofs.TableLaws.{rows_length, escape_nothing}
@@ -62,14 +61,14 @@ Have d from to m = (k : ℕ) → from ≤ k → k < to → has_mode (get_or d k 
 
 -- where they have each mode of the mask, nothing is found
 pub lowest_nothing : (d : List ℕ) (mask from to : ℕ) → from ≤ to → ((m : ℕ) → has_mode mask m ≡ true → Have d from to m)
-    → (m n : ℕ) → lowest_from d mask from to m n ≡ Nothing
+    → (m n : ℕ) → lowest_from d mask from to m n ≡ None
 unfolding lowest_from
 lowest_nothing d mask from to l h m zero = refl
 lowest_nothing d mask from to l h m (suc n) = go (has_mode mask m) refl (lowest_nothing d mask from to l h (m + 1) n)
   where
-    go : (b : Bool) → has_mode mask m ≡ b → lowest_from d mask from to (m + 1) n ≡ Nothing → lowest_from d mask from to m (suc n) ≡ Nothing
+    go : (b : Bool) → has_mode mask m ≡ b → lowest_from d mask from to (m + 1) n ≡ None → lowest_from d mask from to m (suc n) ≡ None
     go true e r =
-        let o : least (lacks_at d m) from (to - from) ≡ none =
+        let o : least (lacks_at d m) from (to - from) ≡ None =
         least_fails (lacks_at d m) from (to - from) (λ k f g. ap not (h m e k f (omega arith))) in
         rw (lowest_from, e, o, r)
     go false e r = rw (lowest_from, e, r)
@@ -90,18 +89,18 @@ or_true false = refl
 pub joined : (x y m : ℕ) → has_mode y m ≡ true → has_mode (bit_or x y) m ≡ true
 joined x y m h = or_mode x y m ∙ ap (λ (c : Bool). has_mode x m || c) h ∙ or_true (has_mode x m)
 
-module _ (s t p d : List ℕ) (m k : ℕ) (l : k < length d) where
+module _ (s : List ℕ) (t : List Row) (p d : List ℕ) (m k : ℕ) (l : k < length d) where
   -- the mask at k, after one row more is marked
   row_at_lem : (n : ℕ) → (let x = get_or (marked_rows s t p d n) k 0 in
-      get_or (marked_rows s t p d (suc n)) k 0 ≡ cond (in_range (text_range (row_levels s t n) p) k) (bit_or x (row_mask t n)) x)
-  unfolding marked_rows
-  row_at_lem n = marked_at_lem (marked_rows s t p d n) (text_range (row_levels s t n) p) (row_mask t n) k (omega (arith, rows_length s t p d n))
+      get_or (marked_rows s t p d (suc n)) k 0 ≡ cond (in_range (text_range (row_levels s (row_at t n)) p) k) (bit_or x (row_at t n).mask) x)
+  unfolding marked_rows row_marked
+  row_at_lem n = marked_at_lem (marked_rows s t p d n) (text_range (row_levels s (row_at t n)) p) (row_at t n).mask k (omega (arith, rows_length s t p d n))
 
   -- it keeps its modes
   row_keeps : (n : ℕ) → has_mode (get_or (marked_rows s t p d n) k 0) m ≡ true → has_mode (get_or (marked_rows s t p d (suc n)) k 0) m ≡ true
   row_keeps n h =
-      ap (λ (y : ℕ). has_mode y m) (row_at_lem n) ∙ kept (in_range (text_range (row_levels s t n) p) k) (get_or (marked_rows s t p d n) k 0)
-      (row_mask t n) m h
+      ap (λ (y : ℕ). has_mode y m) (row_at_lem n) ∙ kept (in_range (text_range (row_levels s (row_at t n)) p) k) (get_or (marked_rows s t p d n) k 0)
+      (row_at t n).mask m h
 
   -- after n rows it has the modes that it had after i of them
   pub rows_keep : (i : ℕ) → has_mode (get_or (marked_rows s t p d i) k 0) m ≡ true → (n : ℕ) → i ≤ n
@@ -115,80 +114,69 @@ module _ (s t p d : List ℕ) (m k : ℕ) (l : k < length d) where
       go (no e) f = let this : i ≡ suc n = omega arith in subst (λ (j : ℕ). has_mode (get_or (marked_rows s t p d j) k 0) m ≡ true) this h
 
   -- after n rows it has a mode of a row whose range has k
-  rows_have : (i : ℕ) → has_mode (row_mask t i) m ≡ true → in_range (text_range (row_levels s t i) p) k ≡ true
+  rows_have : (i : ℕ) → has_mode (row_at t i).mask m ≡ true → in_range (text_range (row_levels s (row_at t i)) p) k ≡ true
       → (n : ℕ) → i < n → has_mode (get_or (marked_rows s t p d n) k 0) m ≡ true
   rows_have i h r n g =
       let x : ℕ = get_or (marked_rows s t p d i) k 0 in
       let here : has_mode (get_or (marked_rows s t p d (suc i)) k 0) m ≡ true =
-      ap (λ (y : ℕ). has_mode y m) (row_at_lem i) ∙ ap (λ (b : Bool). has_mode (cond b (bit_or x (row_mask t i)) x) m) r
-      ∙ joined x (row_mask t i) m h in
+      ap (λ (y : ℕ). has_mode y m) (row_at_lem i) ∙ ap (λ (b : Bool). has_mode (cond b (bit_or x (row_at t i).mask) x) m) r
+      ∙ joined x (row_at t i).mask m h in
       rows_keep (suc i) here n g
 
 -- ---- a row that covers alone
 
 -- the numbers between two that the range has
-pub between : (r : Range) (a b k : ℕ) → (r.lo ≤ a) × (b ≤ r.hi) → a ≤ k → k < b → in_range r k ≡ true
-between r a b k e f g = rw (le-leb r.lo k (omega (arith, e.0)), lt-ltb k r.hi (omega (arith, e.1)))
+pub between : (r : Range) (a b k : ℕ) → (r.start ≤ a) × (b ≤ r.end) → a ≤ k → k < b → in_range r k ≡ true
+between r a b k e f g = rw (le-leb r.start k (omega (arith, e.0)), lt-ltb k r.end (omega (arith, e.1)))
 
 -- with "**" those that it can take
-full_deep : (r : Range) → full_range r true ≡ true → (r.lo ≤ 1) × (most ≤ r.hi)
+full_deep : (r : Range) → full_range r true ≡ true → (r.start ≤ 1) × (most ≤ r.end)
 full_deep r e = (
-  leb-true r.lo 1 (and_left (leb r.lo 1) (leb most r.hi) e),
-  leb-true most r.hi
-      (and_right (leb r.lo 1) (leb most r.hi) e),
+  leb-true r.start 1 (and_left (leb r.start 1) (leb most r.end) e),
+  leb-true most r.end
+      (and_right (leb r.start 1) (leb most r.end) e),
 )
 
 -- without "**" 0
-full_flat : (r : Range) → full_range r false ≡ true → (r.lo ≤ 0) × (1 ≤ r.hi)
+full_flat : (r : Range) → full_range r false ≡ true → (r.start ≤ 0) × (1 ≤ r.end)
 full_flat r e =
-    let lo : r.lo ≡ 0 = eqb-true r.lo 0 (and_left (eqb r.lo 0) (ltb 0 r.hi) e) in
-    (omega arith, leb-true 1 r.hi (and_right (eqb r.lo 0) (ltb 0 r.hi) e))
+    let lo : r.start ≡ 0 = eqb-true r.start 0 (and_left (eqb r.start 0) (ltb 0 r.end) e) in
+    (omega arith, leb-true 1 r.end (and_right (eqb r.start 0) (ltb 0 r.end) e))
 
 -- a full range has them
-pub full_all : (r : Range) (deep : Bool) → full_range r deep ≡ true → (r.lo ≤ low deep) × (high deep ≤ r.hi)
+pub full_all : (r : Range) (deep : Bool) → full_range r deep ≡ true → (r.start ≤ low deep) × (high deep ≤ r.end)
 full_all r true e = full_deep r e
 full_all r false e = full_flat r e
 
-module _ (s t p : List ℕ) (i n mask : ℕ) (l : i < n) (e : bit_or (row_mask t i) mask ≡ row_mask t i) where
+module _ (s : List ℕ) (t : List Row) (p : List ℕ) (i n mask : ℕ) (l : i < n) (e : bit_or (row_at t i).mask mask ≡ (row_at t i).mask) where
   -- the masks from a on and below b have each mode, where the range of the row has these numbers
-  rows_full : (a b : ℕ) → b ≤ most → ((text_range (row_levels s t i) p).lo ≤ a) × (b ≤ (text_range (row_levels s t i) p).hi)
+  rows_full : (a b : ℕ) → b ≤ most → ((text_range (row_levels s (row_at t i)) p).start ≤ a) × (b ≤ (text_range (row_levels s (row_at t i)) p).end)
       → (m : ℕ) → has_mode mask m ≡ true → Have (marked_rows s t p zeros n) a b m
   rows_full a b h f m g k v w =
       let size : length zeros ≡ most = length-replicate {A = ℕ} most 0 in
-      rows_have s t p zeros m k (omega arith) i (sym (ap (λ (x : ℕ). has_mode x m) e) ∙ joined (row_mask t i) mask m g)
-      (between (text_range (row_levels s t i) p) a b k f v w) n l
+      rows_have s t p zeros m k (omega arith) i (sym (ap (λ (x : ℕ). has_mode x m) e) ∙ joined (row_at t i).mask mask m g)
+      (between (text_range (row_levels s (row_at t i)) p) a b k f v w) n l
 
   -- nothing is lacking
-  full_nothing : (deep : Bool) → full_range (text_range (row_levels s t i) p) deep ≡ true
-      → Nothing ≡ lowest_in deep (marked_rows s t p zeros n) mask
+  full_nothing : (deep : Bool) → full_range (text_range (row_levels s (row_at t i)) p) deep ≡ true
+      → None ≡ lowest_in deep (marked_rows s t p zeros n) mask
   full_nothing deep f =
       sym (lowest_in_lem deep (marked_rows s t p zeros n) mask
       ∙ lowest_nothing (marked_rows s t p zeros n) mask (low deep) (high deep) (low_high deep)
-      (rows_full (low deep) (high deep) (high_most deep) (full_all (text_range (row_levels s t i) p) deep f)) 0 4)
+      (rows_full (low deep) (high deep) (high_most deep) (full_all (text_range (row_levels s (row_at t i)) p) deep f)) 0 4)
 
 -- no path escapes where a row covers alone
-pub covers_nothing : (s t p : List ℕ) (i n mask : ℕ) (shared deep : Bool) → shared ≡ true → deep ≡ ends_deep (levels_of (levels p)) → i < n
-    → row_covers s t i p mask deep ≡ true → EscapeOf s t n shared p mask Nothing
+pub covers_nothing : (s : List ℕ) (t : List Row) (p : List ℕ) (i mask : ℕ) (shared deep : Bool) → shared ≡ true
+    → deep ≡ ends_deep (levels_of (levels p)) → i < length t
+    → row_covers s (row_at t i) p mask deep ≡ true → EscapeOf s t shared p mask None
 unfolding row_covers
-covers_nothing s t p i n mask shared deep o e l c = go (eqb (bit_or (row_mask t i) mask) (row_mask t i)) refl c
+covers_nothing s t p i mask shared deep o e l c = go (eqb (bit_or r.mask mask) r.mask) refl c
   where
-    go : (b : Bool) → eqb (bit_or (row_mask t i) mask) (row_mask t i) ≡ b
-        → cond b (full_range (text_range (row_levels s t i) p) deep) false ≡ true
-        → EscapeOf s t n shared p mask Nothing
-    go true q r = escape_nothing s t n shared p mask deep o e
-        (full_nothing s t p i n mask l (eqb-true (bit_or (row_mask t i) mask) (row_mask t i) q) deep r)
-    go false q r = no_flag r
+    r : Row
+    r = row_at t i
 
--- ---- the code's tests
-
-module _ (s t p : List ℕ) (i mask : ℕ) (deep : Bool) where
-  -- the row lacks a mode
-  pub covers_lacks : (bit_or (row_mask t i) mask ≡ row_mask t i → ⊥) → false ≡ row_covers s t i p mask deep
-  unfolding row_covers
-  covers_lacks h = sym (rw (ne_eqb (bit_or (row_mask t i) mask) (row_mask t i) h))
-
-  -- it has all, and its range decides
-  pub covers_range : (r : Range) → bit_or (row_mask t i) mask ≡ row_mask t i
-      → r ≡ text_range (take (row_end t i - row_start t i) (drop (row_start t i) s)) p → full_range r deep ≡ row_covers s t i p mask deep
-  unfolding row_covers part
-  covers_range r h e = sym (rw (eq-eqb (bit_or (row_mask t i) mask) (row_mask t i) h, e))
+    go : (b : Bool) → eqb (bit_or r.mask mask) r.mask ≡ b → cond b (full_range (text_range (row_levels s r) p) deep) false ≡ true
+        → EscapeOf s t shared p mask None
+    go true q f = escape_nothing s t shared p mask deep o e
+        (full_nothing s t p i (length t) mask l (eqb-true (bit_or r.mask mask) r.mask q) deep f)
+    go false q f = no_flag f

@@ -1,15 +1,17 @@
 -- Laws of covering level by level: what the step of two first levels says of the range of numbers of names (specs/Range.antt). Assumes
 -- nothing.
-use mathlib.Core.Path.{◌≡◌, refl, sym, ap, ◌∙◌}
-use mathlib.Core.Bool.{Bool, true, false, cond, ◌&&◌, ◌||◌, and-false}
+use mathlib.Core.Path.{◌≡◌, refl, sym, ap, ◌∙◌, subst}
+use mathlib.Core.Bool.{Bool, true, false, cond, ◌&&◌, ◌||◌, and-false, and-true}
 use mathlib.Core.List.{List, [], ◌∷◌}
 use Prim.Native.Nat.{ℕ, ◌+◌, ◌-◌, ◌<◌}
 use native.Mathlib.Omega.{arith}
-use lib.ListN.{length, get_or, drop, take, length-drop}
+use lib.ListN.{length, drop, take}
 use lib.Dec.{eqb}
-use borrow.Author.Tests.{ne_eqb}
+use lib.Pointwise.{pointwise, bytes_decides}
+use Rattle.std.proofs.Common.{nat_eq}
 use Rattle.resource.specs.declared.LevelStep.{LevelStep}
-use Rattle.resource.specs.declared.LevelStep.TheVariants.{Differ, Finish, Next}
+use Rattle.resource.specs.declared.LevelStep.TheVariants.{Finish, Next}
+use Rattle.std.proofs.Common.{Option, Some, None}
 use Rattle.octets.specs.Bytes.{same}
 use Rattle.resource_spec.specs.Level.{is_star, is_deep, levels}
 use Rattle.resource_spec.specs.Pattern.{Levels, done, deep, name, star}
@@ -21,7 +23,7 @@ use Rattle.resource.specs.Laws.{alike, Firsts, FirstLevels}
 use Rattle.resource_spec.proofs.Laws.{spelled_first}
 use Rattle.resource.proofs.Laws.{first_star, step_levels}
 use Rattle.octets.proofs.PartLaws.{part_to_end}
-use Rattle.narrowing.specs.declared.range.Range.{Range}
+use Rattle.narrowing.specs.Range.{Range}
 use Rattle.narrowing.specs.Range.{range, most, fresh_range, cover_range, text_range}
 
 -- ---- fresh names
@@ -41,52 +43,35 @@ fresh_name_lem e s d t =
     let f = first_star s in
     rw (f.2, spelled_first s f.0 f.1 f.2 d, sym f.3 ∙ t)
 
--- an empty text
-pub fresh_none : (e : ℕ) (s : List ℕ) → is_deep s ≡ false → length s ≡ 0 → fresh_of e s ≡ range 0 0
+-- a text that does not begin with "*/" and is not "*"
+star_not : (s : List ℕ) → pointwise nat_eq (take 2 s) (42 ∷ 47 ∷ []) ≡ false → pointwise nat_eq s (42 ∷ []) ≡ false → star_first s ≡ false
 unfolding star_first
-fresh_none e [] d h = fresh_name_lem e [] d refl
-fresh_none e (b ∷ s) d h = absurd (omega arith)
+star_not [] h l = refl
+star_not (a ∷ []) h l = sym (and-true (eqb a 42)) ∙ l
+star_not (a ∷ b ∷ s) h l = ap (λ (t : Bool). eqb a 42 && t) (sym (and-true (eqb b 47))) ∙ h
 
--- another first byte than "*"
-star_not : (s : List ℕ) → (get_or s 0 0 ≡ 42 → ⊥) → star_first s ≡ false
-unfolding star_first
-star_not [] n = refl
-star_not (a ∷ []) n = ne_eqb a 42 n
-star_not (a ∷ b ∷ s) n = rw (ne_eqb a 42 n)
-
-pub fresh_other : (e : ℕ) (s : List ℕ) → is_deep s ≡ false → (get_or s 0 0 ≡ 42 → ⊥) → fresh_of e s ≡ range 0 0
-fresh_other e s d n = fresh_name_lem e s d (star_not s n)
-
--- another second byte than "/"
-star_second : (s : List ℕ) → (length s ≡ 1 → ⊥) → (get_or s 1 0 ≡ 47 → ⊥) → star_first s ≡ false
-unfolding star_first
-star_second [] h n = refl
-star_second (a ∷ []) h n = absurd (h refl)
-star_second (a ∷ b ∷ s) h n = rw (ne_eqb b 47 n) (and-false (eqb a 42))
-
-pub fresh_second : (e : ℕ) (s : List ℕ) → is_deep s ≡ false → (length s ≡ 1 → ⊥) → (get_or s 1 0 ≡ 47 → ⊥) → fresh_of e s ≡ range 0 0
-fresh_second e s d h n = fresh_name_lem e s d (star_second s h n)
+pub fresh_other : (e : ℕ) (s : List ℕ) → is_deep s ≡ false → pointwise nat_eq (take 2 s) (42 ∷ 47 ∷ []) ≡ false
+    → pointwise nat_eq s (42 ∷ []) ≡ false → fresh_of e s ≡ range 0 0
+fresh_other e s d h l = fresh_name_lem e s d (star_not s h l)
 
 -- "*" and no more
-pub fresh_last : (e : ℕ) (s : List ℕ) → get_or s 0 0 ≡ 42 → length s ≡ 1 → fresh_of e s ≡ range (e + 1) (e + 2)
+pub fresh_last : (e : ℕ) (s : List ℕ) → pointwise nat_eq s (42 ∷ []) ≡ true → fresh_of e s ≡ range (e + 1) (e + 2)
 unfolding levels levels_of same
-fresh_last e [] f h = absurd (omega arith)
-fresh_last e (a ∷ []) f h = let n : (e + 1) + 1 ≡ e + 2 = omega arith in rw (f, n)
-fresh_last e (a ∷ b ∷ s) f h = absurd (omega arith)
+fresh_last e s h = let n : (e + 1) + 1 ≡ e + 2 = omega arith in rw ((bytes_decides s (42 ∷ [])).0 h, n)
 
 -- "*" and more levels
 star_more : (e : ℕ) (t : List ℕ) → fresh_of e (42 ∷ 47 ∷ t) ≡ fresh_of (e + 1) t
 unfolding levels levels_of same
 star_more e t = rw (first_star t).2
 
-pub fresh_more : (e : ℕ) (s : List ℕ) → get_or s 0 0 ≡ 42 → get_or s 1 0 ≡ 47 → fresh_of e s ≡ fresh_of (e + 1) (take (length s - 2) (drop 2 s))
-fresh_more e [] f g = absurd (omega arith)
-fresh_more e (a ∷ []) f g = absurd (omega arith)
-fresh_more e (a ∷ b ∷ t) f g = rw (part_to_end (a ∷ b ∷ t) 2, f, g) (star_more e t)
-
--- what is after two bytes
-pub after_two : (s : List ℕ) → length (take (length s - 2) (drop 2 s)) ≡ length s - 2
-after_two s = ap length (part_to_end s 2) ∙ length-drop 2 s
+pub fresh_more : (e : ℕ) (s t : List ℕ) → pointwise nat_eq (take 2 s) (42 ∷ 47 ∷ []) ≡ true → t ≡ drop 2 s → fresh_of e s ≡ fresh_of (e + 1) t
+fresh_more e [] t h f = no_flag h
+fresh_more e (a ∷ []) t h f = no_flag (sym (and-false (eqb a 42)) ∙ h)
+fresh_more e (a ∷ b ∷ s) t h f =
+    let g : a ∷ b ∷ [] ≡ 42 ∷ 47 ∷ [] = (bytes_decides (a ∷ b ∷ []) (42 ∷ 47 ∷ [])).0 h in
+    let x : a ≡ 42 = cc in
+    let y : b ≡ 47 = cc in
+    rw (x, y, f) (star_more e s)
 
 -- ---- covering
 
@@ -133,10 +118,10 @@ pub record Goes (q p : List ℕ) (i j : ℕ) : Type 0 where
   pub decides : text_range q p ≡ text_range (drop (i + 1) q) (drop (j + 1) p)
 
 -- what is told of two texts that are not "**" by the step of their first levels
-abbrev pub Stepped : List ℕ → List ℕ → LevelStep → Type 0
-Stepped q p Differ = text_range q p ≡ range 0 0
-Stepped q p (Finish names) = text_range q p ≡ range 0 1
-Stepped q p (Next i j names) = Goes q p i j
+abbrev pub Stepped : List ℕ → List ℕ → Option LevelStep → Type 0
+Stepped q p None = text_range q p ≡ range 0 0
+Stepped q p (Some (Finish names)) = text_range q p ≡ range 0 1
+Stepped q p (Some (Next i j names)) = Goes q p i j
 
 -- two texts that are not "**", by their first levels
 first_cover : (q p : List ℕ) (ls ks : List (List ℕ)) (t : Bool) → Firsts q p ls ks t → is_deep q ≡ false → is_deep p ≡ false
@@ -158,20 +143,25 @@ other_cover true (l ∷ ls) [] e = some_none l ls
 other_cover true (l ∷ ls) (k ∷ ks) e = no_flag (sym e)
 
 -- it holds by what the step says of the levels
-cover_says : (q p : List ℕ) (x : LevelStep) → FirstLevels q p x → is_deep q ≡ false → is_deep p ≡ false → Stepped q p x
+cover_says : (q p : List ℕ) (x : Option LevelStep) → FirstLevels q p x → is_deep q ≡ false → is_deep p ≡ false → Stepped q p x
 unfolding levels_of text_range
-cover_says q p Differ f d c = first_cover q p f.0 f.1 f.2 f.3 d c ∙ other_cover f.2 f.0 f.1 f.4
-cover_says q p (Finish names) f d c = first_cover q p [] [] true f.0 d c
-cover_says q p (Next i j names) f d c =
+cover_says q p None f d c = first_cover q p f.0 f.1 f.2 f.3 d c ∙ other_cover f.2 f.0 f.1 f.4
+cover_says q p (Some (Finish names)) f d c = first_cover q p [] [] true f.0 d c
+cover_says q p (Some (Next i j names)) f d c =
     record {
       in_q = f.0;
       in_p = f.1;
       decides = first_cover q p (levels (drop (i + 1) q)) (levels (drop (j + 1) p)) true f.2 d c;
     }
 
--- it holds of each two texts
-pub step_decides : (q p : List ℕ) → is_deep q ≡ false → is_deep p ≡ false → Stepped q p (step_of q p)
-step_decides q p d c = cover_says q p (step_of q p) (step_levels q p) d c
+-- it holds of a step that the code took
+pub step_says : (q p : List ℕ) {x : Option LevelStep} → false ≡ is_deep q → false ≡ is_deep p → x ≡ step_of q p → Stepped q p x
+step_says q p d c e = subst (Stepped q p) (sym e) (cover_says q p (step_of q p) (step_levels q p) (sym d) (sym c))
+
+-- both have levels after the first
+pub next_in : (q p : List ℕ) {i j n : ℕ} → false ≡ is_deep q → false ≡ is_deep p → Some (Next i j n) ≡ step_of q p
+    → (i < length q) × (j < length p)
+next_in q p d c e = let g = step_says q p d c e in (g.in_q, g.in_p)
 
 -- the levels after the first, as slices that go to the end, decide
 pub next_same : (q p : List ℕ) (i j : ℕ) → Goes q p i j

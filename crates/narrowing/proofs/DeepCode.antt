@@ -1,15 +1,15 @@
 -- Whether the last level of a text is "**" is told by its last three bytes. Assumes nothing.
-use mathlib.Core.Path.{◌≡◌, refl, sym, ap, ap₂, ◌∙◌}
-use mathlib.Core.Bool.{Bool, true, false, not, ◌&&◌, and-true, and-false}
+use mathlib.Core.Path.{◌≡◌, refl, sym, ap, ◌∙◌}
+use mathlib.Core.Bool.{Bool, true, false, ◌&&◌, and-true, and-false}
 use mathlib.Core.List.{List, [], ◌∷◌, cons≢nil}
 use mathlib.Core.Logic.{◌⊎◌, inl, inr, ⊎_elim}
-use Prim.Native.Nat.{ℕ, zero, suc, ◌+◌, ◌-◌, ◌≤◌, ◌<◌}
-use native.Mathlib.Nat.{eq-or-lt_of_le}
+use Prim.Native.Nat.{ℕ, zero, suc, ◌+◌, ◌-◌, ◌≤◌}
 use native.Mathlib.Omega.{arith}
-use lib.ListN.{length, get_or, take, drop, length-drop}
-use lib.Seq.{take_all}
+use lib.ListN.{length, drop}
 use lib.Dec.{eqb}
-use borrow.Author.Tests.{not-true, not-false}
+use lib.Pointwise.{pointwise}
+use Rattle.std.proofs.Common.{nat_eq}
+use Rattle.std.proofs.lemmas.Bool.Decides.{nat_tests}
 use Rattle.octets.specs.Bytes.{same}
 use Rattle.resource_spec.specs.Level.{is_star, is_deep, prefixed, levels, joined}
 use Rattle.resource_spec.specs.Pattern.{Levels, done, ends_deep}
@@ -163,70 +163,31 @@ ends_three a b c = go (eqb a 47) refl
     go true e = ends_slash a (b ∷ c ∷ []) e ∙ ends_two b c ∙ sym (and-true (is_deep (b ∷ c ∷ [])))
     go false e = three_other a b c e ∙ sym (and-false (is_deep (b ∷ c ∷ [])))
 
+-- as bytes
+three_bytes : (a b c : ℕ) → (is_deep (b ∷ c ∷ []) && eqb a 47) ≡ pointwise nat_eq (47 ∷ 42 ∷ 42 ∷ []) (a ∷ b ∷ c ∷ [])
+unfolding same
+three_bytes a b c = grind (arith, nat_tests)
+
 -- the last three of 3 + n bytes tell
-ends_long : (n : ℕ) (p : List ℕ) → length p ≡ 3 + n → ends (levels p) ≡ (is_deep (drop (suc n) p) && eqb (get_or p n 0) 47)
+ends_long : (n : ℕ) (p : List ℕ) → length p ≡ 3 + n → ends (levels p) ≡ pointwise nat_eq (47 ∷ 42 ∷ 42 ∷ []) (drop n p)
 ends_long zero [] e = absurd (omega (arith, e))
 ends_long zero (a ∷ []) e = absurd (omega (arith, e))
 ends_long zero (a ∷ b ∷ []) e = absurd (omega (arith, e))
-ends_long zero (a ∷ b ∷ c ∷ []) e = ends_three a b c
+ends_long zero (a ∷ b ∷ c ∷ []) e = ends_three a b c ∙ three_bytes a b c
 ends_long zero (a ∷ b ∷ c ∷ d ∷ ls) e = absurd (omega (arith, e))
 ends_long (suc n) [] e = absurd (omega (arith, e))
 ends_long (suc n) (b ∷ bs) e = ends_step b bs (omega (arith, e)) ∙ ends_long n bs (omega (arith, e))
 
--- ---- what the code's proof uses
+-- ---- the code's tests
 
--- fewer than two bytes
-pub short_ends : (p : List ℕ) → length p < 2 → false ≡ ends (levels p)
-short_ends [] h = sym ends_none
-short_ends (a ∷ []) h = sym (ends_byte a)
-short_ends (a ∷ b ∷ p) h = absurd (omega (arith, h))
+-- "**"
+pub deep_alone : (p : List ℕ) → true ≡ is_deep p → true ≡ ends (levels p)
+unfolding levels levels_of same
+deep_alone p e = sym (ap (λ (l : List ℕ). ends (levels l)) (same_equal p (42 ∷ 42 ∷ []) (sym e)))
 
--- the last two bytes, as the code lends them
-abbrev last_two : List ℕ → List ℕ
-last_two p = take (length p - (length p - 2)) (drop (length p - 2) p)
-
--- they are those after all but two
-last_two_lem : (p : List ℕ) → 2 ≤ length p → last_two p ≡ drop (length p - 2) p
-last_two_lem p h = take_all (length p - (length p - 2)) (drop (length p - 2) p) (let e = length-drop (length p - 2) p in omega (arith, e))
-
--- three bytes or more, by the last three
-long_ends : (p : List ℕ) → 3 ≤ length p → ends (levels p) ≡ (is_deep (last_two p) && eqb (get_or p (length p - 2 - 1) 0) 47)
-long_ends p h =
-    let n : suc (length p - 3) ≡ length p - 2 = omega arith in
-    let m : length p - 3 ≡ length p - 2 - 1 = omega arith in
-    ends_long (length p - 3) p (omega (arith, h))
-    ∙ ap₂ (λ (l : List ℕ) (i : ℕ). is_deep l && eqb (get_or p i 0) 47) (ap (λ (k : ℕ). drop k p) n ∙ sym (last_two_lem p (omega arith))) m
-
--- two, or more
-two_or_more : (n : ℕ) → 2 ≤ n → (n ≡ 2) ⊎ (2 < n)
-two_or_more n h = ⊎_elim (λ (e : 2 ≡ n). inl (sym e)) (λ (l : 2 < n). inr l) (eq-or-lt_of_le h)
-
-more : (n : ℕ) → 2 ≤ n → (n - 2 ≡ 0 → ⊥) → 3 ≤ n
-more n h k = ⊎_elim (λ (e : n ≡ 2). absurd (k (omega (arith, e)))) (λ (l : 2 < n). l) (two_or_more n h)
-
--- two bytes
-pair_ends : (p : List ℕ) → 2 ≤ length p → length p - 2 ≡ 0 → ends (levels p) ≡ is_deep (last_two p)
-pair_ends [] h e = absurd (omega (arith, h))
-pair_ends (a ∷ []) h e = absurd (omega (arith, h))
-pair_ends (a ∷ b ∷ []) h e = ends_two a b
-pair_ends (a ∷ b ∷ c ∷ p) h e = absurd (omega (arith, e))
-
--- the last two bytes are not "**"
-pub other_ends : (p : List ℕ) (r : Bool) → 2 ≤ length p → r ≡ is_deep (last_two p) → not r ≡ true → false ≡ ends (levels p)
-other_ends p r h e f =
-    ⊎_elim (λ (k : length p ≡ 2). sym (pair_ends p h (omega (arith, k)) ∙ no))
-    (λ (k : 2 < length p). sym (long_ends p (omega (arith, k)) ∙ ap (λ (t : Bool). t && eqb (get_or p (length p - 2 - 1) 0) 47) no))
-    (two_or_more (length p) h)
-  where
-    no : is_deep (last_two p) ≡ false
-    no = sym e ∙ not-true r f
-
--- they are, and there are no others
-pub deep_alone : (p : List ℕ) (r : Bool) → 2 ≤ length p → r ≡ is_deep (last_two p) → not r ≡ false → length p - 2 ≡ 0 → true ≡ ends (levels p)
-deep_alone p r h e f k = sym (pair_ends p h k ∙ sym e ∙ not-false r f)
-
--- they are, and the one before them tells
-pub deep_after : (p : List ℕ) (r : Bool) → 2 ≤ length p → r ≡ is_deep (last_two p) → not r ≡ false → (length p - 2 ≡ 0 → ⊥)
-    → eqb (get_or p (length p - 2 - 1) 0) 47 ≡ ends (levels p)
-deep_after p r h e f k =
-    sym (long_ends p (more (length p) h k) ∙ ap (λ (t : Bool). t && eqb (get_or p (length p - 2 - 1) 0) 47) (sym e ∙ not-false r f))
+-- another text, by its last three bytes
+pub last_three : (p : List ℕ) → false ≡ is_deep p → pointwise nat_eq (47 ∷ 42 ∷ 42 ∷ []) (drop (length p - 3) p) ≡ ends (levels p)
+last_three [] e = sym ends_none
+last_three (a ∷ []) e = and-false (eqb 47 a) ∙ sym (ends_byte a)
+last_three (a ∷ b ∷ []) e = rw (and-false (eqb 42 b), and-false (eqb 47 a)) (e ∙ sym (ends_two a b))
+last_three (a ∷ b ∷ c ∷ p) e = sym (ends_long (length (a ∷ b ∷ c ∷ p) - 3) (a ∷ b ∷ c ∷ p) (omega arith))

@@ -3,6 +3,7 @@
 use mathlib.Core.Path.{◌≡◌, refl, sym, ap, ◌∙◌}
 use mathlib.Core.Bool.{false, cond, and-false}
 use mathlib.Core.List.{List, [], ◌∷◌}
+use Rattle.std.proofs.Common.{min}
 use Prim.Native.Nat.{ℕ, zero, suc, ◌+◌, ◌≤◌, ◌<◌}
 use native.Mathlib.Nat.{add-zero, zero-add}
 use native.Mathlib.Numerals.{add-one}
@@ -12,7 +13,7 @@ use lib.ListN.{length, get_or, set}
 use lib.Dec.{leb, ltb}
 use lib.Bits.{bit_or}
 use borrow.Author.Tests.{lt-ltb, le-ltb, le-leb, lt-leb}
-use Rattle.narrowing.specs.declared.range.Range.{Range}
+use Rattle.narrowing.specs.Range.{Range}
 use Rattle.narrowing.specs.Range.{range, in_range, marked}
 
 -- ---- masks
@@ -35,12 +36,20 @@ empty lo hi k h = go (dec_lt k lo)
     go (no l) = rw (le-ltb k hi (omega arith)) (and-false (leb lo k))
 
 -- the range begins at the end of the list or after it
-pub marked_past : (d : List ℕ) (lo hi mask : ℕ) → length d ≤ lo → marked 0 d (range lo hi) mask ≡ d
+marked_past : (d : List ℕ) (lo hi mask : ℕ) → length d ≤ lo → marked 0 d (range lo hi) mask ≡ d
 marked_past d lo hi mask h = marked_none 0 d (range lo hi) mask (λ k a b. rw (lt-leb lo k (omega arith)))
 
 -- an empty range
-pub marked_empty : (d : List ℕ) (lo hi mask : ℕ) → hi ≤ lo → marked 0 d (range lo hi) mask ≡ d
+marked_empty : (d : List ℕ) (lo hi mask : ℕ) → hi ≤ lo → marked 0 d (range lo hi) mask ≡ d
 marked_empty d lo hi mask h = marked_none 0 d (range lo hi) mask (λ k a b. empty lo hi k h)
+
+-- a range that begins at its end or at that of the list
+pub marked_over : (d : List ℕ) (lo hi mask : ℕ) → min hi (length d) ≤ lo → marked 0 d (range lo hi) mask ≡ d
+marked_over d lo hi mask h = go (dec_lt lo hi)
+  where
+    go : Dec (lo < hi) → marked 0 d (range lo hi) mask ≡ d
+    go (yes l) = marked_past d lo hi mask (omega arith)
+    go (no l) = marked_empty d lo hi mask (omega arith)
 
 -- where a range begins before the list does not matter
 marked_low : (e : ℕ) (d : List ℕ) (lo hi mask : ℕ) → lo ≤ e → marked e d (range lo hi) mask ≡ marked e d (range e hi) mask

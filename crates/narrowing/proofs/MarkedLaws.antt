@@ -22,7 +22,7 @@ use Rattle.descriptor_spec.specs.Reader.{has_mode, GrantSeen, grant_at}
 use Rattle.descriptor_spec.specs.View.{mask_of}
 use Rattle.resource_spec.proofs.Laws.{terminal_length, pattern_short, pattern_levels}
 use Rattle.descriptor_spec.specs.Laws.{SeenAs, InTurn, no_more, one_more}
-use Rattle.narrowing.specs.declared.range.Range.{Range}
+use Rattle.narrowing.specs.Range.{Range}
 use Rattle.narrowing_spec.specs.Escape.{pattern_covers, covered, can_take, deepest}
 use Rattle.narrowing.specs.Range.{in_range, most, text_range, marked}
 use Rattle.narrowing.specs.Code.{below, marked_at, zeros}

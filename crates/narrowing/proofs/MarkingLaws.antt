@@ -4,22 +4,21 @@ use mathlib.Core.Path.{◌≡◌, refl, sym, ap, ap₂, ◌∙◌}
 use mathlib.Core.Bool.{Bool, true, false, not, cond, ◌&&◌, ◌||◌, or-false}
 use mathlib.Core.List.{List}
 use Prim.Native.Nat.{ℕ, zero, suc, ◌+◌, ◌-◌, ◌≤◌, ◌<◌}
-use native.Mathlib.Numerals.{add-one}
 use native.Mathlib.Omega.{arith}
-use lib.ListN.{length, get_or, take, drop}
+use lib.ListN.{length, get_or}
 use lib.Bits.{bit_and, bit_or}
-use Rattle.octets.specs.Bytes.{part}
 use Rattle.octets.proofs.Tests.{no_flag}
 use Rattle.descriptor_spec.specs.Reader.{has_mode}
-use Rattle.narrowing.specs.declared.range.Range.{Range}
-use Rattle.narrowing.specs.declared.search.Found.TheVariants.{Nothing}
-use Rattle.narrowing.specs.Range.{in_range, most, text_range, marked}
-use Rattle.narrowing.specs.Code.{row_start, row_end, row_mask, row_levels, marked_rows, row_marked, lacks_at, lowest_from, lowest_in}
+use Rattle.narrowing.specs.Range.{Range}
+use Rattle.narrowing.specs.declared.search.Row.{Row}
+use Rattle.std.proofs.Common.{None}
+use Rattle.narrowing.specs.Range.{in_range, most, text_range}
+use Rattle.narrowing.specs.Code.{row_at, row_levels, marked_rows, row_marked, lacks_at, lowest_from, lowest_in}
 use Rattle.narrowing.specs.Code.{full_range, full_modes}
 use Rattle.narrowing_spec.proofs.Laws.{least_same}
 use Rattle.narrowing.proofs.RangeLaws.{marked_length, marked_at_lem, or_mode, and_mode}
 use Rattle.narrowing.proofs.MarkedLaws.{or_where, zero_lacks}
-use Rattle.narrowing.proofs.TableLaws.{rows_length}
+use Rattle.narrowing.proofs.TableLaws.{rows_length, rows_more}
 use Rattle.narrowing.proofs.AloneLaws.{low, high, lowest_in_lem, low_high, high_most, full_all, Have, lowest_nothing, or_true, joined}
 use Rattle.narrowing.proofs.AloneLaws.{rows_keep, between}
 
@@ -45,55 +44,32 @@ or_other false b e f = e
 
 -- ---- one row
 
--- the levels of a row as the code takes them
-row_range : (s t p : List ℕ) (i : ℕ) (r : Range) → r ≡ text_range (take (row_end t i - row_start t i) (drop (row_start t i) s)) p
-    → r ≡ text_range (row_levels s t i) p
-unfolding part
-row_range s t p i r e = e
-
-module _ (s t p : List ℕ) (i : ℕ) (r : Range) (e : r ≡ text_range (take (row_end t i - row_start t i) (drop (row_start t i) s)) p) where
-  -- a row was marked, as the code took its levels
-  pub marked_row : (d : List ℕ) → marked 0 d r (row_mask t i) ≡ row_marked s t i p d
-  unfolding row_marked
-  marked_row d = ap (λ (q : Range). marked 0 d q (row_mask t i)) (row_range s t p i r e)
-
-  -- its modes are told as the code tests its range
-  pub modes_tested : (deep b c : Bool) → b ≡ full_range r deep → b ≡ c → cond c (row_mask t i) 0 ≡ full_modes s t i p deep
-  unfolding full_modes
-  modes_tested deep b c f g = ap (λ (h : Bool). cond h (row_mask t i) 0)
-      (sym g ∙ f ∙ ap (λ (q : Range). full_range q deep) (row_range s t p i r e))
-
-module _ (s t p : List ℕ) where
+module _ (s : List ℕ) (t : List Row) (p : List ℕ) where
   -- after row i is marked the mask at k has the modes that it had, and those of the row where its range has k
   row_marked_lem : (i : ℕ) (x : List ℕ) (m k : ℕ) → k < length x
-      → has_mode (get_or (row_marked s t i p x) k 0) m
-      ≡ (has_mode (get_or x k 0) m || (has_mode (row_mask t i) m && in_range (text_range (row_levels s t i) p) k))
+      → has_mode (get_or (row_marked s (row_at t i) p x) k 0) m
+      ≡ (has_mode (get_or x k 0) m || (has_mode (row_at t i).mask m && in_range (text_range (row_levels s (row_at t i)) p) k))
   unfolding row_marked
   row_marked_lem i x m k l =
-      let r : Range = text_range (row_levels s t i) p in
-      ap (λ (y : ℕ). has_mode y m) (marked_at_lem x r (row_mask t i) k l) ∙ or_where (in_range r k) (get_or x k 0) (row_mask t i) m
-
-  -- noting one row more
-  rows_more : (d : List ℕ) (i : ℕ) → marked_rows s t p d (i + 1) ≡ row_marked s t i p (marked_rows s t p d i)
-  unfolding marked_rows row_marked
-  rows_more d i = rw (add-one i)
+      let r : Range = text_range (row_levels s (row_at t i)) p in
+      ap (λ (y : ℕ). has_mode y m) (marked_at_lem x r (row_at t i).mask k l) ∙ or_where (in_range r k) (get_or x k 0) (row_at t i).mask m
 
   -- a row keeps the number of masks
-  row_length_lem : (i : ℕ) (x : List ℕ) → length (row_marked s t i p x) ≡ length x
+  row_length_lem : (i : ℕ) (x : List ℕ) → length (row_marked s (row_at t i) p x) ≡ length x
   unfolding row_marked
-  row_length_lem i x = marked_length 0 x (text_range (row_levels s t i) p) (row_mask t i)
+  row_length_lem i x = marked_length 0 x (text_range (row_levels s (row_at t i)) p) (row_at t i).mask
 
   -- a mode of a row that covers with each number is marked at each
   full_marked : (i : ℕ) (deep : Bool) (x : List ℕ) (m k : ℕ) → k < length x → low deep ≤ k → k < high deep
-      → has_mode (full_modes s t i p deep) m ≡ true
-      → has_mode (get_or (row_marked s t i p x) k 0) m ≡ true
+      → has_mode (full_modes s (row_at t i) p deep) m ≡ true
+      → has_mode (get_or (row_marked s (row_at t i) p x) k 0) m ≡ true
   unfolding full_modes
   full_marked i deep x m k l a b h = go (full_range r deep) refl h
     where
       r : Range
-      r = text_range (row_levels s t i) p
+      r = text_range (row_levels s (row_at t i)) p
 
-      go : (c : Bool) → full_range r deep ≡ c → has_mode (cond c (row_mask t i) 0) m ≡ true → has_mode (get_or (row_marked s t i p x) k 0) m ≡ true
+      go : (c : Bool) → full_range r deep ≡ c → has_mode (cond c (row_at t i).mask 0) m ≡ true → has_mode (get_or (row_marked s (row_at t i) p x) k 0) m ≡ true
       go true f g =
           row_marked_lem i x m k l
           ∙ ap₂ (λ (u v : Bool). has_mode (get_or x k 0) m || (u && v)) g (between r (low deep) (high deep) k (full_all r deep f) a b)
@@ -103,7 +79,7 @@ module _ (s t p : List ℕ) where
 -- ---- the loop
 
 -- after i rows x has, of the mask's modes, what the masks with these rows marked have, and at each number each mode of `done`
-pub record Noting (s t p d : List ℕ) (mask : ℕ) (deep : Bool) (x : List ℕ) (done i : ℕ) : Type 0 where
+pub record Noting (s : List ℕ) (t : List Row) (p d : List ℕ) (mask : ℕ) (deep : Bool) (x : List ℕ) (done i : ℕ) : Type 0 where
   pub whole : length d ≡ most
   pub size : length x ≡ most
   pub agree : (m k : ℕ) → has_mode mask m ≡ true → low deep ≤ k → k < high deep
@@ -111,7 +87,7 @@ pub record Noting (s t p d : List ℕ) (mask : ℕ) (deep : Bool) (x : List ℕ)
   pub have : (m k : ℕ) → has_mode done m ≡ true → low deep ≤ k → k < high deep → has_mode (get_or x k 0) m ≡ true
 
 -- no row is marked at first
-pub marking_begin : (s t p d : List ℕ) (mask : ℕ) (deep : Bool) → length d ≡ most → Noting s t p d mask deep d 0 0
+pub marking_begin : (s : List ℕ) (t : List Row) (p d : List ℕ) (mask : ℕ) (deep : Bool) → length d ≡ most → Noting s t p d mask deep d 0 0
 unfolding marked_rows
 marking_begin s t p d mask deep l =
     record { whole = l; size = l; agree = λ m k h a b. refl; have = λ m k h a b. no_flag (sym (zero_lacks m) ∙ h) }
@@ -120,7 +96,7 @@ marking_begin s t p d mask deep l =
 within : (x y m : ℕ) → bit_or x y ≡ y → has_mode x m ≡ true → has_mode y m ≡ true
 within x y m e h = sym (ap (λ (z : ℕ). has_mode z m) e) ∙ or_mode x y m ∙ ap (λ (b : Bool). b || has_mode y m) h
 
-module _ (s t p d : List ℕ) (mask : ℕ) (deep : Bool) (x : List ℕ) (done i : ℕ) (n : Noting s t p d mask deep x done i) where
+module _ (s : List ℕ) (t : List Row) (p d : List ℕ) (mask : ℕ) (deep : Bool) (x : List ℕ) (done i : ℕ) (n : Noting s t p d mask deep x done i) where
   -- the numbers that can be taken have a mask
   room : (k : ℕ) → k < high deep → (k < length x) × (k < length (marked_rows s t p d i))
   room k b = (omega (arith, n.size, high_most deep), omega (arith, n.whole, high_most deep, rows_length s t p d i))
@@ -130,32 +106,32 @@ module _ (s t p d : List ℕ) (mask : ℕ) (deep : Bool) (x : List ℕ) (done i 
   marking_met y o e f = rw (e, f) n
 
   -- the row i adds no mode
-  pub marking_skip : bit_or (bit_and (row_mask t i) mask) done ≡ done → Noting s t p d mask deep x done (i + 1)
+  pub marking_skip : bit_or (bit_and (row_at t i).mask mask) done ≡ done → Noting s t p d mask deep x done (i + 1)
   marking_skip e = record { whole = n.whole; size = n.size; agree = agree_next; have = n.have }
     where
       agree_next : (m k : ℕ) → has_mode mask m ≡ true → low deep ≤ k → k < high deep
           → has_mode (get_or x k 0) m ≡ has_mode (get_or (marked_rows s t p d (i + 1)) k 0) m
       agree_next m k h a b =
-          n.agree m k h a b ∙ go (has_mode (row_mask t i) m) refl
+          n.agree m k h a b ∙ go (has_mode (row_at t i).mask m) refl
           ∙ sym (ap (λ (z : List ℕ). has_mode (get_or z k 0) m) (rows_more s t p d i)
           ∙ row_marked_lem s t p i (marked_rows s t p d i) m k (room k b).1)
         where
           q : Bool
-          q = in_range (text_range (row_levels s t i) p) k
+          q = in_range (text_range (row_levels s (row_at t i)) p) k
 
           before : Bool
           before = has_mode (get_or (marked_rows s t p d i) k 0) m
 
-          go : (c : Bool) → has_mode (row_mask t i) m ≡ c → before ≡ (before || (has_mode (row_mask t i) m && q))
+          go : (c : Bool) → has_mode (row_at t i).mask m ≡ c → before ≡ (before || (has_mode (row_at t i).mask m && q))
           go true f =
-              let common : has_mode (bit_and (row_mask t i) mask) m ≡ true =
-              and_mode (row_mask t i) mask m ∙ ap₂ (λ (u v : Bool). u && v) f h in
-              let had : before ≡ true = sym (n.agree m k h a b) ∙ n.have m k (within (bit_and (row_mask t i) mask) done m e common) a b in
-              had ∙ sym (ap (λ (u : Bool). u || (has_mode (row_mask t i) m && q)) had)
+              let common : has_mode (bit_and (row_at t i).mask mask) m ≡ true =
+              and_mode (row_at t i).mask mask m ∙ ap₂ (λ (u v : Bool). u && v) f h in
+              let had : before ≡ true = sym (n.agree m k h a b) ∙ n.have m k (within (bit_and (row_at t i).mask mask) done m e common) a b in
+              had ∙ sym (ap (λ (u : Bool). u || (has_mode (row_at t i).mask m && q)) had)
           go false f = sym (ap (λ (u : Bool). before || (u && q)) f ∙ or-false before)
 
   -- it was marked
-  pub marking_next : (y : List ℕ) (r : ℕ) → y ≡ row_marked s t i p x → r ≡ full_modes s t i p deep
+  pub marking_next : (y : List ℕ) (r : ℕ) → y ≡ row_marked s (row_at t i) p x → r ≡ full_modes s (row_at t i) p deep
       → Noting s t p d mask deep y (bit_or done r) (i + 1)
   marking_next y r e f =
       record { whole = n.whole; size = ap length e ∙ row_length_lem s t p i x ∙ n.size; agree = agree_next; have = have_next }
@@ -164,23 +140,23 @@ module _ (s t p d : List ℕ) (mask : ℕ) (deep : Bool) (x : List ℕ) (done i 
           → has_mode (get_or y k 0) m ≡ has_mode (get_or (marked_rows s t p d (i + 1)) k 0) m
       agree_next m k h a b =
           ap (λ (z : List ℕ). has_mode (get_or z k 0) m) e ∙ row_marked_lem s t p i x m k (room k b).0
-          ∙ ap (λ (u : Bool). u || (has_mode (row_mask t i) m && in_range (text_range (row_levels s t i) p) k)) (n.agree m k h a b)
+          ∙ ap (λ (u : Bool). u || (has_mode (row_at t i).mask m && in_range (text_range (row_levels s (row_at t i)) p) k)) (n.agree m k h a b)
           ∙ sym (ap (λ (z : List ℕ). has_mode (get_or z k 0) m) (rows_more s t p d i)
           ∙ row_marked_lem s t p i (marked_rows s t p d i) m k (room k b).1)
 
       have_next : (m k : ℕ) → has_mode (bit_or done r) m ≡ true → low deep ≤ k → k < high deep → has_mode (get_or y k 0) m ≡ true
       have_next m k h a b = ap (λ (z : List ℕ). has_mode (get_or z k 0) m) e ∙ go (has_mode done m) refl
         where
-          go : (c : Bool) → has_mode done m ≡ c → has_mode (get_or (row_marked s t i p x) k 0) m ≡ true
+          go : (c : Bool) → has_mode done m ≡ c → has_mode (get_or (row_marked s (row_at t i) p x) k 0) m ≡ true
           go true g =
               row_marked_lem s t p i x m k (room k b).0
-              ∙ ap (λ (u : Bool). u || (has_mode (row_mask t i) m && in_range (text_range (row_levels s t i) p) k)) (n.have m k g a b)
+              ∙ ap (λ (u : Bool). u || (has_mode (row_at t i).mask m && in_range (text_range (row_levels s (row_at t i)) p) k)) (n.have m k g a b)
           go false g =
               full_marked s t p i deep x m k (room k b).0 a b
               (ap (λ (z : ℕ). has_mode z m) (sym f) ∙ or_other (has_mode done m) (has_mode r m) (sym (or_mode done r m) ∙ h) g)
 
   -- the rows so far have all modes of the mask
-  pub marking_covered : (rows : ℕ) → i ≤ rows → bit_or done mask ≡ done → Nothing ≡ lowest_in deep (marked_rows s t p d rows) mask
+  pub marking_covered : (rows : ℕ) → i ≤ rows → bit_or done mask ≡ done → None ≡ lowest_in deep (marked_rows s t p d rows) mask
   marking_covered rows l e =
       sym (lowest_in_lem deep (marked_rows s t p d rows) mask
       ∙ lowest_nothing (marked_rows s t p d rows) mask (low deep) (high deep) (low_high deep) all 0 4)

@@ -1,21 +1,22 @@
 -- What the code's proofs of narrowing use: the bytes of what was read, the tests of `compared`, and the steps of the search through the
 -- child's grants. Assumes nothing.
 use mathlib.Core.Path.{◌≡◌, refl, sym, ap, ap₂, ◌∙◌, subst}
-use mathlib.Core.Bool.{Bool, true, false, not, cond, ◌&&◌}
+use mathlib.Core.Bool.{Bool, true, false, not, cond, ◌&&◌, ◌||◌}
 use mathlib.Core.List.{List}
 use Prim.Native.Nat.{ℕ, suc, ◌+◌, ◌-◌, ◌≤◌, ◌<◌}
 use native.Mathlib.Omega.{arith}
 use lib.ListN.{length, take, drop, length-take, length-drop}
 use lib.Dec.{eqb, ltb}
-use borrow.Author.Tests.{eq-eqb, ne_eqb}
+use borrow.Author.Tests.{eq-eqb}
 use Rattle.time.proofs.Laws.{not_before}
 use Rattle.resource_spec.specs.Identifier.{levels_place, terminal_size}
 use Rattle.octets.specs.Bytes as cbor
 use Rattle.octets.specs.Bytes.{AreBytes, part}
 use Rattle.exact.specs.Reads.{got, refused}
 use Rattle.descriptor_spec.specs.declared.Fields.{Fields}
-use Rattle.descriptor_spec.specs.declared.Reading.{Reading}
-use Rattle.descriptor_spec.specs.declared.Reading.TheVariants as reading
+use Rattle.descriptor_spec.specs.Reading.{Reading}
+use Rattle.descriptor_spec.specs.declared.ReadError.{ReadError}
+use Rattle.descriptor_spec.specs.declared.ReadError.TheVariants as reading
 use Rattle.descriptor_spec.specs.Model.{Descriptor}
 use Rattle.descriptor_spec.specs.Allowed.{Allowed}
 use Rattle.descriptor_spec.specs.Reader.{GrantSeen, grant_at, Seen, Answer, read, structure, validity, read_of}
@@ -24,21 +25,24 @@ use Rattle.descriptor_spec.specs.Numbers.{numbers_of, number_of}
 use Rattle.descriptor_spec.specs.Promises.{DescriptorHanded}
 use Rattle.descriptor_spec.proofs.Promises.{answered_exactly, hands_back}
 use Rattle.resource_spec.proofs.Laws.{terminal_length}
-use Rattle.octets.proofs.PartLaws.{lent_later}
-use Rattle.narrowing_spec.specs.declared.Narrowing.{Narrowing}
-use Rattle.narrowing_spec.specs.declared.Narrowing.TheVariants.{Accepted, NoParent, Structure, Validity, Constrained, Period, NotCovered}
-use Rattle.narrowing.specs.declared.search.Found.{Found}
-use Rattle.narrowing.specs.declared.search.Found.TheVariants.{At, Nothing}
+use Rattle.octets.proofs.PartLaws.{lent_later, lent_part}
+use Rattle.octets.proofs.SameLaws.{pointwise_same}
+use Rattle.std.specs.Cmp.Lexicographic.{pointwise}
+use Rattle.std.specs.Ordering.{is_lt, nat_cmp}
+use Rattle.std.proofs.lemmas.Bool.Decides.{nat_tests}
+use Rattle.std.proofs.Common.{Option, Some, None, Ok, Err}
+use Rattle.narrowing_spec.specs.declared.NarrowingError.{NarrowingError}
+use Rattle.narrowing_spec.specs.declared.NarrowingError.TheVariants.{NoParent, Structure, Validity, Constrained, Period, NotCovered}
+use Rattle.narrowing.specs.declared.search.Escape.{Escape}
 use Rattle.narrowing.specs.Code.{below, escape_in, or_next, compared_in, first_in}
-use Rattle.narrowing_spec.specs.Narrow.{compared, with_parent, under_parent, narrow}
+use Rattle.narrowing_spec.specs.Narrow.{Narrowing, compared, with_parent, under_parent, narrow}
 use Rattle.narrowing.proofs.AgreeLaws.{scan_agrees}
 
 -- ---- both descriptors
 
--- the tests one by one are the tests together
+-- the code's tests are those of the definition
 tests_agree : (a b c d : Bool) (x y : Narrowing) → x ≡ y
-    → cond (not a) Constrained (cond (not b) Constrained (cond c Period (cond d Period x)))
-    ≡ cond (a && b) (cond (not c && not d) y Period) Constrained
+    → cond (not a || not b) (Err Constrained) (cond (c || d) (Err Period) x) ≡ cond (a && b) (cond (not c && not d) y (Err Period)) (Err Constrained)
 tests_agree false b c d x y e = refl
 tests_agree true false c d x y e = refl
 tests_agree true true true d x y e = refl
@@ -60,19 +64,18 @@ compared_agrees s t v w bs bt e f =
 
 -- the fields of an answer; v on a refusal
 abbrev fields_in : Fields → Reading → Fields
-fields_in v (reading.Read f) = f
-fields_in v reading.Structure = v
-fields_in v reading.Validity = v
+fields_in v (Ok f) = f
+fields_in v (Err e) = v
 
 -- what is seen where the fields v were read
 abbrev SeenAs : List ℕ → Fields → Type 0
 SeenAs s v = (x : Seen) × (read_of s ≡ read x) × (v ≡ fields_of x)
 
 -- fields that were read are those of what is seen
-seen_as : (s : List ℕ) (v : Fields) → reading.Read v ≡ reading_of (read_of s) → SeenAs s v
+seen_as : (s : List ℕ) (v : Fields) → Ok v ≡ reading_of (read_of s) → SeenAs s v
 seen_as s v e = go (read_of s) refl e
   where
-    go : (a : Answer) → read_of s ≡ a → reading.Read v ≡ reading_of a → SeenAs s v
+    go : (a : Answer) → read_of s ≡ a → Ok v ≡ reading_of a → SeenAs s v
     go (read x) f r = (x, f, ap (fields_in v) r)
     go structure f r = absurd (omega (arith, ap number_of r))
     go validity f r = absurd (omega (arith, ap number_of r))
@@ -83,28 +86,28 @@ unfolding part
 part_in s at n h e = let i = sym (length-take n (drop at s)) ∙ e in let j = length-drop at s in omega (arith, i, j)
 
 -- fields that were read are an allowed descriptor's, number by number
-fields_handed : (s : List ℕ) (v : Fields) → AreBytes s → reading.Read v ≡ reading_of (read_of s)
-    → (d : Descriptor) × Allowed d × DescriptorHanded s d (numbers_of (reading.Read v))
+fields_handed : (s : List ℕ) (v : Fields) → AreBytes s → Ok v ≡ reading_of (read_of s)
+    → (d : Descriptor) × Allowed d × DescriptorHanded s d (numbers_of (Ok v))
 fields_handed s v b e =
     let r = (answered_exactly s b).done.0 (sym (ap number_of e)) in
     (r.0, r.1, subst (λ (a : Reading). DescriptorHanded s r.0 (numbers_of a)) (sym e) (hands_back s b r.0 r.1 r.2))
 
 -- the terminal id lies within s
-pub terminal_room : (s : List ℕ) (v : Fields) → AreBytes s → reading.Read v ≡ reading_of (read_of s) → v.terminal + terminal_size ≤ length s
+pub terminal_room : (s : List ℕ) (v : Fields) → AreBytes s → Ok v ≡ reading_of (read_of s) → v.terminal + terminal_size ≤ length s
 terminal_room s v b e =
     let r = fields_handed s v b e in
     part_in s v.terminal terminal_size (omega arith)
     (ap length r.2.terminal ∙ terminal_length r.0.payload.terminal r.1.formed.payload.terminal)
 
 -- and there are at most 256 grants
-pub grants_few : (s : List ℕ) (v : Fields) → AreBytes s → reading.Read v ≡ reading_of (read_of s) → v.grants ≤ 256
+pub grants_few : (s : List ℕ) (v : Fields) → AreBytes s → Ok v ≡ reading_of (read_of s) → v.grants ≤ 256
 grants_few s v b e = let r = fields_handed s v b e in omega (arith, r.2.grants, r.1.formed.payload.most)
 
 -- ---- narrowing
 
 -- both read
-pub narrow_both : (s t : List ℕ) (v w : Fields) → AreBytes s → AreBytes t → reading.Read v ≡ reading_of (read_of s)
-    → reading.Read w ≡ reading_of (read_of t)
+pub narrow_both : (s t : List ℕ) (v w : Fields) → AreBytes s → AreBytes t → Ok v ≡ reading_of (read_of s)
+    → Ok w ≡ reading_of (read_of t)
     → compared_in s v t w ≡ narrow s t
 unfolding narrow
 narrow_both s t v w bs bt e f =
@@ -113,66 +116,48 @@ narrow_both s t v w bs bt e f =
     ap₂ (λ (a b : Fields). compared_in s a t b) x.2 y.2 ∙ compared_agrees s t x.0 y.0 bs bt x.1 y.1
     ∙ sym (ap (λ (a : Answer). with_parent s a t) x.1 ∙ ap (under_parent s x.0 t) y.1)
 
--- the child's structure is refused
-pub narrow_structure : (s t : List ℕ) (v : Fields) → reading.Read v ≡ reading_of (read_of s) → reading.Structure ≡ reading_of (read_of t)
-    → Structure ≡ narrow s t
-unfolding narrow
-narrow_structure s t v e f = let x = seen_as s v e in sym (ap (λ (a : Answer). with_parent s a t) x.1 ∙ go (read_of t) f)
-  where
-    go : (a : Answer) → reading.Structure ≡ reading_of a → under_parent s (seen_as s v e).0 t a ≡ Structure
-    go (read y) r = absurd (omega (arith, ap number_of r))
-    go structure r = refl
-    go validity r = absurd (omega (arith, ap number_of r))
+-- why a child is refused that does not read
+abbrev child_error : ReadError → NarrowingError
+child_error reading.Structure = Structure
+child_error reading.Validity = Validity
 
--- or its period is too long
-pub narrow_validity : (s t : List ℕ) (v : Fields) → reading.Read v ≡ reading_of (read_of s) → reading.Validity ≡ reading_of (read_of t)
-    → Validity ≡ narrow s t
+-- the child is refused
+pub narrow_child : (s t : List ℕ) (v : Fields) (e : ReadError) → Ok v ≡ reading_of (read_of s) → Err e ≡ reading_of (read_of t)
+    → Err (child_error e) ≡ narrow s t
 unfolding narrow
-narrow_validity s t v e f = let x = seen_as s v e in sym (ap (λ (a : Answer). with_parent s a t) x.1 ∙ go (read_of t) f)
+narrow_child s t v e f g = let x = seen_as s v f in sym (ap (λ (a : Answer). with_parent s a t) x.1 ∙ go (read_of t) g)
   where
-    go : (a : Answer) → reading.Validity ≡ reading_of a → under_parent s (seen_as s v e).0 t a ≡ Validity
-    go (read y) r = absurd (omega (arith, ap number_of r))
-    go structure r = absurd (omega (arith, ap number_of r))
-    go validity r = refl
+    go : (a : Answer) → Err e ≡ reading_of a → under_parent s (seen_as s v f).0 t a ≡ Err (child_error e)
+    go (read y) r = cc
+    go structure r = let h : e ≡ reading.Structure = cc in rw h
+    go validity r = let h : e ≡ reading.Validity = cc in rw h
 
 -- the parent is refused
-pub narrow_no_parent : (s t : List ℕ) (r : Reading) → 0 < number_of r → r ≡ reading_of (read_of s) → NoParent ≡ narrow s t
+pub narrow_no_parent : (s t : List ℕ) (e : ReadError) → Err e ≡ reading_of (read_of s) → Err NoParent ≡ narrow s t
 unfolding narrow
-narrow_no_parent s t r h e = go (read_of s) e
+narrow_no_parent s t e f = go (read_of s) f
   where
-    go : (a : Answer) → r ≡ reading_of a → NoParent ≡ with_parent s a t
-    go (read y) f = absurd (omega (arith, h, ap number_of f))
-    go structure f = refl
-    go validity f = refl
+    go : (a : Answer) → Err e ≡ reading_of a → Err NoParent ≡ with_parent s a t
+    go (read y) g = cc
+    go structure g = refl
+    go validity g = refl
 
--- ---- the tests of `compared`, one after the other
+-- ---- the tests of `compared`
 
-module _ (s : List ℕ) (v : Fields) (t : List ℕ) (w : Fields) where
-  pub parent_constrained : (v.constraints ≡ 0 → ⊥) → Constrained ≡ compared_in s v t w
-  unfolding compared_in
-  parent_constrained a = rw (ne_eqb _ _ a)
-
-  pub child_constrained : v.constraints ≡ 0 → (w.constraints ≡ 0 → ⊥) → Constrained ≡ compared_in s v t w
-  unfolding compared_in
-  child_constrained a b = rw (eq-eqb _ _ a, ne_eqb _ _ b)
-
-  pub begins_early : v.constraints ≡ 0 → w.constraints ≡ 0 → ltb w.not_before.0 v.not_before.0 ≡ true
-      → Period ≡ compared_in s v t w
-  unfolding compared_in
-  begins_early a b c = rw (eq-eqb _ _ a, eq-eqb _ _ b, c)
-
-  pub ends_late : v.constraints ≡ 0 → w.constraints ≡ 0 → ltb w.not_before.0 v.not_before.0 ≡ false
-      → ltb v.not_after.0 w.not_after.0 ≡ true
-      → Period ≡ compared_in s v t w
-  unfolding compared_in
-  ends_late a b c d = rw (eq-eqb _ _ a, eq-eqb _ _ b, c, d)
-
-  pub compared_first : {shared : Bool} → v.constraints ≡ 0 → w.constraints ≡ 0 → ltb w.not_before.0 v.not_before.0 ≡ false
-      → ltb v.not_after.0 w.not_after.0 ≡ false
-      → shared ≡ cbor.same (part s v.terminal terminal_size) (part t w.terminal terminal_size)
-      → first_in s v.first v.grants shared t 0 w.grants w.first ≡ compared_in s v t w
-  unfolding compared_in
-  compared_first a b c d e = rw (eq-eqb _ _ a, eq-eqb _ _ b, c, d, e)
+-- two without a constraint pair, the child's period within the parent's
+pub compared_first : (s : List ℕ) (v : Fields) (t : List ℕ) (w : Fields) {shared : Bool} → v.constraints ≡ 0 → w.constraints ≡ 0
+    → false ≡ is_lt (nat_cmp w.not_before.0 v.not_before.0)
+    → false ≡ is_lt (nat_cmp v.not_after.0 w.not_after.0)
+    → shared ≡ pointwise eqb (take (v.terminal + terminal_size - v.terminal) (drop v.terminal s))
+    (take (w.terminal + terminal_size - w.terminal) (drop w.terminal t))
+    → first_in s v.first v.grants shared t 0 w.grants w.first ≡ compared_in s v t w
+unfolding compared_in
+compared_first s v t w {shared} a b c d e =
+    let begins : ltb w.not_before.0 v.not_before.0 ≡ false = grind (arith, nat_tests) in
+    let ends : ltb v.not_after.0 w.not_after.0 ≡ false = grind (arith, nat_tests) in
+    let same_id : shared ≡ cbor.same (part s v.terminal terminal_size) (part t w.terminal terminal_size) =
+    e ∙ pointwise_same _ _ ∙ ap₂ cbor.same (lent_part s v.terminal terminal_size) (lent_part t w.terminal terminal_size) in
+    rw (eq-eqb _ _ a, eq-eqb _ _ b, begins, ends, same_id)
 
 -- ---- the search through the child's grants
 
@@ -183,11 +168,6 @@ lent s g = take (g.pattern.start + g.pattern.len - (g.pattern.start + levels_pla
 -- they are those below the terminal id
 lent_below : (s : List ℕ) (g : GrantSeen) → lent s g ≡ below s g.pattern
 lent_below s g = lent_later s g.pattern.start g.pattern.len levels_place
-
--- the search from the first grant on
-pub first_begin : (s : List ℕ) (at count : ℕ) (shared : Bool) (t : List ℕ) (n from : ℕ)
-    → first_in s at count shared t 0 (n - 0) from ≡ first_in s at count shared t 0 n from
-first_begin s at count shared t n from = let e : n - 0 ≡ n = omega arith in ap (λ (k : ℕ). first_in s at count shared t 0 k from) e
 
 module _ (s : List ℕ) (at count : ℕ) (shared : Bool) (t : List ℕ) (i n here : ℕ) where
   -- one grant that was read
@@ -202,26 +182,26 @@ module _ (s : List ℕ) (at count : ℕ) (shared : Bool) (t : List ℕ) (i n her
       ∙ rw (l, first_in, ← e)
 
   -- a grant by which a path escapes
-  pub first_hit : {g : GrantSeen} {next m k : ℕ} → i < n → got g next ≡ grant_at t here
-      → At m k ≡ escape_in s at count shared (lent t g) g.mask
-      → NotCovered i m k ≡ first_in s at count shared t i (n - i) here
-  first_hit {next = next} h e f = ap (λ (r : Found). or_next i r (first_in s at count shared t (i + 1) (n - (i + 1)) next)) f ∙ first_one h e
+  pub first_hit : {g : GrantSeen} {next : ℕ} {x : Escape} → i < n → got g next ≡ grant_at t here
+      → Some x ≡ escape_in s at count shared (lent t g) g.mask
+      → Err (NotCovered i x.mode x.levels) ≡ first_in s at count shared t i (n - i) here
+  first_hit {next = next} h e f = ap (λ (r : Option Escape). or_next i r (first_in s at count shared t (i + 1) (n - (i + 1)) next)) f ∙ first_one h e
 
   -- a grant by which none does
-  pub first_next : {g : GrantSeen} {next : ℕ} → i < n → got g next ≡ grant_at t here → Nothing
+  pub first_next : {g : GrantSeen} {next : ℕ} → i < n → got g next ≡ grant_at t here → None
       ≡ escape_in s at count shared (lent t g) g.mask
       → first_in s at count shared t (i + 1) (n - (i + 1)) next ≡ first_in s at count shared t i (n - i) here
-  first_next {next = next} h e f = ap (λ (r : Found). or_next i r (first_in s at count shared t (i + 1) (n - (i + 1)) next)) f ∙ first_one h e
+  first_next {next = next} h e f = ap (λ (r : Option Escape). or_next i r (first_in s at count shared t (i + 1) (n - (i + 1)) next)) f ∙ first_one h e
 
   -- no grant
-  pub first_none : i < n → refused ≡ grant_at t here → Accepted ≡ first_in s at count shared t i (n - i) here
+  pub first_none : i < n → refused ≡ grant_at t here → Ok tt ≡ first_in s at count shared t i (n - i) here
   unfolding first_in
   first_none h e =
       let l : n - i ≡ suc (n - (i + 1)) = omega arith in
       rw (l, first_in, ← e)
 
   -- the last was read
-  pub first_done : n ≤ i → Accepted ≡ first_in s at count shared t i (n - i) here
+  pub first_done : n ≤ i → Ok tt ≡ first_in s at count shared t i (n - i) here
   unfolding first_in
   first_done h =
       let l : n - i ≡ 0 = omega arith in

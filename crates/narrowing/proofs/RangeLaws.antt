@@ -16,7 +16,7 @@ use Rattle.resource_spec.specs.Pattern.{Levels, done, deep, name, star}
 use Rattle.resource_spec.specs.Cover.{matches_fresh, covers}
 use Rattle.octets.proofs.Tests.{no_flag}
 use Rattle.descriptor_spec.specs.Reader.{has_mode}
-use Rattle.narrowing.specs.declared.range.Range.{Range}
+use Rattle.narrowing.specs.Range.{Range}
 use Rattle.narrowing_spec.specs.Escape.{can_take}
 use Rattle.narrowing.specs.Range.{range, in_range, most, fresh_range, cover_range, marked}
 

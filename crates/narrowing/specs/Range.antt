@@ -6,15 +6,19 @@ use Rattle.octets.specs.Bytes.{same}
 use Rattle.resource_spec.specs.Level.{levels}
 use Rattle.resource_spec.specs.Pattern.{Levels, done, deep, name, star}
 use Rattle.resource_spec.specs.Text.{levels_of}
-use Rattle.narrowing.specs.declared.range.Range.{Range}
+use Rattle.std.specs.declared.ops.Range.{Range as RangeOf}
+
+-- a range of numbers
+abbrev pub Range : Type 0
+Range = RangeOf ℕ
 
 -- the numbers from lo on and below hi
 abbrev pub range : ℕ → ℕ → Range
-range lo hi = record { lo = lo; hi = hi }
+range lo hi = record { start = lo; end = hi }
 
 -- k is one of them
 abbrev pub in_range : Range → ℕ → Bool
-in_range r k = leb r.lo k && ltb k r.hi
+in_range r k = leb r.start k && ltb k r.end
 
 -- more names than any parent pattern of 256 bytes has levels
 abbrev pub most : ℕ

@@ -9,50 +9,49 @@ ghost use Rattle.resource_spec.specs.Identifier.{terminal_size};
 ghost use Rattle.narrowing_spec.specs.Narrow.{narrow as narrowed};
 ghost use Rattle.narrowing.specs.Code.{compared_in};
 
-use descriptor::{Fields, Reading};
-pub use narrowing_spec::{Narrowing, NarrowingNumbers};
+use descriptor::{Fields, ReadError};
+pub use narrowing_spec::{NarrowingError, NarrowingNumbers};
 use resource_spec::sizes::TERMINAL_SIZE;
+use search::{Parent, Row};
 
-// Both read: 19, then 18, then 20, else 0.
-fn compared(s: &[u8], v: Fields, t: &[u8], w: Fields) -> Narrowing
+// Both read: 19, then 18, then 20, else accepted.
+#[tactic(auto, unfolding(crate::specs::Code::compared_in))]
+fn compared(s: &[u8], v: Fields, t: &[u8], w: Fields) -> Result<(), NarrowingError>
     requires { (v.terminal + terminal_size ≤ length s.now) × (w.terminal + terminal_size ≤ length t.now) × (v.grants ≤ 256) }
     ensures { result ≡ compared_in s.now v t.now w }
 {
-    if v.constraints != 0 {
-        return Narrowing::Constrained;
+    if v.constraints != 0 || w.constraints != 0 {
+        return Err(NarrowingError::Constrained);
     }
-    if w.constraints != 0 {
-        return Narrowing::Constrained;
+    if w.not_before < v.not_before || v.not_after < w.not_after {
+        return Err(NarrowingError::Period);
     }
-    let from = v.not_before;
-    let begins = w.not_before;
-    if begins.is_before(from) {
-        return Narrowing::Period;
-    }
-    let until = v.not_after;
-    let ends = w.not_after;
-    if until.is_before(ends) {
-        return Narrowing::Period;
-    }
-    let a = v.terminal;
-    let b = w.terminal;
-    let shared = octets::same_start(&s[a..], &t[b..], TERMINAL_SIZE);
-    let mut table = [0usize; 768];
-    let rows = search::fill(s, v.first, v.grants, &mut table);
-    search::first(s, &table, rows, shared, t, w.first, w.grants)
+    let shared = s[v.terminal..v.terminal + TERMINAL_SIZE]
+        == t[w.terminal..w.terminal + TERMINAL_SIZE];
+    let mut table = [Row {
+        start: 0,
+        end: 0,
+        mask: 0,
+    }; 256];
+    let rows = search::fill(s, v.first, v.grants as usize, &mut table);
+    let parent = Parent {
+        bytes: s,
+        rows: &table[..rows],
+        shared,
+    };
+    parent.first(t, w.first, w.grants)
 }
 
 // Narrows the child under the parent.
-pub fn narrow(parent: &[u8], child: &[u8]) -> Narrowing
+pub fn narrow(parent: &[u8], child: &[u8]) -> Result<(), NarrowingError>
     ensures { result ≡ narrowed parent.now child.now }
 {
-    match descriptor::read_descriptor(parent) {
-        Reading::Read(v) => match descriptor::read_descriptor(child) {
-            Reading::Read(w) => compared(parent, v, child, w),
-            Reading::Structure => Narrowing::Structure,
-            Reading::Validity => Narrowing::Validity,
-        },
-        Reading::Structure => Narrowing::NoParent,
-        Reading::Validity => Narrowing::NoParent,
+    let Ok(v) = descriptor::read_descriptor(parent) else {
+        return Err(NarrowingError::NoParent);
+    };
+    match descriptor::read_descriptor(child) {
+        Ok(w) => compared(parent, v, child, w),
+        Err(ReadError::Structure) => Err(NarrowingError::Structure),
+        Err(ReadError::Validity) => Err(NarrowingError::Validity),
     }
 }

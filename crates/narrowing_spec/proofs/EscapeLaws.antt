@@ -1,17 +1,18 @@
 -- The first escape of a child's grants (specs/Promises.antt) is the one that the search finds, and there is one alone. Assumes nothing.
-use mathlib.Core.Path.{◌≡◌, refl, subst}
+use Rattle.std.specs.Prelude.{Ok, Err}
+use mathlib.Core.Path.{◌≡◌, refl, subst, ap}
 use mathlib.Core.Logic.{◌↔◌}
 use mathlib.Core.List.{List}
-use mathlib.Core.Option.{Option, none, some}
+use Rattle.std.specs.Prelude.{Option, None, Some}
 use Prim.Native.Nat.{ℕ, ◌<◌}
 use native.Mathlib.Omega.{arith}
 use lib.ListN.{length}
 use Rattle.descriptor_spec.specs.Model.{Descriptor}
 use Rattle.descriptor_spec.specs.Allowed.{GrantOk, All, Allowed}
 use Rattle.descriptor_spec.proofs.Laws.{grants_allowed}
-use Rattle.narrowing_spec.specs.declared.Narrowing.{Narrowing}
-use Rattle.narrowing_spec.specs.declared.Narrowing.TheVariants.{Accepted, NoParent, Structure, Validity, Constrained, Period}
-use Rattle.narrowing_spec.specs.declared.Narrowing.TheVariants.{NotCovered}
+use Rattle.narrowing_spec.specs.Narrow.{Narrowing}
+use Rattle.narrowing_spec.specs.declared.NarrowingError.TheVariants.{NoParent, Structure, Validity, Constrained, Period}
+use Rattle.narrowing_spec.specs.declared.NarrowingError.TheVariants.{NotCovered}
 use Rattle.narrowing_spec.specs.Escape.{Rule, rule_at, first_rule}
 use Rattle.narrowing_spec.specs.Narrow.{answer_at}
 use Rattle.narrowing_spec.specs.Promises.{grant_of, NoEscape, FirstEscape}
@@ -112,13 +113,13 @@ by_grants p c =
 
 -- what an answer by the grants says: 0 that no path escapes, 20 which escape is the first, with its witness path; there is no other
 abbrev pub Says : Descriptor → Descriptor → Narrowing → Type 0
-Says p c Accepted = (i : ℕ) → i < length c.payload.grants → (n : ℕ) → NoEscape p (grant_of c i) n
-Says p c NoParent = ⊥
-Says p c Structure = ⊥
-Says p c Validity = ⊥
-Says p c Constrained = ⊥
-Says p c Period = ⊥
-Says p c (NotCovered i m k) = FirstEscape p c i m k × Attained p (grant_of c i) m k
+Says p c (Ok tt) = (i : ℕ) → i < length c.payload.grants → (n : ℕ) → NoEscape p (grant_of c i) n
+Says p c (Err NoParent) = ⊥
+Says p c (Err Structure) = ⊥
+Says p c (Err Validity) = ⊥
+Says p c (Err Constrained) = ⊥
+Says p c (Err Period) = ⊥
+Says p c (Err (NotCovered i m k)) = FirstEscape p c i m k × Attained p (grant_of c i) m k
 
 -- it is so
 pub grants_say : (p c : Descriptor) → Allowed p → Allowed c → Says p c (by_grants p c)
@@ -131,25 +132,25 @@ grants_say p c a b = go (first_rule qs cs) refl
     cs = rules_of c.payload.grants
 
     go : (o : Option ℕ) → first_rule qs cs ≡ o → Says p c (answer_at qs cs o)
-    go none q =
+    go None q =
         λ i h n. no_escape p c a b i h n
         (first_none qs cs (rule_patterns c.payload.grants (grants_ok c b)) q i
         (omega (arith, h, rules_length c.payload.grants)) n)
-    go (some i) q =
+    go (Some i) q =
         let f = first_some qs cs i (rule_patterns c.payload.grants (grants_ok c b)) q in
         (first_escape p c i _ _ a b f, first_attained p c i _ _ a b f)
 
 -- where there is a first escape, the answer is 20 with its numbers
-escape_said : (p c : Descriptor) (i m k : ℕ) → FirstEscape p c i m k → (n : Narrowing) → Says p c n → n ≡ NotCovered i m k
-escape_said p c i m k f Accepted s = let w = f.attained in absurd (s i f.place m w.0 w.1 w.2)
-escape_said p c i m k f NoParent s = absurd s
-escape_said p c i m k f Structure s = absurd s
-escape_said p c i m k f Validity s = absurd s
-escape_said p c i m k f Constrained s = absurd s
-escape_said p c i m k f Period s = absurd s
-escape_said p c i m k f (NotCovered j n l) s = one_escape p c j n l i m k s.0 f
+escape_said : (p c : Descriptor) (i m k : ℕ) → FirstEscape p c i m k → (n : Narrowing) → Says p c n → n ≡ Err (NotCovered i m k)
+escape_said p c i m k f (Ok tt) s = let w = f.attained in absurd (s i f.place m w.0 w.1 w.2)
+escape_said p c i m k f (Err NoParent) s = absurd s
+escape_said p c i m k f (Err Structure) s = absurd s
+escape_said p c i m k f (Err Validity) s = absurd s
+escape_said p c i m k f (Err Constrained) s = absurd s
+escape_said p c i m k f (Err Period) s = absurd s
+escape_said p c i m k f (Err (NotCovered j n l)) s = ap Err (one_escape p c j n l i m k s.0 f)
 
 -- the grants answer 20 exactly with the numbers of the first escape
-pub grants_escape : (p c : Descriptor) (i m k : ℕ) → Allowed p → Allowed c → (by_grants p c ≡ NotCovered i m k) ↔ FirstEscape p c i m k
+pub grants_escape : (p c : Descriptor) (i m k : ℕ) → Allowed p → Allowed c → (by_grants p c ≡ Err (NotCovered i m k)) ↔ FirstEscape p c i m k
 grants_escape p c i m k a b =
     (λ e. (subst (Says p c) e (grants_say p c a b)).0, λ f. escape_said p c i m k f (by_grants p c) (grants_say p c a b))

@@ -1,5 +1,6 @@
 -- The laws of specs/Laws.antt, proved. Assumes nothing.
-use Rattle.narrowing_spec.specs.declared.Narrowing.TheVariants.{NotCovered}
+use Rattle.std.specs.Prelude.{Err}
+use Rattle.narrowing_spec.specs.declared.NarrowingError.TheVariants.{NotCovered}
 use Rattle.narrowing_spec.specs.Narrow.{narrow}
 use Rattle.narrowing_spec.specs.Laws.{RulesInTurn, LeastBelow, LeastFails, LeastSame, NamesSettle, WitnessAttained}
 use Rattle.narrowing_spec.proofs.LeastLaws as least
@@ -24,4 +25,4 @@ pub names_settle : NamesSettle
 names_settle qs g m k h = with_last_lem qs g m k h
 
 pub witness_attained : WitnessAttained
-witness_attained s t p c i m k a b h = narrow_attained s t p c i m k a b ((numbers_tell (narrow s t) (NotCovered i m k)).0 h)
+witness_attained s t p c i m k a b h = narrow_attained s t p c i m k a b ((numbers_tell (narrow s t) (Err (NotCovered i m k))).0 h)

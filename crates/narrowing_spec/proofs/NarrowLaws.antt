@@ -1,4 +1,5 @@
 -- Narrowing of bytes that read: 18, 20 and 0 exactly where the promises have them, and chains. Assumes nothing.
+use Rattle.std.specs.Prelude.{Ok, Err}
 use mathlib.Core.Path.{◌≡◌, refl, sym, ap, ◌∙◌, subst}
 use mathlib.Core.Logic.{◌↔◌}
 use mathlib.Core.Bool.{Bool, true, false, cond, ◌&&◌}
@@ -18,9 +19,9 @@ use Rattle.descriptor_spec.specs.Allowed.{is_in, GrantOk, All, Allowed}
 use Rattle.descriptor_spec.specs.Reader.{Seen, Answer, read, structure, validity, read_of}
 use Rattle.descriptor_spec.specs.View.{descriptor_view}
 use Rattle.descriptor_spec.proofs.Laws.{reads_exactly}
-use Rattle.narrowing_spec.specs.declared.Narrowing.{Narrowing}
-use Rattle.narrowing_spec.specs.declared.Narrowing.TheVariants.{Accepted, NoParent, Structure, Validity, Constrained, Period}
-use Rattle.narrowing_spec.specs.declared.Narrowing.TheVariants.{NotCovered}
+use Rattle.narrowing_spec.specs.Narrow.{Narrowing}
+use Rattle.narrowing_spec.specs.declared.NarrowingError.TheVariants.{NoParent, Structure, Validity, Constrained, Period}
+use Rattle.narrowing_spec.specs.declared.NarrowingError.TheVariants.{NotCovered}
 use Rattle.narrowing_spec.specs.Meaning.{grant_admits, any_admits, Admits}
 use Rattle.narrowing_spec.specs.Escape.{witness_path}
 use Rattle.narrowing_spec.specs.Narrow.{rules_in, unconstrained, under_parent, narrow}
@@ -60,23 +61,23 @@ abbrev within : Descriptor → Descriptor → Bool
 within p c = leb p.payload.not_before c.payload.not_before && leb c.payload.not_after p.payload.not_after
 
 -- the answer for two descriptors
-narrow_as : (s t : List ℕ) (p c : Descriptor) → ReadAs s p → ReadAs t c → narrow s t ≡ cond (within p c) (by_grants p c) Period
+narrow_as : (s t : List ℕ) (p c : Descriptor) → ReadAs s p → ReadAs t c → narrow s t ≡ cond (within p c) (by_grants p c) (Err Period)
 narrow_as s t p c a b =
     both_as s t (descriptor_view 0 p) (descriptor_view 0 c) (seen_as s p a) (seen_as t c b)
     ∙ rw (plain_as s p a, plain_as t c b, rules_as s p a, rules_as t c b)
 
 -- a child that is accepted reads as a descriptor with no pair
-pub accepted_reads : (s t : List ℕ) (p : Descriptor) → ReadAs s p → AreBytes t → narrow s t ≡ Accepted → (d : Descriptor) × ReadAs t d
+pub accepted_reads : (s t : List ℕ) (p : Descriptor) → ReadAs s p → AreBytes t → narrow s t ≡ Ok tt → (d : Descriptor) × ReadAs t d
 accepted_reads s t p a b e = go (read_of t) refl (sym (goes_on s t v (seen_as s p a)) ∙ e)
   where
     v : Seen
     v = descriptor_view 0 p
 
-    go : (r : Answer) → read_of t ≡ r → under_parent s v t r ≡ Accepted → (d : Descriptor) × ReadAs t d
+    go : (r : Answer) → read_of t ≡ r → under_parent s v t r ≡ Ok tt → (d : Descriptor) × ReadAs t d
     go (read w) q h =
         let r = (reads_exactly t b w).0 q in
         let u : (unconstrained v && unconstrained w) ≡ true
-        = (chosen (unconstrained v && unconstrained w) _ Constrained (λ i. absurd (omega (arith, number i)))
+        = (chosen (unconstrained v && unconstrained w) _ (Err Constrained) (λ i. absurd (omega (arith, number i)))
         (sym (both_as s t v w (seen_as s p a) q) ∙ e)).0 in
         let n = subst (λ (x : Seen). unconstrained x ≡ true) r.3 (and_right (unconstrained v) (unconstrained w) u) in
         (r.0, record { bytes = b; allowed = r.1; encoded = r.2; plain = (pairs_none r.0 r.1.formed).0 n })
@@ -86,7 +87,7 @@ accepted_reads s t p a b e = go (read_of t) refl (sym (goes_on s t v (seen_as s 
 -- ---- inside
 
 -- where the period lies within and the grants answer 0, the child is inside the parent
-accepted_inside : (p c : Descriptor) → Allowed p → Allowed c → PeriodInside p c → by_grants p c ≡ Accepted → Inside p c
+accepted_inside : (p c : Descriptor) → Allowed p → Allowed c → PeriodInside p c → by_grants p c ≡ Ok tt → Inside p c
 accepted_inside p c a b w e moment x m j h =
     let r : (i : ℕ) × (i < length c.payload.grants) × (grant_admits (grant_of c i) m x ≡ true) =
     admitting c.payload.grants _ m x h.granted in
@@ -137,20 +138,20 @@ inside_period p c b i =
     (first.begun, omega (arith, last.lasting, l))
 
 -- and the grants answer 0: a path that escapes would be admitted at the child's first moment
-inside_said : (p c : Descriptor) → Allowed c → Inside p c → (n : Narrowing) → Says p c n → n ≡ Accepted
-inside_said p c b i Accepted s = refl
-inside_said p c b i NoParent s = absurd s
-inside_said p c b i Structure s = absurd s
-inside_said p c b i Validity s = absurd s
-inside_said p c b i Constrained s = absurd s
-inside_said p c b i Period s = absurd s
-inside_said p c b i (NotCovered j n l) s =
+inside_said : (p c : Descriptor) → Allowed c → Inside p c → (n : Narrowing) → Says p c n → n ≡ Ok tt
+inside_said p c b i (Ok tt) s = refl
+inside_said p c b i (Err NoParent) s = absurd s
+inside_said p c b i (Err Structure) s = absurd s
+inside_said p c b i (Err Validity) s = absurd s
+inside_said p c b i (Err Constrained) s = absurd s
+inside_said p c b i (Err Period) s = absurd s
+inside_said p c b i (Err (NotCovered j n l)) s =
     let w = s.0.attained in
     let g = admitted_by c.payload.grants _ _ _ j s.0.place w.2.admitted in
     let h = i c.payload.not_before _ _ w.1 (record { begun = omega arith; lasting = b.formed.payload.lasts; granted = g }) in
     absurd (contra _ h.granted w.2.outside)
 
-inside_accepted : (p c : Descriptor) → Allowed p → Allowed c → Inside p c → by_grants p c ≡ Accepted
+inside_accepted : (p c : Descriptor) → Allowed p → Allowed c → Inside p c → by_grants p c ≡ Ok tt
 inside_accepted p c a b i = inside_said p c b i (by_grants p c) (grants_say p c a b)
 
 -- ---- the period
@@ -170,31 +171,31 @@ test_inside p c e = (
 
 -- within the parent's period the grants decide
 within_as : (s t : List ℕ) (p c : Descriptor) → ReadAs s p → ReadAs t c → PeriodInside p c → narrow s t ≡ by_grants p c
-within_as s t p c a b i = narrow_as s t p c a b ∙ ap (λ (w : Bool). cond w (by_grants p c) Period) (inside_test p c i)
+within_as s t p c a b i = narrow_as s t p c a b ∙ ap (λ (w : Bool). cond w (by_grants p c) (Err Period)) (inside_test p c i)
 
 -- an answer other than 18 is that of the grants, within the parent's period
-not_period : (s t : List ℕ) (p c : Descriptor) {n : Narrowing} → ReadAs s p → ReadAs t c → (Period ≡ n → ⊥) → narrow s t ≡ n
+not_period : (s t : List ℕ) (p c : Descriptor) {n : Narrowing} → ReadAs s p → ReadAs t c → (Err Period ≡ n → ⊥) → narrow s t ≡ n
     → PeriodInside p c × (by_grants p c ≡ n)
 not_period s t p c a b d h =
-    let r = chosen (within p c) (by_grants p c) Period d (sym (narrow_as s t p c a b) ∙ h) in
+    let r = chosen (within p c) (by_grants p c) (Err Period) d (sym (narrow_as s t p c a b) ∙ h) in
     (test_inside p c r.0, r.1)
 
 -- ---- the promises, of the answers
 
 -- 18 exactly when the child's period does not lie within the parent's
-pub narrow_period : (s t : List ℕ) (p c : Descriptor) → ReadAs s p → ReadAs t c → (narrow s t ≡ Period) ↔ (PeriodInside p c → ⊥)
+pub narrow_period : (s t : List ℕ) (p c : Descriptor) → ReadAs s p → ReadAs t c → (narrow s t ≡ Err Period) ↔ (PeriodInside p c → ⊥)
 narrow_period s t p c a b = (
   λ h i. subst (Says p c) (sym (within_as s t p c a b i) ∙ h) (grants_say p c a.allowed b.allowed),
   λ f. go f (within p c) refl,
 )
   where
-    go : (PeriodInside p c → ⊥) → (w : Bool) → within p c ≡ w → narrow s t ≡ Period
+    go : (PeriodInside p c → ⊥) → (w : Bool) → within p c ≡ w → narrow s t ≡ Err Period
     go f true e = absurd (f (test_inside p c e))
-    go f false e = narrow_as s t p c a b ∙ ap (λ (w : Bool). cond w (by_grants p c) Period) e
+    go f false e = narrow_as s t p c a b ∙ ap (λ (w : Bool). cond w (by_grants p c) (Err Period)) e
 
 -- 20 exactly with the numbers of the first escape, within the parent's period
 pub narrow_escape : (s t : List ℕ) (p c : Descriptor) (i m k : ℕ) → ReadAs s p → ReadAs t c
-    → (narrow s t ≡ NotCovered i m k) ↔ (PeriodInside p c × FirstEscape p c i m k)
+    → (narrow s t ≡ Err (NotCovered i m k)) ↔ (PeriodInside p c × FirstEscape p c i m k)
 narrow_escape s t p c i m k a b =
     let g = grants_escape p c i m k a.allowed b.allowed in (
       λ h. let r = not_period s t p c a b (λ e. omega (arith, number e)) h in (r.0, g.0 r.1),
@@ -202,13 +203,13 @@ narrow_escape s t p c i m k a b =
     )
 
 -- its numbers are those of the witness path
-pub narrow_attained : (s t : List ℕ) (p c : Descriptor) (i m k : ℕ) → ReadAs s p → ReadAs t c → narrow s t ≡ NotCovered i m k
+pub narrow_attained : (s t : List ℕ) (p c : Descriptor) (i m k : ℕ) → ReadAs s p → ReadAs t c → narrow s t ≡ Err (NotCovered i m k)
     → Attained p (grant_of c i) m k
 narrow_attained s t p c i m k a b h =
     (subst (Says p c) (not_period s t p c a b (λ e. omega (arith, number e)) h).1 (grants_say p c a.allowed b.allowed)).1
 
 -- accepted exactly when the child is inside the parent
-pub narrow_accepted : (s t : List ℕ) (p c : Descriptor) → ReadAs s p → ReadAs t c → (narrow s t ≡ Accepted) ↔ Inside p c
+pub narrow_accepted : (s t : List ℕ) (p c : Descriptor) → ReadAs s p → ReadAs t c → (narrow s t ≡ Ok tt) ↔ Inside p c
 narrow_accepted s t p c a b = (
   λ h. let r = not_period s t p c a b (λ e. omega (arith, number e)) h in accepted_inside p c a.allowed b.allowed r.0 r.1,
   λ i. within_as s t p c a b (inside_period p c b.allowed i) ∙ inside_accepted p c a.allowed b.allowed i,

@@ -2,7 +2,7 @@
 use mathlib.Core.Path.{◌≡◌, sym, ◌∙◌}
 use mathlib.Core.Bool.{true, false, not, ◌&&◌}
 use mathlib.Core.List.{List}
-use mathlib.Core.Option.{none, some}
+use Rattle.std.specs.Prelude.{None, Some, is_some}
 use mathlib.Core.Logic.{⊎_elim}
 use Prim.Native.Nat.{ℕ, zero, suc, zero-le, ◌+◌, ◌≤◌, ◌<◌}
 use native.Mathlib.Nat.{not-suc-le-zero, eq-or-lt_of_le, le_of_suc-le-suc}
@@ -16,7 +16,7 @@ use Rattle.resource_spec.specs.Cover.{CanTake}
 use Rattle.resource_spec.proofs.Laws.{taken_can}
 use Rattle.octets.proofs.Tests.{and_left, and_right, and_both}
 use Rattle.descriptor_spec.specs.Reader.{has_mode}
-use Rattle.narrowing_spec.specs.Escape.{Rule, covered, can_take, escapes_with, deepest, is_some, or_zero, fewest_names, lowest_mode, rule_at}
+use Rattle.narrowing_spec.specs.Escape.{Rule, covered, can_take, escapes_with, deepest, or_zero, fewest_names, lowest_mode, rule_at}
 use Rattle.narrowing_spec.specs.Escape.{first_rule, witness_path}
 use Rattle.narrowing_spec.proofs.LeastLaws.{Least, least_some, least_none, some_of, none_of}
 use Rattle.narrowing_spec.proofs.CoveredLaws.{contra, true_of, rule_admits, rules_admit, taken_in, can_take_lem, covered_admits}
@@ -83,7 +83,7 @@ with_last_lem qs g m (suc k) h =
     ⊎_elim (λ (e : deepest qs ≡ k). rw e) (λ l. with_stays qs g m k l ∙ with_last_lem qs g m k l) (eq-or-lt_of_le (le_of_suc-le-suc h))
 
 -- where the search finds no number of names, no path escapes by the rule in the mode
-fewest_none : (qs : List Rule) (g : Rule) (m : ℕ) → IsPattern g.pattern → fewest_names qs g m ≡ none → NoRuleEscape qs g m
+fewest_none : (qs : List Rule) (g : Rule) (m : ℕ) → IsPattern g.pattern → fewest_names qs g m ≡ None → NoRuleEscape qs g m
 unfolding fewest_names
 fewest_none qs g m i e x j h = go (dec_lt k (2 + deepest qs))
   where
@@ -100,7 +100,7 @@ fewest_none qs g m i e x j h = go (dec_lt k (2 + deepest qs))
         (fails (suc (deepest qs)) (omega arith))
 
 -- a number of names that the search finds is the fewest
-fewest_some : (qs : List Rule) (g : Rule) (m k : ℕ) → IsPattern g.pattern → fewest_names qs g m ≡ some k → Fewest qs g m k
+fewest_some : (qs : List Rule) (g : Rule) (m k : ℕ) → IsPattern g.pattern → fewest_names qs g m ≡ Some k → Fewest qs g m k
 unfolding fewest_names
 fewest_some qs g m k i e =
     record { path = witness_path_lem qs g.pattern k i w.0; escapes = w.1; takes = witness_taken qs g.pattern k w.0; fewest = few }
@@ -122,7 +122,7 @@ fewest_some qs g m k i e =
 -- ---- the modes of a rule
 
 -- where the search finds no mode, no path escapes by the rule
-lowest_none : (qs : List Rule) (g : Rule) → IsPattern g.pattern → lowest_mode qs g ≡ none → (n : ℕ) → n < 4 → NoRuleEscape qs g n
+lowest_none : (qs : List Rule) (g : Rule) → IsPattern g.pattern → lowest_mode qs g ≡ None → (n : ℕ) → n < 4 → NoRuleEscape qs g n
 unfolding lowest_mode
 lowest_none qs g i e n h =
     fewest_none qs g n i (none_of (fewest_names qs g n) (least_none (λ m. is_some (fewest_names qs g m)) 0 4 e n zero-le (omega arith)))
@@ -134,7 +134,7 @@ pub record Lowest (qs : List Rule) (g : Rule) (m k : ℕ) : Type 0 where
   pub fewest : Fewest qs g m k
 
 -- a mode that the search finds is the lowest, with its fewest names
-lowest_some : (qs : List Rule) (g : Rule) (m : ℕ) → IsPattern g.pattern → lowest_mode qs g ≡ some m
+lowest_some : (qs : List Rule) (g : Rule) (m : ℕ) → IsPattern g.pattern → lowest_mode qs g ≡ Some m
     → Lowest qs g m (or_zero (fewest_names qs g m))
 unfolding lowest_mode
 lowest_some qs g m i e =
@@ -152,7 +152,7 @@ abbrev pub ArePatterns : List Rule → Type 0
 ArePatterns cs = (i : ℕ) → i < length cs → IsPattern (rule_at cs i).pattern
 
 -- where the search finds no rule, no path escapes by any
-pub first_none : (qs cs : List Rule) → ArePatterns cs → first_rule qs cs ≡ none
+pub first_none : (qs cs : List Rule) → ArePatterns cs → first_rule qs cs ≡ None
     → (i : ℕ) → i < length cs → (n : ℕ) → n < 4 → NoRuleEscape qs (rule_at cs i) n
 unfolding first_rule
 first_none qs cs a e i l =
@@ -166,7 +166,7 @@ pub record First (qs cs : List Rule) (i m k : ℕ) : Type 0 where
   pub lowest : Lowest qs (rule_at cs i) m k
 
 -- a rule that the search finds is the first, with its lowest mode and its fewest names
-pub first_some : (qs cs : List Rule) (i : ℕ) → ArePatterns cs → first_rule qs cs ≡ some i
+pub first_some : (qs cs : List Rule) (i : ℕ) → ArePatterns cs → first_rule qs cs ≡ Some i
     → (let m = or_zero (lowest_mode qs (rule_at cs i)) in First qs cs i m (or_zero (fewest_names qs (rule_at cs i) m)))
 unfolding first_rule
 first_some qs cs i a e =

@@ -1,7 +1,7 @@
 -- The first grant, the lowest mode and the fewest names by which a path escapes, as a search that computes. A reader of the promises
 -- does not need this page. A grant is here its mask and its pattern.
-use Rattle.std.specs.Prelude.{Bool, true, false, not, ◌&&◌, ◌||◌, List, [], ◌∷◌, ℕ, zero, suc, ◌+◌, max, length, get_or}
-use Rattle.std.proofs.Math.Option.{Option, none, some}
+use Rattle.std.specs.Prelude.{Bool, false, not, ◌&&◌, ◌||◌, List, [], ◌∷◌, ℕ, zero, suc, ◌+◌, max, length, get_or, cond, is_some}
+use Rattle.std.specs.Prelude.{Option, None, Some}
 use Rattle.octets.specs.Bytes.{same}
 use Rattle.resource_spec.specs.Pattern.{Path, Levels, done, Pattern, levels_before, ends_deep}
 use Rattle.resource_spec.specs.Cover.{covers, witness, longest_name, zs}
@@ -36,30 +36,15 @@ abbrev pub deepest : List Rule → ℕ
 deepest [] = 0
 deepest (q ∷ qs) = max (levels_before q.pattern.below) (deepest qs)
 
--- one of two by a test
-abbrev pub choose : Bool → Option ℕ → Option ℕ → Option ℕ
-choose true a b = a
-choose false a b = b
-
 -- the least number, of the n from a on, that passes a test
 abbrev pub least : (ℕ → Bool) → ℕ → ℕ → Option ℕ
-least f a zero = none
-least f a (suc n) = choose (f a) (some a) (least f (suc a) n)
-
--- there is a number
-abbrev pub is_some : Option ℕ → Bool
-is_some none = false
-is_some (some k) = true
+least f a zero = None
+least f a (suc n) = cond (f a) (Some a) (least f (suc a) n)
 
 -- a number, or 0 where there is none
 abbrev pub or_zero : Option ℕ → ℕ
-or_zero none = 0
-or_zero (some k) = k
-
--- a number, or another where there is none
-abbrev pub or_limit : Option ℕ → ℕ → ℕ
-or_limit none n = n
-or_limit (some k) n = k
+or_zero None = 0
+or_zero (Some k) = k
 
 -- the fewest names of "**" in a path that escapes by the rule in the mode; past one more than the deepest pattern nothing changes
 unfoldable pub fewest_names : List Rule → Rule → ℕ → Option ℕ

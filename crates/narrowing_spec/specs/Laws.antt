@@ -1,7 +1,7 @@
 -- What the crates above stand on beyond the promises: the rules that are read of a descriptor's bytes, the search for the least number, and
 -- the witness path of an answer 20, a path that escapes, written out. A reader of the promises does not need this page.
 use Rattle.std.specs.Prelude.{◌≡◌, Bool, false, List, [], ◌∷◌, ℕ, suc, ◌+◌, ◌≤◌, ◌<◌}
-use Rattle.std.proofs.Math.Option.{none, some}
+use Rattle.std.specs.Prelude.{None, Some}
 use Rattle.resource_spec.specs.Pattern.{Path, IsPath}
 use Rattle.resource_spec.specs.Text.{pattern_of}
 use Rattle.descriptor_spec.specs.Model.{Grant, Descriptor}
@@ -31,11 +31,11 @@ RulesInTurn = (s t : List ℕ) (n at : ℕ) (gs : List Grant) → InTurn s t n a
 
 -- a number that the search finds is one of the n from a on
 abbrev pub LeastBelow : Type 0
-LeastBelow = (f : ℕ → Bool) (a n k : ℕ) → least f a n ≡ some k → k < a + n
+LeastBelow = (f : ℕ → Bool) (a n k : ℕ) → least f a n ≡ Some k → k < a + n
 
 -- where no number passes the search finds none
 abbrev pub LeastFails : Type 0
-LeastFails = (f : ℕ → Bool) (a n : ℕ) → ((k : ℕ) → a ≤ k → k < a + n → f k ≡ false) → least f a n ≡ none
+LeastFails = (f : ℕ → Bool) (a n : ℕ) → ((k : ℕ) → a ≤ k → k < a + n → f k ≡ false) → least f a n ≡ None
 
 -- tests that agree find the same
 abbrev pub LeastSame : Type 0

@@ -2,11 +2,10 @@
 // what narrowing answers; `narrowing` has the functions.
 #![tactic(auto)]
 
-// What narrowing answers: 0; 21, the parent doesn't read; 1 or 2, the child; 19, a constraint pair in either; 18, the child's period is not
-// within the parent's; 20, some path escapes, with the grant's place, the mode and the levels.
+// Why narrowing refuses: the parent doesn't read, or the child doesn't, by document 01's 1 or its 2; a constraint pair stands in either; the
+// child's period is not within the parent's; some path escapes, with the grant's place, the mode and the levels.
 #[derive(Clone, Copy)]
-pub enum Narrowing {
-    Accepted,
+pub enum NarrowingError {
     NoParent,
     Structure,
     Validity,
@@ -15,7 +14,8 @@ pub enum Narrowing {
     NotCovered { grant: u64, mode: u64, levels: u64 },
 }
 
-// A narrowing in document 01's numbers, as include/cap.h has them: the answer; and with 20 the grant's place, the mode and the levels.
+// A narrowing in document 01's numbers, as include/cap.h has them: 0 where the child is accepted; 21, the parent doesn't read; 1 or 2, the
+// child; 19, a constraint pair; 18, the period; and 20, a path escapes, with the grant's place, the mode and the levels.
 #[repr(C)]
 #[derive(Clone, Copy)]
 pub struct NarrowingNumbers {

@@ -5,7 +5,6 @@ pub mod TruthLaws
 pub mod BytesLaws
 pub mod SpanLaws
 pub mod SameLaws
-pub mod OrderLaws
 pub mod OverLaws
 pub mod MoveLaws
 pub mod NumberLaws

@@ -1,13 +1,14 @@
 -- Laws of bytes moved down, the first first (specs/Write.antt). Assumes nothing.
 use mathlib.Core.Path.{◌≡◌, refl, sym, ap, ◌∙◌}
-use mathlib.Core.Bool.{Bool, true, false, cond, ◌&&◌}
+use mathlib.Core.Bool.{◌&&◌}
 use mathlib.Core.List.{List, ◌++◌}
 use Prim.Native.Nat.{ℕ, ◌+◌, ◌-◌, ◌≤◌, ◌<◌}
 use native.Mathlib.Omega.{arith}
 use lib.ListN.{length, take, drop, get_or, set, take-append-drop}
 use lib.Seq.{get_or-drop, get_or-take, drop-paste, drop-drop}
 use lib.Dec.{leb}
-use borrow.Author.Tests.{le-leb, lt-leb, leb-true}
+use Rattle.std.proofs.lemmas.Bool.Decides.{nat_tests}
+use borrow.Author.Tests.{leb-true}
 use Rattle.octets.specs.Bytes.{part, Has}
 use Rattle.octets.specs.Write.{over, lowered, moved_down}
 use Rattle.octets.proofs.Tests.{by_cond, and_left, and_right}
@@ -17,16 +18,12 @@ use Rattle.octets.proofs.OverLaws.{over_length, written, written_none, written_m
 -- bytes that are there are moved
 pub down_fits : (d : List ℕ) (from to n : ℕ) → to ≤ from → from + n ≤ length d → moved_down d from to n ≡ lowered d from to n
 unfolding moved_down
-down_fits d from to n h l = rw (le-leb to from h, le-leb (from + n) (length d) l)
+down_fits d from to n h l = grind (arith, nat_tests)
 
 -- bytes that are not there are not moved
 pub down_short : (d : List ℕ) (from to n : ℕ) → length d < from + n → moved_down d from to n ≡ d
 unfolding moved_down
-down_short d from to n h = rw (lt-leb (from + n) (length d) h) (cond_and_false (leb to from))
-  where
-    cond_and_false : (t : Bool) → cond (t && false) (lowered d from to n) d ≡ d
-    cond_and_false true = refl
-    cond_and_false false = refl
+down_short d from to n h = grind (arith, nat_tests)
 
 -- bytes that are moved to their own place change nothing
 lowered_same : (d : List ℕ) (at n : ℕ) → at + n ≤ length d → lowered d at at n ≡ d

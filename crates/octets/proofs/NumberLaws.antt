@@ -1,15 +1,14 @@
 -- Laws of numbers that stand in bytes (specs/Number.antt), and of a loop that writes one. Assumes nothing.
 use mathlib.Core.Path.{◌≡◌, refl, sym, ap, ap₂, ◌∙◌}
-use mathlib.Core.Bool.{Bool, true, false, cond, ◌&&◌}
 use mathlib.Core.List.{List, [], ◌∷◌, ◌++◌, append_assoc, append-nil}
 use Prim.Native.Nat.{ℕ, zero, suc, ◌+◌, ◌-◌, ◌*◌, ◌/◌, ◌%◌, ◌^◌, ◌≤◌, ◌<◌}
-use native.Mathlib.Nat.{add-zero, pow-suc, pow-succ', div-one, div-div-eq-div-mul}
+use native.Mathlib.Nat.{add-zero, pow-le-pow_right, pow-suc, pow-succ', div-one, div-div-eq-div-mul}
 use native.Mathlib.Omega.{arith}
-use native.Mathlib.Numerals.{sub-one}
+use native.Mathlib.Numerals.{add-one, sub-one}
 use lib.ListN.{length, get_or, take, drop, set, drop_of_length-le, length-append, length-drop}
 use lib.Seq.{drop_at, take-take, take-suc, take_at, get_or-take, get_or-drop, get_or_at}
-use lib.Dec.{leb, lit<}
-use borrow.Author.Tests.{le-leb, lt-leb}
+use lib.Dec.{lit<}
+use Rattle.std.proofs.lemmas.Bool.Decides.{nat_tests}
 use Rattle.octets.specs.Bytes.{AreBytes, part, Has}
 use Rattle.octets.specs.Number.{big_endian, number_at, number_in}
 use Rattle.octets.specs.Write.{over}
@@ -71,26 +70,39 @@ number_high s from w (suc k) bs =
     ∙ ap (λ (x : ℕ). x / 256 ^ k) quot
     ∙ number_high s from w k bs
 
+-- the number in one byte more
+pub number_more : (s : List ℕ) (at k : ℕ) → number_at s at (k + 1) ≡ number_at s at k * 256 + get_or s (at + k) 0
+unfolding number_at
+number_more s at k = rw add-one
+
+-- the bound of one byte more
+pub pow_more : (k : ℕ) → 256 ^ (k + 1) ≡ 256 ^ k * 256
+pow_more k = rw (add-one, pow-suc)
+
+-- before the eighth byte there is room for one more
+pub pow_room : (k : ℕ) → k < 8 → 256 ^ k ≤ 2 ^ 56
+pow_room k h = pow-le-pow_right {n = 256} (lit< tt) {j = 7} (omega arith)
+
+-- the bound is not 0
+pub pow_some : (w : ℕ) → 0 < 256 ^ w
+pow_some w = pow-le-pow_right {n = 256} (lit< tt) {i = 0} (omega arith)
+
 -- ---- the number in the bytes at a place
 
 -- at most 8 bytes that are there hold the number
 pub number_in_lem : (s : List ℕ) (at w : ℕ) → w ≤ 8 → at + w ≤ length s → number_in s at w ≡ number_at s at w
 unfolding number_in
-number_in_lem s at w h l = rw (le-leb w 8 h, le-leb (at + w) (length s) l)
+number_in_lem s at w h l = grind (arith, nat_tests)
 
 -- more than 8 bytes are answered with 0
 pub number_wide : (s : List ℕ) (at w : ℕ) → 8 < w → number_in s at w ≡ 0
 unfolding number_in
-number_wide s at w h = rw (lt-leb w 8 h)
+number_wide s at w h = grind (arith, nat_tests)
 
 -- bytes that are not all there are answered with 0
 pub number_short : (s : List ℕ) (at w : ℕ) → length s < at + w → number_in s at w ≡ 0
 unfolding number_in
-number_short s at w h = rw (lt-leb (at + w) (length s) h) (cond_and_false (leb w 8))
-  where
-    cond_and_false : (t : Bool) → cond (t && false) (number_at s at w) 0 ≡ 0
-    cond_and_false true = refl
-    cond_and_false false = refl
+number_short s at w h = grind (arith, nat_tests)
 
 -- the number that the encoding of n holds is n
 pub number_of_has : (s : List ℕ) (at w n : ℕ) → n < 256 ^ w → at + w ≤ length s → Has s at (big_endian w n) → number_at s at w ≡ n

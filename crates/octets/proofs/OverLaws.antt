@@ -1,6 +1,5 @@
 -- Laws of what a write leaves of bytes (specs/Write.antt). Assumes nothing.
 use mathlib.Core.Path.{◌≡◌, refl, sym, ap, ap₂, ◌∙◌}
-use mathlib.Core.Bool.{Bool, true, false, cond, ◌&&◌}
 use mathlib.Core.List.{List, [], ◌∷◌, ◌++◌, append_assoc}
 use Prim.Native.Nat.{ℕ, zero, suc, ◌+◌, ◌-◌, ◌≤◌, ◌<◌}
 use native.Mathlib.Omega.{arith}
@@ -10,10 +9,11 @@ use lib.Dec.{leb}
 use lib.ListN.{get_or-append, length, take, drop, get_or, set, length-append, length-take, length-drop, take-append-drop}
 use lib.Seq.{set_at, get_or-take, take-append-le, drop-append-le, take-add, drop-drop, take_at, drop_at, take-take, length-take-le}
 use lib.Seq.{append_snoc, take-suc, drop-cons, paste, paste-zero, paste-suc, take-length}
-use borrow.Author.Tests.{le-leb, lt-leb, leb-true}
+use Rattle.std.proofs.lemmas.Bool.Decides.{nat_tests}
+use borrow.Author.Tests.{leb-true}
+use borrow.Rule.Slice.PartMut.{put_mid}
 use Rattle.octets.specs.Bytes.{part, Has}
 use Rattle.octets.proofs.Tests.{by_cond}
-use Rattle.octets.proofs.BytesLaws.{part_has}
 use Rattle.octets.specs.Write.{over, put_at, moved, moved_up}
 
 -- ---- one write
@@ -68,12 +68,6 @@ pub over_keeps : (d : List ℕ) (at : ℕ) (s : List ℕ) (p : ℕ) (t : List �
     → Has (over d at s) p t
 unfolding Has
 over_keeps d at s p t h l k = over_before d at s p (length t) h l ∙ k
-
--- bytes that stand after the written ones still stand there
-pub over_leaves : (d : List ℕ) (at : ℕ) (s : List ℕ) (p : ℕ) (t : List ℕ) → at + length s ≤ length d → at + length s ≤ p → Has d p t
-    → Has (over d at s) p t
-unfolding Has part
-over_leaves d at s p t h l k = ap (take (length t)) (over_after d at s p h l) ∙ k
 
 -- a list is what it has at its front and what follows that
 pub has_front : (d s : List ℕ) → Has d 0 s → d ≡ s ++ drop (length s) d
@@ -165,12 +159,18 @@ kept_join d d' d'' from to from' to' a b k l h i j m = record {
 -- what fits is written
 pub put_fits : (d : List ℕ) (at : ℕ) (s : List ℕ) → at + length s ≤ length d → put_at d at s ≡ over d at s
 unfolding put_at
-put_fits d at s h = rw (le-leb (at + length s) (length d) h)
+put_fits d at s h = grind (arith, nat_tests)
 
 -- what does not fit is not written
 pub put_not : (d : List ℕ) (at : ℕ) (s : List ℕ) → length d < at + length s → put_at d at s ≡ d
 unfolding put_at
-put_not d at s h = rw (lt-leb (at + length s) (length d) h)
+put_not d at s h = grind (arith, nat_tests)
+
+-- what is copied over the part of its length is written
+pub put_copied : (d : List ℕ) (at : ℕ) (s r : List ℕ) → at + length s ≤ length d → r ≡ s → put_mid at (at + length s - at) d r ≡ put_at d at s
+put_copied d at s r h e =
+    let k : at + length s - at ≡ length s = omega arith in
+    rw (e, k) (ap (λ (x : List ℕ). take at d ++ (s ++ x)) (drop-drop (length s) at d) ∙ sym (over_open d at s) ∙ sym (put_fits d at s h))
 
 -- the length is kept, whether s fits or not
 pub put_length : (d : List ℕ) (at : ℕ) (s : List ℕ) → length (put_at d at s) ≡ length d
@@ -209,27 +209,17 @@ written_all d at s i e =
 -- bytes that are there and fit are moved
 pub moved_fits : (d : List ℕ) (from to by : ℕ) → from ≤ to → to + by ≤ length d → moved_up d from to by ≡ moved d from to by
 unfolding moved_up
-moved_fits d from to by h l = rw (le-leb from to h, le-leb (to + by) (length d) l)
+moved_fits d from to by h l = grind (arith, nat_tests)
 
 -- where `to` is before `from` nothing is moved
 pub moved_no_bytes : (d : List ℕ) (from to by : ℕ) → to < from → moved_up d from to by ≡ d
 unfolding moved_up
-moved_no_bytes d from to by h = rw (lt-leb from to h)
+moved_no_bytes d from to by h = grind (arith, nat_tests)
 
 -- where there is no room nothing is moved
 pub moved_no_room : (d : List ℕ) (from to by : ℕ) → length d < to + by → moved_up d from to by ≡ d
 unfolding moved_up
-moved_no_room d from to by h = rw (lt-leb (to + by) (length d) h) (cond_and_false (leb from to))
-  where
-    cond_and_false : (t : Bool) → cond (t && false) (moved d from to by) d ≡ d
-    cond_and_false true = refl
-    cond_and_false false = refl
-
--- a move keeps the length
-pub moved_length : (d : List ℕ) (from to by : ℕ) → from ≤ to → to + by ≤ length d → length (moved d from to by) ≡ length d
-unfolding moved
-moved_length d from to by h l = over_length d (from + by) (part d from (to - from))
-    (omega (arith, (part_has d from (to - from) (omega arith)).1))
+moved_no_room d from to by h = grind (arith, nat_tests)
 
 -- ---- a loop that moves bytes up, the last first
 

@@ -1,14 +1,16 @@
 -- Laws of the test whether two lists of bytes are the same, and of the loops that compare them. Assumes nothing.
 use mathlib.Core.Path.{◌≡◌, refl, sym, ap, ap₂, ◌∙◌}
-use mathlib.Core.Bool.{Bool, true, false, ◌&&◌}
+use mathlib.Core.Logic.{◌⊎◌}
+use mathlib.Core.Bool.{Bool, true, false, ◌&&◌, and-true, and_assoc}
 use mathlib.Core.List.{List, [], ◌∷◌}
-use Prim.Native.Nat.{ℕ, zero, suc, ◌+◌, ◌-◌, ◌≤◌, ◌<◌}
+use Prim.Native.Nat.{ℕ, zero, suc, ◌+◌, ◌≤◌, ◌<◌}
 use native.Mathlib.Omega.{arith}
 use native.Mathlib.Numerals.{add-one}
 use lib.Dec.{T, leb, eqb}
 use lib.ListN.{length, get_or, take, drop, length-drop}
 use lib.Seq.{take-length, take_all, get_or-drop}
-use borrow.Author.Tests.{eq-eqb, ne_eqb, le-leb, lt-leb}
+use Rattle.std.proofs.lemmas.Bool.Decides.{nat_tests}
+use Rattle.std.specs.Cmp.Lexicographic.{pointwise}
 use Rattle.octets.specs.Bytes.{part, same, has_at}
 use Rattle.octets.proofs.BytesLaws.{same_eq, same_refl, T_of}
 use Rattle.octets.proofs.Tests.{and_false}
@@ -18,6 +20,14 @@ use Rattle.octets.proofs.Tests.{and_false}
 -- lists that are the same are equal
 pub same_equal : (x y : List ℕ) → same x y ≡ true → x ≡ y
 same_equal x y e = same_eq x y (T_of refl e)
+
+-- the library's test of bytes is the same
+pub pointwise_same : (x y : List ℕ) → pointwise eqb x y ≡ same x y
+unfolding same
+pointwise_same [] [] = refl
+pointwise_same [] (b ∷ y) = refl
+pointwise_same (a ∷ x) [] = refl
+pointwise_same (a ∷ x) (b ∷ y) = ap (λ (t : Bool). eqb a b && t) (pointwise_same x y)
 
 -- a list is the same as itself
 pub same_self : (x : List ℕ) → same x x ≡ true
@@ -39,17 +49,9 @@ not_same x y n = go (same x y) refl
     go true e = absurd (n (same_equal x y e))
     go false e = refl
 
--- ---- a loop that compares, the last byte first
-
--- a test that holds, as the second of two
-and_true : (t : Bool) → (t && true) ≡ t
-and_true true = refl
-and_true false = refl
-
--- three tests are taken together in either way
-and_assoc : (a b c : Bool) → (a && (b && c)) ≡ ((a && b) && c)
-and_assoc true b c = refl
-and_assoc false b c = refl
+-- lists whose last bytes differ are not the same
+pub same_ends : (a b : List ℕ) (n : ℕ) → (get_or a n 0 ≡ get_or b n 0 → ⊥) → same a b ≡ false
+same_ends a b n e = not_same a b (λ g. e (ap (λ (x : List ℕ). get_or x n 0) g))
 
 -- two lists of different lengths are not the same
 pub same_long : (a b : List ℕ) → (length a ≡ length b → ⊥) → same a b ≡ false
@@ -59,53 +61,25 @@ same_long [] (y ∷ b) h = refl
 same_long (x ∷ a) [] h = refl
 same_long (x ∷ a) (y ∷ b) h = rw (same_long a b (λ e. h (ap suc e))) (and_false (eqb x y))
 
+-- ---- a loop that compares
+
 -- the same as `same_last`, with the count as a successor
 same_snoc : (i : ℕ) (a b : List ℕ) → i < length a → i < length b
     → same (take (suc i) a) (take (suc i) b) ≡ (same (take i a) (take i b) && eqb (get_or a i 0) (get_or b i 0))
 unfolding same
 same_snoc zero [] b ha hb = absurd (omega arith)
 same_snoc zero (x ∷ a) [] ha hb = absurd (omega arith)
-same_snoc zero (x ∷ a) (y ∷ b) ha hb = and_true (eqb x y)
+same_snoc zero (x ∷ a) (y ∷ b) ha hb = and-true (eqb x y)
 same_snoc (suc i) [] b ha hb = absurd (omega arith)
 same_snoc (suc i) (x ∷ a) [] ha hb = absurd (omega arith)
 same_snoc (suc i) (x ∷ a) (y ∷ b) ha hb =
     ap (λ (t : Bool). eqb x y && t) (same_snoc i a b (omega arith) (omega arith))
-    ∙ and_assoc (eqb x y) (same (take i a) (take i b)) (eqb (get_or a i 0) (get_or b i 0))
+    ∙ sym (and_assoc (eqb x y) (same (take i a) (take i b)) (eqb (get_or a i 0) (get_or b i 0)))
 
 -- the first i + 1 bytes are the same where the first i are and the last is
 pub same_last : (a b : List ℕ) (i : ℕ) → i < length a → i < length b
     → same (take (i + 1) a) (take (i + 1) b) ≡ (same (take i a) (take i b) && eqb (get_or a i 0) (get_or b i 0))
 same_last a b i ha hb = rw (add-one i) (same_snoc i a b ha hb)
-
--- before the first turn of the loop all is to be compared
-pub same_begin : (a b : List ℕ) → length a ≡ length b → same a b ≡ same (take (length a) a) (take (length a) b)
-same_begin a b e = sym (ap₂ same (take-length a) (take_all (length a) b (omega arith)))
-
-module _ (a b : List ℕ) (i : ℕ) (pos : 0 < i) (ha : i ≤ length a) (hb : i ≤ length b) where
-  -- the first i bytes are the same where those before the last are and the last is
-  same_turn : same (take i a) (take i b) ≡ (same (take (i - 1) a) (take (i - 1) b) && eqb (get_or a (i - 1) 0) (get_or b (i - 1) 0))
-  same_turn =
-      let e : i ≡ (i - 1) + 1 = omega arith in
-      ap (λ (k : ℕ). same (take k a) (take k b)) e ∙ same_last a b (i - 1) (omega arith) (omega arith)
-
-  -- where the last of the first i bytes is the same, those before it decide
-  pub same_next : get_or a (i - 1) 0 ≡ get_or b (i - 1) 0 → same (take i a) (take i b) ≡ same (take (i - 1) a) (take (i - 1) b)
-  same_next e =
-      same_turn
-      ∙ ap (λ (t : Bool). same (take (i - 1) a) (take (i - 1) b) && t) (eq-eqb (get_or a (i - 1) 0) (get_or b (i - 1) 0) e)
-      ∙ and_true (same (take (i - 1) a) (take (i - 1) b))
-
-  -- where the last of the first i bytes differs, they are not the same
-  pub same_differ : (get_or a (i - 1) 0 ≡ get_or b (i - 1) 0 → ⊥) → same (take i a) (take i b) ≡ false
-  same_differ e =
-      same_turn
-      ∙ ap (λ (t : Bool). same (take (i - 1) a) (take (i - 1) b) && t) (ne_eqb (get_or a (i - 1) 0) (get_or b (i - 1) 0) e)
-      ∙ and_false (same (take (i - 1) a) (take (i - 1) b))
-
--- where no byte is left to compare, the two are the same
-pub same_end : (a b : List ℕ) (i : ℕ) → i ≡ 0 → same (take i a) (take i b) ≡ true
-unfolding same
-same_end a b i e = ap (λ (k : ℕ). same (take k a) (take k b)) e
 
 -- ---- a loop that compares the bytes at a place
 
@@ -123,18 +97,18 @@ same_at_all s at k i e = rw (e, take-length k)
 -- ---- whether both begin with the same n bytes
 
 module _ (a b : List ℕ) (n : ℕ) where
-  -- where the first has fewer bytes it does not
-  pub start_short_first : length a < n → (leb n (length a) && (leb n (length b) && same (take n a) (take n b))) ≡ false
-  start_short_first h = rw (lt-leb n (length a) h)
-
-  -- nor does the second where it has fewer
-  pub start_short_second : length b < n → (leb n (length a) && (leb n (length b) && same (take n a) (take n b))) ≡ false
-  start_short_second h = rw (lt-leb n (length b) h) (and_false (leb n (length a)))
+  -- where one has fewer bytes they do not
+  pub start_short : (length a < n) ⊎ (length b < n) → (leb n (length a) && (leb n (length b) && same (take n a) (take n b))) ≡ false
+  start_short h = grind (arith, nat_tests)
 
   -- where both have so many, those bytes decide
   pub start_both : n ≤ length a → n ≤ length b → (leb n (length a) && (leb n (length b) && same (take n a) (take n b)))
       ≡ same (take n a) (take n b)
-  start_both h k = rw (le-leb n (length a) h, le-leb n (length b) k)
+  start_both h k = grind (arith, nat_tests)
+
+  -- where both have n bytes alone, the whole lists decide
+  pub start_whole : n ≡ length a → n ≡ length b → (leb n (length a) && (leb n (length b) && same (take n a) (take n b))) ≡ same a b
+  start_whole h k = start_both (omega arith) (omega arith) ∙ ap₂ same (take_all n a (omega arith)) (take_all n b (omega arith))
 
   -- so what was answered to the test says whether those bytes are the same
   pub start_answer : {r : Bool} → n ≤ length a → n ≤ length b → r ≡ (leb n (length a) && (leb n (length b) && same (take n a) (take n b)))

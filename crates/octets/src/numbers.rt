@@ -3,44 +3,33 @@ ghost use Rattle.std.specs.Prelude.{◌≡◌, ◌^◌, ◌<◌};
 ghost use Rattle.octets.specs.Number.{big_endian, number_in};
 ghost use Rattle.octets.specs.Write.{put_at};
 
-// The number in the w bytes from the place on.
-pub(crate) fn number_at(s: &[u8], at: usize, w: usize) -> u64
+// The number in the w bytes from the place on, the highest byte first; 0 where they are not there, or more than 8.
+#[tactic(auto, using(crate::proofs::NumberLaws::number_wide, crate::proofs::NumberLaws::number_short, crate::proofs::NumberLaws::pow_some, crate::proofs::NumberLaws::pow_more, crate::proofs::NumberLaws::pow_room, crate::proofs::NumberLaws::number_more, crate::proofs::NumberLaws::number_in_lem))]
+pub fn number_at(s: &[u8], at: usize, w: usize) -> u64
     ensures value { result ≡ number_in s.now at w }
     ensures upper_bound { result < 256 ^ w }
 {
-    if 8 < w {
-        return 0;
-    }
-    if s.len() < at {
-        return 0;
-    }
-    if s.len() - at < w {
+    if 8 < w || s.len() < at || s.len() - at < w {
         return 0;
     }
     let mut n: u64 = 0;
-    let mut k: usize = 0;
-    while k < w {
+    for k in 0..w {
         n = n * 256 + s[at + k] as u64;
-        k += 1;
     }
     n
 }
 
-// Writes n in w bytes, the lowest first, from the last place down.
-pub(crate) fn put_number(d: &mut [u8], at: usize, w: usize, n: u64)
+// Writes n in w bytes from the place on, the highest byte first, where they fit. The lowest is written first.
+#[tactic(auto, using(crate::proofs::OverLaws::put_not, crate::proofs::NumberLaws::length_big_endian))]
+pub fn put_number(d: &mut [u8], at: usize, w: usize, n: u64)
     ensures { d.new ≡ put_at d.old at (big_endian w n) }
 {
-    if d.len() < at {
+    if d.len() < at || d.len() - at < w {
         return;
     }
-    if d.len() - at < w {
-        return;
-    }
-    let mut k = w;
     let mut left = n;
-    while 0 < k {
-        k -= 1;
+    for k in (0..w).rev() {
         d[at + k] = (left % 256) as u8;
-        left = left / 256;
+        left /= 256;
     }
 }

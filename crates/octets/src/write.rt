@@ -2,59 +2,39 @@
 ghost use Rattle.std.specs.Prelude.{◌≡◌};
 ghost use Rattle.octets.specs.Write.{put_at, moved_up, moved_down};
 
-// Writes s from the place on.
-pub(crate) fn put(d: &mut [u8], at: usize, s: &[u8])
+// Writes s from the place on, where it fits.
+#[tactic(auto, using(crate::proofs::OverLaws::put_not))]
+pub fn put(d: &mut [u8], at: usize, s: &[u8])
     ensures { d.new ≡ put_at d.old at s.now }
 {
-    if d.len() < at {
-        return;
-    }
-    if d.len() - at < s.len() {
-        return;
-    }
-    let mut i = 0;
-    while i < s.len() {
-        d[at + i] = s[i];
-        i += 1;
+    if at <= d.len() && s.len() <= d.len() - at {
+        d[at..at + s.len()].copy_from_slice(s);
     }
 }
 
-// Moves the bytes from `from` up to `to` up by `by`, in place, the last first.
-pub(crate) fn move_up(d: &mut [u8], from: usize, to: usize, by: usize)
+// Moves the bytes from `from` up to `to` up by `by`, where that fits, the last first.
+#[tactic(auto, using(crate::proofs::OverLaws::moved_no_bytes, crate::proofs::OverLaws::moved_no_room))]
+pub fn move_up(d: &mut [u8], from: usize, to: usize, by: usize)
     ensures { d.new ≡ moved_up d.old from to by }
 {
-    if to < from {
+    if to < from || d.len() < to || d.len() - to < by {
         return;
     }
-    if d.len() < to {
-        return;
-    }
-    if d.len() - to < by {
-        return;
-    }
-    let mut i = to;
-    while from < i {
-        i -= 1;
+    for i in (from..to).rev() {
         d[i + by] = d[i];
     }
 }
 
-// Moves the n bytes from `from` on down to `to`, in place, the first first. Where both are the same place there is nothing to do.
-pub(crate) fn move_down(d: &mut [u8], from: usize, to: usize, n: usize)
+// Moves the n bytes from `from` on down to `to`, where they are there and `to` is not after them, the first first. Where both are the same
+// place there is nothing to do.
+#[tactic(auto, using(crate::proofs::MoveLaws::down_not, crate::proofs::MoveLaws::down_short))]
+pub fn move_down(d: &mut [u8], from: usize, to: usize, n: usize)
     ensures { d.new ≡ moved_down d.old from to n }
 {
-    if from <= to {
+    if from <= to || d.len() < from || d.len() - from < n {
         return;
     }
-    if d.len() < from {
-        return;
-    }
-    if d.len() - from < n {
-        return;
-    }
-    let mut i = 0;
-    while i < n {
+    for i in 0..n {
         d[to + i] = d[from + i];
-        i += 1;
     }
 }

@@ -5,21 +5,20 @@ ghost use Rattle.image_spec.specs.Layout.{body_width, length_place, most_rows, r
 ghost use Rattle.image_spec.specs.Close.{stays, row_kept, one_more, closed_rows, count_kept, body_moved, closed_bodies, closed_up};
 
 use image_rows::place;
+use image_spec::Mark;
 use image_spec::layout::{
     BODY_WIDTH, COUNT_PLACE, HEADER_WIDTH, LENGTH_PLACE, Layout, OFFSET_PLACE,
 };
 use octets::{move_down, number_at, put_number};
 
-// The mark of a row that goes.
-pub(crate) const GONE: u8 = 2;
-
 // Moves row i down to row k unless it goes, and says how many rows stay then.
-fn keep_row(layout: Layout, d: &mut [u8], i: usize, k: usize, mark: u8) -> usize
+#[tactic(auto, using(crate::proofs::CloseCode::row_stays))]
+fn keep_row(layout: Layout, d: &mut [u8], i: usize, k: usize, mark: Mark) -> usize
     requires { LayoutOk layout × (i < most_rows layout) × (k ≤ i) }
     ensures value { result ≡ one_more (stays mark) k }
     ensures d_after { d.new ≡ row_kept layout (stays mark) d.old i k }
 {
-    if mark == GONE {
+    if let Mark::Gone = mark {
         return k;
     }
     let from = place(layout, i);
@@ -29,16 +28,14 @@ fn keep_row(layout: Layout, d: &mut [u8], i: usize, k: usize, mark: u8) -> usize
 }
 
 // Closes up the rows, and says how many stay.
-fn close_rows(layout: Layout, d: &mut [u8], marks: &[u8]) -> usize
+fn close_rows(layout: Layout, d: &mut [u8], marks: &[Mark]) -> usize
     requires { LayoutOk layout × (length marks.now ≤ most_rows layout) }
     ensures value { (result ≡ count_kept marks.now 0) × (result ≤ length marks.now) }
     ensures d_after { d.new ≡ closed_rows layout d.old marks.now 0 0 }
 {
-    let mut i = 0;
     let mut k = 0;
-    while i < marks.len() {
+    for i in 0..marks.len() {
         k = keep_row(layout, d, i, k, marks[i]);
-        i += 1;
     }
     k
 }
@@ -62,16 +59,15 @@ fn close_bodies(layout: Layout, d: &mut [u8], k: usize)
     requires { LayoutOk layout × (k ≤ most_rows layout) }
     ensures { d.new ≡ closed_bodies layout d.old k 0 (row_place layout k) }
 {
-    let mut i = 0;
     let mut at = place(layout, k);
-    while i < k {
+    for i in 0..k {
         at = move_body(layout, d, i, at);
-        i += 1;
     }
 }
 
 // Removes the rows that are marked to go: the rows close up, then the bodies, and the row count is written.
-pub(crate) fn close(layout: Layout, d: &mut [u8], marks: &[u8])
+#[tactic(auto, using(crate::proofs::CloseCode::close_done))]
+pub(crate) fn close(layout: Layout, d: &mut [u8], marks: &[Mark])
     requires { LayoutOk layout × (length marks.now ≤ most_rows layout) }
     ensures { d.new ≡ closed_up layout d.old marks.now }
 {

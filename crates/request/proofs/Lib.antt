@@ -1,6 +1,6 @@
 pub mod SearchCode
 pub mod ArgumentCode
-pub mod DecideCode
 pub mod LeasedCode
-pub mod BodyCode
+pub mod DecideCode
+pub mod ExamineCode
 pub mod AfterCode

@@ -1,4 +1,6 @@
 -- The image after a request (specs/After.antt, specs/Promises.antt). Assumes nothing.
+use Rattle.std.specs.Prelude.{Ok, Err, Some, None}
+use Rattle.image_spec.specs.Check.{contents, held_body, Held, ImageCheck, is_sound, is_held, layout_of}
 use mathlib.Core.Path.{◌≡◌, refl, sym, ap, ◌∙◌, subst}
 use mathlib.Core.Logic.{◌⊎◌, inl, inr, ⊎_elim}
 use mathlib.Core.Bool.{Bool, true, false, cond, ◌&&◌, false≢true}
@@ -19,15 +21,10 @@ use Rattle.descriptor_spec.specs.declared.Fields.{Fields}
 use Rattle.lease_spec.specs.Lease.{latest, clock_ok}
 use Rattle.lease_spec.specs.Table.{table_ok}
 use Rattle.steps.specs.Order.{or_else, in_order}
-use Rattle.image_spec.specs.declared.Held.{Held}
-use Rattle.image_spec.specs.declared.Held.TheVariants.{Missing, Body}
-use Rattle.image_spec.specs.declared.ImageCheck.{ImageCheck}
-use Rattle.image_spec.specs.declared.ImageCheck.TheVariants.{Sound, Unsound}
 use Rattle.image_spec.specs.declared.layout.Layout.{Layout}
 use Rattle.image_spec.specs.Layout.{edition2, row_place, place_within}
 use Rattle.image_spec.specs.Image.{Row, row_of, id_of, image_of}
 use Rattle.image_spec.specs.Image as image
-use Rattle.image_spec.specs.Check.{is_sound, is_held, layout_of}
 use Rattle.image_spec.specs.Close.{with_rows}
 use Rattle.image_spec.specs.Touch.{touched, raised_at, touched_at, after_touch}
 use Rattle.image_spec.specs.Upgrade.{after_upgrade}
@@ -36,12 +33,12 @@ use Rattle.image_spec.specs.Laws.{HeldBody, HeldIs}
 use Rattle.image_spec.proofs.Laws.{edition2_ok, named_ok, header_names, place_within_lem, check_tells, check_says, body_with_exactly}
 use Rattle.image_spec.proofs.Laws.{touched_bodies, after_touch2, after_touch1}
 use Rattle.image_spec.proofs.Promises.{readable_exactly, upgrade_exactly}
-use Rattle.request_spec.specs.declared.Decision.{Decision}
-use Rattle.request_spec.specs.declared.Decision.TheVariants as answers
+use Rattle.request_spec.specs.Decision.{Decision}
+use Rattle.request_spec.specs.declared.Refusal.TheVariants as answers
 use Rattle.request_spec.specs.declared.DecisionNumbers.{DecisionNumbers}
 use Rattle.request_spec.specs.Request.{Request, arguments_ok, well_formed}
 use Rattle.request_spec.specs.Decision.{facts_in, matched_in, decision_of, numbers_of}
-use Rattle.request_spec.specs.After.{is_granted, used_by, after_request}
+use Rattle.request_spec.specs.After.{is_granted, used_in, used_by, after_request}
 use Rattle.request_spec.specs.Promises.{seconds_of, formed, not_held, steps_with, granted_for, TouchedExactly, RefusalKeeps, Grant1Keeps}
 use Rattle.request_spec.specs.Promises.{Grant2Touches, GrantChanges8, MomentsDecideNothing, UpgradeDecides}
 use Rattle.request_spec.proofs.HeldLaws.{decided_in_lem, malformed_first, missing_by, decided_on_none}
@@ -52,41 +49,41 @@ use Rattle.request_spec.proofs.NumberLaws.{missing_numbers}
 
 -- a decision is granted exactly when its number is 0
 granted_number : (a : Decision) → (is_granted a ≡ true) ⊎ ((is_granted a ≡ false) × ((numbers_of a).answer ≡ 0 → ⊥))
-granted_number (answers.Granted grant mask end m) = inl refl
-granted_number answers.Malformed = inr (refl, λ e. omega arith)
-granted_number answers.BadImage = inr (refl, λ e. omega arith)
-granted_number answers.NotFound = inr (refl, λ e. omega arith)
-granted_number answers.Revoked = inr (refl, λ e. omega arith)
-granted_number answers.NotYetValid = inr (refl, λ e. omega arith)
-granted_number answers.Expired = inr (refl, λ e. omega arith)
-granted_number answers.SubjectMismatch = inr (refl, λ e. omega arith)
-granted_number answers.TerminalMismatch = inr (refl, λ e. omega arith)
-granted_number answers.Insufficient = inr (refl, λ e. omega arith)
-granted_number answers.KeyInvalid = inr (refl, λ e. omega arith)
-granted_number answers.BadSignature = inr (refl, λ e. omega arith)
-granted_number answers.LeaseRevoked = inr (refl, λ e. omega arith)
-granted_number answers.LeaseFuture = inr (refl, λ e. omega arith)
-granted_number (answers.LeaseStale m) = inr (refl, λ e. omega arith)
-granted_number answers.LeaseExpired = inr (refl, λ e. omega arith)
+granted_number (Ok g) = inl refl
+granted_number (Err answers.Malformed) = inr (refl, λ e. omega arith)
+granted_number (Err answers.BadImage) = inr (refl, λ e. omega arith)
+granted_number (Err answers.NotFound) = inr (refl, λ e. omega arith)
+granted_number (Err answers.Revoked) = inr (refl, λ e. omega arith)
+granted_number (Err answers.NotYetValid) = inr (refl, λ e. omega arith)
+granted_number (Err answers.Expired) = inr (refl, λ e. omega arith)
+granted_number (Err answers.SubjectMismatch) = inr (refl, λ e. omega arith)
+granted_number (Err answers.TerminalMismatch) = inr (refl, λ e. omega arith)
+granted_number (Err answers.Insufficient) = inr (refl, λ e. omega arith)
+granted_number (Err answers.KeyInvalid) = inr (refl, λ e. omega arith)
+granted_number (Err answers.BadSignature) = inr (refl, λ e. omega arith)
+granted_number (Err answers.LeaseRevoked) = inr (refl, λ e. omega arith)
+granted_number (Err answers.LeaseFuture) = inr (refl, λ e. omega arith)
+granted_number (Err (answers.LeaseStale m)) = inr (refl, λ e. omega arith)
+granted_number (Err answers.LeaseExpired) = inr (refl, λ e. omega arith)
 
 -- a granted decision has the number 0
 granted_zero : (a : Decision) → is_granted a ≡ true → (numbers_of a).answer ≡ 0
-granted_zero (answers.Granted grant mask end m) e = refl
-granted_zero answers.Malformed e = absurd (false≢true e)
-granted_zero answers.BadImage e = absurd (false≢true e)
-granted_zero answers.NotFound e = absurd (false≢true e)
-granted_zero answers.Revoked e = absurd (false≢true e)
-granted_zero answers.NotYetValid e = absurd (false≢true e)
-granted_zero answers.Expired e = absurd (false≢true e)
-granted_zero answers.SubjectMismatch e = absurd (false≢true e)
-granted_zero answers.TerminalMismatch e = absurd (false≢true e)
-granted_zero answers.Insufficient e = absurd (false≢true e)
-granted_zero answers.KeyInvalid e = absurd (false≢true e)
-granted_zero answers.BadSignature e = absurd (false≢true e)
-granted_zero answers.LeaseRevoked e = absurd (false≢true e)
-granted_zero answers.LeaseFuture e = absurd (false≢true e)
-granted_zero (answers.LeaseStale m) e = absurd (false≢true e)
-granted_zero answers.LeaseExpired e = absurd (false≢true e)
+granted_zero (Ok g) e = refl
+granted_zero (Err answers.Malformed) e = absurd (false≢true e)
+granted_zero (Err answers.BadImage) e = absurd (false≢true e)
+granted_zero (Err answers.NotFound) e = absurd (false≢true e)
+granted_zero (Err answers.Revoked) e = absurd (false≢true e)
+granted_zero (Err answers.NotYetValid) e = absurd (false≢true e)
+granted_zero (Err answers.Expired) e = absurd (false≢true e)
+granted_zero (Err answers.SubjectMismatch) e = absurd (false≢true e)
+granted_zero (Err answers.TerminalMismatch) e = absurd (false≢true e)
+granted_zero (Err answers.Insufficient) e = absurd (false≢true e)
+granted_zero (Err answers.KeyInvalid) e = absurd (false≢true e)
+granted_zero (Err answers.BadSignature) e = absurd (false≢true e)
+granted_zero (Err answers.LeaseRevoked) e = absurd (false≢true e)
+granted_zero (Err answers.LeaseFuture) e = absurd (false≢true e)
+granted_zero (Err (answers.LeaseStale m)) e = absurd (false≢true e)
+granted_zero (Err answers.LeaseExpired) e = absurd (false≢true e)
 
 -- what is so after a request, by whether it is granted
 by_grant : (P : List ℕ → Type 0) (s : List ℕ) (q : Request) → P s
@@ -127,10 +124,13 @@ touched_exactly id t = (
 pub grant1_keeps : Grant1Keeps
 grant1_keeps s q rs h = by_grant (λ (x : List ℕ). x ≡ s) s q refl (λ z. go (check_of s q.id))
   where
+    held : (x : Held) → used_in s (seconds_of q) x ≡ s
+    held (Some b) = after_touch1 s rs b.row (seconds_of q) h
+    held None = refl
+
     go : (v : ImageCheck) → used_by s (seconds_of q) v ≡ s
-    go (Sound n end (Body row at len f)) = after_touch1 s rs row (seconds_of q) h
-    go (Sound n end Missing) = refl
-    go Unsound = refl
+    go (Some v) = held v.held
+    go None = refl
 
 -- ---- an image of edition 2
 
@@ -142,7 +142,7 @@ granted_formed s q z = go (well_formed q) refl
     go true e = refl
     go false e =
         let v : ImageCheck = check_of s q.id in
-        let m : decision_of s q ≡ answers.Malformed
+        let m : decision_of s q ≡ (Err answers.Malformed)
         = decided_in_lem s q v refl ∙ malformed_first q (is_sound v) (is_held v) (facts_in s v) (matched_in s q v) _ e in
         absurd (omega (arith, sym (ap (λ (a : Decision). (numbers_of a).answer) m) ∙ z))
 
@@ -182,13 +182,13 @@ row_named s id rs row at len f h k =
 granted_row : (s : List ℕ) (q : Request) (rs : List Row) → Holds s rs → (numbers_of (decision_of s q)).answer ≡ 0 → Used s q rs
 granted_row s q rs h z = let w = check_tells (layout_of s) (named_ok s) s q.id rs h in go w.0 w.1 w.2
   where
-    go : (x : Held) → check_of s q.id ≡ Sound (length rs) (length (image_of (layout_of s) rs)) x → HeldIs s q.id rs x → Used s q rs
-    go Missing e k =
+    go : (x : Held) → check_of s q.id ≡ contents (length rs) (length (image_of (layout_of s) rs)) x → HeldIs s q.id rs x → Used s q rs
+    go None e k =
         absurd (missing_refused q (sym (ap (λ (a : Decision). (numbers_of a).answer) (decided_on_none s q rs h k)) ∙ z))
-    go (Body row at len f) e k = record {
-      row = row;
+    go (Some b) e k = record {
+      row = b.row;
       below = k.below;
-      named = row_named s q.id rs row at len f h k;
+      named = row_named s q.id rs b.row b.at b.len b.fields h k;
       after = ap (used_by s (seconds_of q)) e;
     }
 
@@ -254,10 +254,10 @@ moments_decide_nothing s q p bytes =
     by_grant (λ (x : List ℕ). numbers_of (decision_of x p) ≡ numbers_of (decision_of s p)) s q refl (λ z. go z (check_of s q.id) refl)
   where
     same_answers : (numbers_of (decision_of s q)).answer ≡ 0 → (row at len n end : ℕ) (f : Fields)
-        → check_of s q.id ≡ Sound n end (Body row at len f)
+        → check_of s q.id ≡ contents n end (held_body row at len f)
         → numbers_of (decision_of (after_touch s row (seconds_of q)) p) ≡ numbers_of (decision_of s p)
     same_answers z row at len n end f e =
-        let w = check_says (layout_of s) (named_ok s) s q.id bytes n end (Body row at len f) e in
+        let w = check_says (layout_of s) (named_ok s) s q.id bytes n end (held_body row at len f) e in
         let rs : List Row = rows_held s in
         let after : List ℕ = after_touch s row (seconds_of q) in
         ⊎_elim {C = numbers_of (decision_of after p) ≡ numbers_of (decision_of s p)}
@@ -269,11 +269,15 @@ moments_decide_nothing s q p bytes =
         (readable after (touched q.id (seconds_of q) rs) t.1) (touched_bodies q.id p.id (seconds_of q) rs).0))
         ((readable_exactly s rs).0 w.holds)
 
+    in_sound : (numbers_of (decision_of s q)).answer ≡ 0 → (n end : ℕ) (h : Held) → check_of s q.id ≡ contents n end h
+        → numbers_of (decision_of (used_in s (seconds_of q) h) p) ≡ numbers_of (decision_of s p)
+    in_sound z n end (Some b) e = same_answers z b.row b.at b.len n end b.fields e
+    in_sound z n end None e = refl
+
     go : (numbers_of (decision_of s q)).answer ≡ 0 → (v : ImageCheck) → check_of s q.id ≡ v
         → numbers_of (decision_of (used_by s (seconds_of q) v) p) ≡ numbers_of (decision_of s p)
-    go z (Sound n end (Body row at len f)) e = same_answers z row at len n end f e
-    go z (Sound n end Missing) e = refl
-    go z Unsound e = refl
+    go z (Some v) e = in_sound z v.rows v.end v.held e
+    go z None e = refl
 
 -- ---- an image turned into edition 2
 

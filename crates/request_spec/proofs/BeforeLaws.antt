@@ -2,8 +2,8 @@
 use mathlib.Core.Path.{◌≡◌, refl, sym, ap, ◌∙◌}
 use mathlib.Core.Bool.{Bool, true, false, cond, ◌||◌}
 use mathlib.Core.List.{List, [], ◌∷◌, ◌++◌}
-use mathlib.Core.Option.{some}
 use Prim.Native.Nat.{ℕ, ◌+◌}
+use Rattle.std.proofs.Common.{Some}
 use Rattle.resource_spec.specs.Pattern.{Path}
 use Rattle.resource_spec.specs.Text.{path_of}
 use Rattle.descriptor_spec.specs.Model.{Grant}
@@ -20,7 +20,7 @@ there_serves [] m x i = refl
 there_serves (g ∷ gs) m x i = go (grant_serves g m x) (there_serves gs m x (i + 1))
   where
     go : (b : Bool) → is_there (first_serving gs m x (i + 1)) ≡ some_serves gs m x
-        → is_there (cond b (some i) (first_serving gs m x (i + 1))) ≡ (b || some_serves gs m x)
+        → is_there (cond b (Some i) (first_serving gs m x (i + 1))) ≡ (b || some_serves gs m x)
     go true k = refl
     go false k = k
 

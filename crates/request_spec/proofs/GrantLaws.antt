@@ -19,8 +19,8 @@ use Rattle.descriptor_spec.specs.View.{mask_of, descriptor_view}
 use Rattle.descriptor_spec.specs.Code.{fields_of}
 use Rattle.descriptor_spec.specs.Laws.{SeenAs, InTurn, no_more, one_more}
 use Rattle.descriptor_spec.proofs.Laws.{seen_handed, mask_exactly, grants_in_turn}
-use Rattle.request_spec.specs.declared.Matched.{Matched}
-use Rattle.request_spec.specs.declared.Matched.TheVariants.{Nothing}
+use Rattle.request_spec.specs.Decision.{Matched}
+use Rattle.std.specs.Prelude.{None}
 use Rattle.request_spec.specs.Decision.{serves, names_of, more_exact, picked_with, pick_from, matched_on}
 use Rattle.request_spec.specs.Meaning.{pick_serving}
 use Rattle.request_spec.specs.Promises.{grant_serves, grant_names}
@@ -115,10 +115,10 @@ module _ (b t r : List ℕ) (m : ℕ) (w : resource_ok r ≡ true) where
 
 -- the grant that is picked in the encoding of a formed descriptor is the one that is picked of its grants
 pub matched_agree : (d : Descriptor) (r : List ℕ) (m : ℕ) → AreBytes (encode d) → Formed d → resource_ok r ≡ true → m < 4
-    → matched_on (encode d) (fields_of (descriptor_view 0 d)) r m ≡ pick_serving d.payload.grants m (path_of r) 0 Nothing
+    → matched_on (encode d) (fields_of (descriptor_view 0 d)) r m ≡ pick_serving d.payload.grants m (path_of r) 0 None
 unfolding matched_on
 matched_agree d r m b q w h =
-    ap (λ (x : List ℕ). cond (same x (take terminal_size r)) found Nothing) (seen_handed d q).terminal
+    ap (λ (x : List ℕ). cond (same x (take terminal_size r)) found None) (seen_handed d q).terminal
     ∙ go (same t (take terminal_size r)) refl
   where
     t : List ℕ
@@ -126,8 +126,8 @@ matched_agree d r m b q w h =
 
     found : Matched
     found = pick_from (encode d) (drop levels_place r) m (descriptor_view 0 d).payload.grants.count
-        (descriptor_view 0 d).payload.grants.start 0 Nothing
+        (descriptor_view 0 d).payload.grants.start 0 None
 
-    go : (c : Bool) → same t (take terminal_size r) ≡ c → cond c found Nothing ≡ pick_serving d.payload.grants m (path_of r) 0 Nothing
-    go true s = pick_from_lem (encode d) t r m w h s (grants_in_turn d b q) 0 Nothing
-    go false s = sym (pick_none (encode d) t r m w s (grants_in_turn d b q) 0 Nothing)
+    go : (c : Bool) → same t (take terminal_size r) ≡ c → cond c found None ≡ pick_serving d.payload.grants m (path_of r) 0 None
+    go true s = pick_from_lem (encode d) t r m w h s (grants_in_turn d b q) 0 None
+    go false s = sym (pick_none (encode d) t r m w s (grants_in_turn d b q) 0 None)

@@ -2,13 +2,13 @@
 use mathlib.Core.Path.{◌≡◌, refl, sym, ap, ap₂, ◌∙◌, subst}
 use mathlib.Core.Bool.{Bool, true, false, not, ◌&&◌, and-true, false≢true}
 use mathlib.Core.List.{List, [], ◌∷◌, ◌++◌}
-use mathlib.Core.Option.{Option, none, some}
 use Prim.Native.Nat.{ℕ, ◌+◌, ◌^◌, ◌≤◌, ◌<◌}
 use native.Mathlib.Omega.{arith}
 use lib.IntN.{ℤ, pos, ◌-ℤ◌}
 use lib.Signed.{◌≤ℤ◌, ◌<ℤ◌}
 use lib.Dec.{leb, ltb}
 use borrow.Author.Tests.{le-leb, ltb-true, ltb-false, not-true, not-false}
+use Rattle.std.proofs.Common.{Option, None, Some}
 use Rattle.octets.proofs.Tests.{and_left}
 use Rattle.descriptor_spec.specs.Model.{Descriptor}
 use Rattle.lease_spec.specs.declared.Lease.{Lease}
@@ -59,11 +59,11 @@ table_formed q t =
 -- ---- a request without a lease
 
 -- without a lease the lease's steps pass
-without : (q : Request) (x : Stored) (ok : Bool) → answer_with q x ok none ≡ in_order (steps_with ok q x) (granted_with (pos 0) q x)
+without : (q : Request) (x : Stored) (ok : Bool) → answer_with q x ok None ≡ in_order (steps_with ok q x) (granted_with (pos 0) q x)
 unfolding in_order or_else
 without q bad_image ok = refl
 without q not_held ok = refl
-without q (held d) ok = order_append (steps_with ok q (held d)) (lease_steps none q.clock.0) (granted_with (pos 0) q (held d))
+without q (held d) ok = order_append (steps_with ok q (held d)) (lease_steps None q.clock.0) (granted_with (pos 0) q (held d))
 
 -- `WithoutLease`
 pub without_lease : WithoutLease
@@ -121,12 +121,12 @@ abbrev pub lasting : Option Lease → ℕ → Bool
 lasting lease n = where_leased lease (λ l. not (ltb (stale_end l) n))
 
 -- the active time of a stale lease has passed
-pub not_fresh : (l : Lease) (n : ℕ) → fresh (some l) n ≡ false → active_end l < n
+pub not_fresh : (l : Lease) (n : ℕ) → fresh (Some l) n ≡ false → active_end l < n
 not_fresh l n e =
     ltb-true (active_end l) n (and_left (ltb (active_end l) n) _ (not-false (ltb (active_end l) n && leb n (stale_end l)) e))
 
 -- a lease that is neither stale nor expired is within its active time
-within_active : (l : Lease) (n : ℕ) → fresh (some l) n ≡ true → lasting (some l) n ≡ true → n ≤ active_end l
+within_active : (l : Lease) (n : ℕ) → fresh (Some l) n ≡ true → lasting (Some l) n ≡ true → n ≤ active_end l
 within_active l n f g =
     let last = ltb-false (stale_end l) n (not-true (ltb (stale_end l) n) g) in
     go (ltb (active_end l) n) refl (not-true (ltb (active_end l) n && leb n (stale_end l)) f) (le-leb n (stale_end l) last)
@@ -137,8 +137,8 @@ within_active l n f g =
 
 -- the margin of a grant on a descriptor that is held
 grant_margin_held : (q : Request) (d : Descriptor) → AllPass (steps_for q (held d))
-    → (lease_for q ≡ none → margin_at (lease_for q) q.clock.0 ≡ pos 0)
-    × ((l : Lease) → lease_for q ≡ some l
+    → (lease_for q ≡ None → margin_at (lease_for q) q.clock.0 ≡ pos 0)
+    × ((l : Lease) → lease_for q ≡ Some l
     → (margin_at (lease_for q) q.clock.0 ≡ pos (active_end l) -ℤ pos q.clock.0)
     × (pos 0 ≤ℤ margin_at (lease_for q) q.clock.0))
 grant_margin_held q d a = (λ e. ap (λ (x : Option Lease). margin_at x n) e, λ l e. (ap (λ (x : Option Lease). margin_at x n) e, sign l e))
@@ -146,11 +146,11 @@ grant_margin_held q d a = (λ e. ap (λ (x : Option Lease). margin_at x n) e, λ
     n : ℕ
     n = q.clock.0
 
-    sign : (l : Lease) → lease_for q ≡ some l → pos 0 ≤ℤ margin_at (lease_for q) n
+    sign : (l : Lease) → lease_for q ≡ Some l → pos 0 ≤ℤ margin_at (lease_for q) n
     sign l e =
-        let f : fresh (some l) n ≡ true =
+        let f : fresh (Some l) n ≡ true =
         ap (λ (x : Option Lease). fresh x n) (sym e) ∙ and_left _ true (passed_by answer_of 24 (steps_for q (held d)) a) in
-        let g : lasting (some l) n ≡ true =
+        let g : lasting (Some l) n ≡ true =
         ap (λ (x : Option Lease). lasting x n) (sym e) ∙ and_left _ true (passed_by answer_of 25 (steps_for q (held d)) a) in
         subst (λ (m : ℤ). pos 0 ≤ℤ m) ((margin_exact l n).0 ∙ ap (λ (x : Option Lease). margin_at x n) (sym e))
         ((margin_sign l n).1.1 (within_active l n f g))
@@ -160,8 +160,8 @@ pub grant_margin : GrantMargin
 grant_margin s q b z = go (all_stored s q.id b).0 (all_stored s q.id b).1
   where
     Margins : ℤ → Type 0
-    Margins m = (lease_for q ≡ none → m ≡ pos 0)
-        × ((l : Lease) → lease_for q ≡ some l → (m ≡ pos (active_end l) -ℤ pos q.clock.0) × (pos 0 ≤ℤ m))
+    Margins m = (lease_for q ≡ None → m ≡ pos 0)
+        × ((l : Lease) → lease_for q ≡ Some l → (m ≡ pos (active_end l) -ℤ pos q.clock.0) × (pos 0 ≤ℤ m))
 
     go : (x : Stored) → Under s q.id x → Margins (numbers_of (decision_of s q)).margin
     go bad_image u = absurd (false≢true (passed_by answer_of 16 (steps_for q bad_image) ((granted_exactly s q bad_image u).0 z)))
@@ -197,14 +197,14 @@ pub stale_margin : StaleMargin
 stale_margin s q b z = go (all_stored s q.id b).0 (all_stored s q.id b).1
   where
     Stale : DecisionNumbers → Type 0
-    Stale r = (l : Lease) × (lease_for q ≡ some l) × (r ≡ stale_with (pos (active_end l) -ℤ pos q.clock.0)) × (r.margin <ℤ pos 0)
+    Stale r = (l : Lease) × (lease_for q ≡ Some l) × (r ≡ stale_with (pos (active_end l) -ℤ pos q.clock.0)) × (r.margin <ℤ pos 0)
 
     of_lease : (d : Descriptor) (lease : Option Lease) → lease_for q ≡ lease → (behind q d lease).answer ≡ 24 → Stale (behind q d lease)
-    of_lease d none e f = absurd (false≢true (sym (four_stale true true true true (pos 0) (granted_with (pos 0) q (held d)) refl f).3))
-    of_lease d (some l) e f =
+    of_lease d None e f = absurd (false≢true (sym (four_stale true true true true (pos 0) (granted_with (pos 0) q (held d)) refl f).3))
+    of_lease d (Some l) e f =
         let n : ℕ = q.clock.0 in
-        let w = four_stale (live (some l)) (synced (some l) n) (fresh (some l) n) (lasting (some l) n) (margin_at (some l) n)
-        (granted_with (margin_at (some l) n) q (held d)) refl f in
+        let w = four_stale (live (Some l)) (synced (Some l) n) (fresh (Some l) n) (lasting (Some l) n) (margin_at (Some l) n)
+        (granted_with (margin_at (Some l) n) q (held d)) refl f in
         let below : (pos (active_end l) -ℤ pos n) <ℤ pos 0 =
         subst (λ (m : ℤ). m <ℤ pos 0) (margin_exact l n).0 ((margin_sign l n).2.1 (not_fresh l n w.3)) in
         (l, e, w.0, subst (λ (r : DecisionNumbers). r.margin <ℤ pos 0) (sym w.0) below)

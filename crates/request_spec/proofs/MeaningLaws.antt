@@ -8,7 +8,7 @@ use native.Mathlib.Omega.{arith}
 use Rattle.octets.specs.Bytes.{AreBytes}
 use Rattle.resource_spec.specs.Text.{resource_ok, path_of}
 use Rattle.descriptor_spec.specs.declared.Fields.{Fields}
-use Rattle.descriptor_spec.specs.declared.Reading.TheVariants.{Read}
+use Rattle.std.specs.Prelude.{Ok, None}
 use Rattle.descriptor_spec.specs.Model.{Descriptor, encode}
 use Rattle.descriptor_spec.specs.Allowed.{Formed, Allowed}
 use Rattle.descriptor_spec.specs.View.{descriptor_view}
@@ -16,8 +16,7 @@ use Rattle.descriptor_spec.specs.Code.{fields_of, reading_of}
 use Rattle.descriptor_spec.proofs.Laws.{reads_exactly, seen_handed}
 use Rattle.image_spec.specs.Image.{Row, reading, body_with}
 use Rattle.image_spec.specs.Readable.{Holds}
-use Rattle.request_spec.specs.declared.Matched.{Matched}
-use Rattle.request_spec.specs.declared.Matched.TheVariants.{Nothing}
+use Rattle.request_spec.specs.Decision.{Matched}
 use Rattle.request_spec.specs.Request.{Request, well_formed}
 use Rattle.request_spec.specs.Decision.{Facts, facts_of, matched_on, decision_of}
 use Rattle.request_spec.specs.Meaning.{pick_serving, facts_of_descriptor, decided_for}
@@ -30,7 +29,7 @@ pub well_formed_lem : (q : Request) → well_formed q ≡ true → (q.mode < 4) 
 well_formed_lem q e = (omega (arith, formed_mode q e), formed_resource q e)
 
 -- the encoding of an allowed descriptor is read, and what is read is the descriptor's
-pub reading_encode : (d : Descriptor) → AreBytes (encode d) → Allowed d → reading (encode d) ≡ Read (fields_of (descriptor_view 0 d))
+pub reading_encode : (d : Descriptor) → AreBytes (encode d) → Allowed d → reading (encode d) ≡ Ok (fields_of (descriptor_view 0 d))
 unfolding reading
 reading_encode d b o = ap reading_of ((reads_exactly (encode d) b (descriptor_view 0 d)).1 (d, o, refl, refl))
 
@@ -58,7 +57,7 @@ decided_on_descriptor s q bs d h b o e =
     facts = facts_of_descriptor d
 
     mine : Matched
-    mine = pick_serving d.payload.grants q.mode (path_of q.resource) 0 Nothing
+    mine = pick_serving d.payload.grants q.mode (path_of q.resource) 0 None
 
     go : (t : Bool) → well_formed q ≡ t → decided_by q true true facts found ≡ decided_by q true true facts mine
     go true w = let k = well_formed_lem q w in ap (decided_by q true true facts)

@@ -1,13 +1,14 @@
 -- The numbers that a request is answered, by what the image holds under the id (specs/Promises.antt): the order of the steps. Assumes
 -- nothing.
+use Rattle.std.specs.Prelude.{None, Ok, Err}
 use mathlib.Core.Path.{◌≡◌, refl, sym, ap, ap₂, ◌∙◌}
 use mathlib.Core.Bool.{Bool, true, false, not, ◌&&◌, false≢true}
 use mathlib.Core.List.{List, [], ◌∷◌, ◌++◌}
-use mathlib.Core.Option.{Option, none, some}
 use Prim.Native.Nat.{ℕ, ◌+◌}
 use native.Mathlib.Omega.{arith}
 use lib.IntN.{ℤ}
 use lib.Dec.{leb, ltb}
+use Rattle.std.proofs.Common.{Option, None, Some}
 use Rattle.octets.proofs.Tests.{and_left}
 use Rattle.resource_spec.specs.Pattern.{Path}
 use Rattle.resource_spec.specs.Text.{resource_ok, path_of}
@@ -21,14 +22,13 @@ use Rattle.steps.specs.Key.{is_verdict, is_that, key_open}
 use Rattle.steps.specs.Laws.{mapped, passes_by}
 use Rattle.steps.proofs.Laws.{order_mapped, passed_end, same_end, passed_by, not_by}
 use Rattle.steps.proofs.Promises as order
-use Rattle.image_spec.specs.declared.ImageCheck.TheVariants.{Unsound}
 use Rattle.image_spec.specs.Readable.{check_of}
 use Rattle.image_spec.proofs.Laws.{editions_named}
-use Rattle.request_spec.specs.declared.Decision.{Decision}
-use Rattle.request_spec.specs.declared.Decision.TheVariants as answers
+use Rattle.request_spec.specs.Decision.{Decision}
+use Rattle.request_spec.specs.declared.Refusal.TheVariants as answers
 use Rattle.request_spec.specs.declared.DecisionNumbers.{DecisionNumbers}
-use Rattle.request_spec.specs.declared.Matched.{Matched}
-use Rattle.request_spec.specs.declared.Matched.TheVariants.{IsAt, Nothing}
+use Rattle.request_spec.specs.Decision.{Matched}
+use Rattle.request_spec.specs.Decision.{picked_at}
 use Rattle.request_spec.specs.Request.{Request, arguments_ok, well_formed, lease_for}
 use Rattle.request_spec.specs.Decision.{Facts, revocation_steps, descriptor_steps, key_steps, margin_for, lease_steps, later_steps, steps_by}
 use Rattle.request_spec.specs.Decision.{granted_by, facts_in, decision_of, numbers_of}
@@ -56,24 +56,24 @@ by_numbers : (q : Request) (sound there : Bool) (x : Facts) (m : Matched)
 by_numbers q sound there x m = order_mapped numbers_of (steps_by q sound there x m) (granted_by q (lease_for q) x m)
 
 -- an image that a check calls unsound
-unsound_numbers : (s : List ℕ) (q : Request) → check_of s q.id ≡ Unsound → numbers_of (decision_of s q) ≡ answer_for q bad_image
+unsound_numbers : (s : List ℕ) (q : Request) → check_of s q.id ≡ None → numbers_of (decision_of s q) ≡ answer_for q bad_image
 unfolding in_order or_else steps_by later_steps arguments_ok well_formed clock_ok is_verdict resource_ok
-unsound_numbers s q e = ap numbers_of (decided_in_lem s q Unsound e) ∙ by_numbers q false false (facts_in s Unsound) Nothing
+unsound_numbers s q e = ap numbers_of (decided_in_lem s q None e) ∙ by_numbers q false false (facts_in s None) None
 
 -- a sound image that does not hold the id
 pub missing_numbers : (q : Request) → numbers_of (missing_by q) ≡ answer_for q not_held
 unfolding in_order or_else steps_by later_steps arguments_ok well_formed clock_ok is_verdict resource_ok
-missing_numbers q = by_numbers q true false (record { not_before = 0; not_after = 0; fay = []; terminal = [] }) Nothing
+missing_numbers q = by_numbers q true false (record { not_before = 0; not_after = 0; fay = []; terminal = [] }) None
 
 -- the grant of a descriptor that is picked for a request
 abbrev picked_for : Request → Descriptor → Matched
-picked_for q d = pick_serving d.payload.grants q.mode (path_of q.resource) 0 Nothing
+picked_for q d = pick_serving d.payload.grants q.mode (path_of q.resource) 0 None
 
 -- the margin, in the code's form and as it is promised
 margin_same : (lease : Option Lease) (n : ℕ) → (margin_for lease n).0 ≡ margin_at lease n
 unfolding margin_of last_active
-margin_same none n = refl
-margin_same (some l) n = refl
+margin_same None n = refl
+margin_same (Some l) n = refl
 
 -- what is granted on a descriptor, where some grant of it serves
 granted_numbers_lem : (q : Request) (d : Descriptor) → Allowed d → some_serves d.payload.grants q.mode (path_of q.resource) ≡ true
@@ -84,7 +84,7 @@ granted_numbers_lem q d a e =
     let x : Path = path_of q.resource in
     let picked : Grant → Bool = is_picked gs q.mode x in
     let z : 0 + first_place picked gs ≡ first_place picked gs = omega arith in
-    let given : ℕ → Matched = λ i. IsAt i (first_mask picked gs) (most_names gs q.mode x) in
+    let given : ℕ → Matched = λ i. picked_at i (first_mask picked gs) (most_names gs q.mode x) in
     ap (λ (m : Matched). numbers_of (granted_by q (lease_for q) (facts_of_descriptor d) m))
     (best_picked gs q.mode x 0 a.formed.payload.grants e)
     ∙ ap (λ (i : ℕ). numbers_of (granted_by q (lease_for q) (facts_of_descriptor d) (given i))) z
@@ -105,7 +105,7 @@ held_steps : (q : Request) (d : Descriptor)
 unfolding steps_by later_steps revocation_steps descriptor_steps key_steps lease_steps arguments_ok well_formed clock_ok is_verdict is_that key_open
     resource_ok is_future last_active last_stale
 held_steps q d =
-    ap₂ (steps_and q d) (some_picked d.payload.grants q.mode (path_of q.resource) 0 Nothing)
+    ap₂ (steps_and q d) (some_picked d.payload.grants q.mode (path_of q.resource) 0 None)
     (margin_same (lease_for q) q.clock.0)
 
 -- a descriptor that is held
@@ -152,22 +152,22 @@ granted_exactly s q x u =
 -- the numbers of a decision other than 0 are a refusal's
 refused_zero : (x : Decision) → ((numbers_of x).answer ≡ 0 → ⊥) → ((numbers_of x).answer ≡ 24 → ⊥)
     → numbers_of x ≡ refusal (numbers_of x).answer
-refused_zero (answers.Granted grant mask end margin) n k = absurd (n refl)
-refused_zero answers.Malformed n k = refl
-refused_zero answers.BadImage n k = refl
-refused_zero answers.NotFound n k = refl
-refused_zero answers.Revoked n k = refl
-refused_zero answers.NotYetValid n k = refl
-refused_zero answers.Expired n k = refl
-refused_zero answers.SubjectMismatch n k = refl
-refused_zero answers.TerminalMismatch n k = refl
-refused_zero answers.Insufficient n k = refl
-refused_zero answers.KeyInvalid n k = refl
-refused_zero answers.BadSignature n k = refl
-refused_zero answers.LeaseRevoked n k = refl
-refused_zero answers.LeaseFuture n k = refl
-refused_zero (answers.LeaseStale margin) n k = absurd (k refl)
-refused_zero answers.LeaseExpired n k = refl
+refused_zero (Ok g) n k = absurd (n refl)
+refused_zero (Err answers.Malformed) n k = refl
+refused_zero (Err answers.BadImage) n k = refl
+refused_zero (Err answers.NotFound) n k = refl
+refused_zero (Err answers.Revoked) n k = refl
+refused_zero (Err answers.NotYetValid) n k = refl
+refused_zero (Err answers.Expired) n k = refl
+refused_zero (Err answers.SubjectMismatch) n k = refl
+refused_zero (Err answers.TerminalMismatch) n k = refl
+refused_zero (Err answers.Insufficient) n k = refl
+refused_zero (Err answers.KeyInvalid) n k = refl
+refused_zero (Err answers.BadSignature) n k = refl
+refused_zero (Err answers.LeaseRevoked) n k = refl
+refused_zero (Err answers.LeaseFuture) n k = refl
+refused_zero (Err (answers.LeaseStale margin)) n k = absurd (k refl)
+refused_zero (Err answers.LeaseExpired) n k = refl
 
 -- `RefusalsZero`
 pub refusals_zero : RefusalsZero

@@ -3,12 +3,12 @@ use mathlib.Core.Path.{◌≡◌, refl, sym, ap, ◌∙◌, subst}
 use mathlib.Core.Logic.{◌⊎◌, inl, inr}
 use mathlib.Core.Bool.{Bool, true, false, not, cond, ◌&&◌, false≢true}
 use mathlib.Core.List.{List, [], ◌∷◌, ◌++◌}
-use mathlib.Core.Option.{Option, some}
 use Prim.Native.Nat.{ℕ, ◌+◌, ◌^◌, ◌≤◌, ◌<◌}
 use native.Mathlib.Omega.{arith}
 use lib.IntN.{ℤ}
 use lib.Dec.{leb, ltb}
 use borrow.Author.Tests.{le-leb, lt-ltb, le-ltb, ltb-true, ltb-false, not-true, not-false}
+use Rattle.std.proofs.Common.{Option, Some}
 use Rattle.octets.specs.Bytes.{same}
 use Rattle.octets.proofs.Tests.{and_false}
 use Rattle.descriptor_spec.specs.Model.{Descriptor}
@@ -54,15 +54,15 @@ four_late a b true true m g p q r = absurd (false≢true (sym r))
 -- the lease under an id stays, or it is that of the row
 under_older : (before after : List Row) (r : Row) (older : ℕ) (id : List ℕ)
     → (lease_under (before ++ (r ∷ after)) id ≡ lease_under (before ++ (row_with_sync r older ∷ after)) id)
-    ⊎ ((lease_under (before ++ (r ∷ after)) id ≡ some r.lease)
-    × (lease_under (before ++ (row_with_sync r older ∷ after)) id ≡ some (with_sync r.lease older)))
+    ⊎ ((lease_under (before ++ (r ∷ after)) id ≡ Some r.lease)
+    × (lease_under (before ++ (row_with_sync r older ∷ after)) id ≡ Some (with_sync r.lease older)))
 unfolding lease_under
 under_older [] after r older id = go (same r.id id)
   where
     go : (b : Bool)
-        → (cond b (some r.lease) (lease_under after id) ≡ cond b (some (with_sync r.lease older)) (lease_under after id))
-        ⊎ ((cond b (some r.lease) (lease_under after id) ≡ some r.lease)
-        × (cond b (some (with_sync r.lease older)) (lease_under after id) ≡ some (with_sync r.lease older)))
+        → (cond b (Some r.lease) (lease_under after id) ≡ cond b (Some (with_sync r.lease older)) (lease_under after id))
+        ⊎ ((cond b (Some r.lease) (lease_under after id) ≡ Some r.lease)
+        × (cond b (Some (with_sync r.lease older)) (lease_under after id) ≡ Some (with_sync r.lease older)))
     go true = inr (refl, refl)
     go false = inl refl
 under_older (x ∷ before) after r older id = go (same x.id id) (under_older before after r older id)
@@ -73,34 +73,34 @@ under_older (x ∷ before) after r older id = go (same x.id id) (under_older bef
     then : Option Lease
     then = lease_under (before ++ (row_with_sync r older ∷ after)) id
 
-    go : (b : Bool) → (now ≡ then) ⊎ ((now ≡ some r.lease) × (then ≡ some (with_sync r.lease older)))
-        → (cond b (some x.lease) now ≡ cond b (some x.lease) then)
-        ⊎ ((cond b (some x.lease) now ≡ some r.lease) × (cond b (some x.lease) then ≡ some (with_sync r.lease older)))
+    go : (b : Bool) → (now ≡ then) ⊎ ((now ≡ Some r.lease) × (then ≡ Some (with_sync r.lease older)))
+        → (cond b (Some x.lease) now ≡ cond b (Some x.lease) then)
+        ⊎ ((cond b (Some x.lease) now ≡ Some r.lease) × (cond b (Some x.lease) then ≡ Some (with_sync r.lease older)))
     go true k = inl refl
     go false k = k
 
 module _ (q : Request) (d : Descriptor) where
   -- a lease whose steps are answered 24 or 25 is not revoked, and its active time has passed
-  late_past : (l : Lease) → StaleOrExpired (behind q d (some l)) → (l.revoked ≡ false) × (active_end l < q.clock.0)
+  late_past : (l : Lease) → StaleOrExpired (behind q d (Some l)) → (l.revoked ≡ false) × (active_end l < q.clock.0)
   late_past l (inl e) =
       let n : ℕ = q.clock.0 in
-      let w = four_stale (live (some l)) (synced (some l) n) (fresh (some l) n) (lasting (some l) n) (margin_at (some l) n)
-      (granted_with (margin_at (some l) n) q (held d)) refl e in
+      let w = four_stale (live (Some l)) (synced (Some l) n) (fresh (Some l) n) (lasting (Some l) n) (margin_at (Some l) n)
+      (granted_with (margin_at (Some l) n) q (held d)) refl e in
       (not-true l.revoked w.1, not_fresh l n w.3)
   late_past l (inr e) =
       let n : ℕ = q.clock.0 in
-      let w = four_expired (live (some l)) (synced (some l) n) (fresh (some l) n) (lasting (some l) n) (margin_at (some l) n)
-      (granted_with (margin_at (some l) n) q (held d)) refl e in (
+      let w = four_expired (live (Some l)) (synced (Some l) n) (fresh (Some l) n) (lasting (Some l) n) (margin_at (Some l) n)
+      (granted_with (margin_at (Some l) n) q (held d)) refl e in (
         not-true l.revoked w.0,
         omega (arith, ltb-true (stale_end l) n (not-false (ltb (stale_end l) n) w.2)),
       )
 
   -- and one of which that is so is answered 24 or 25
-  past_late : (l : Lease) → l.revoked ≡ false → active_end l < q.clock.0 → StaleOrExpired (behind q d (some l))
+  past_late : (l : Lease) → l.revoked ≡ false → active_end l < q.clock.0 → StaleOrExpired (behind q d (Some l))
   past_late l r h =
       let n : ℕ = q.clock.0 in
-      four_late (live (some l)) (synced (some l) n) (fresh (some l) n) (lasting (some l) n) (margin_at (some l) n)
-      (granted_with (margin_at (some l) n) q (held d))
+      four_late (live (Some l)) (synced (Some l) n) (fresh (Some l) n) (lasting (Some l) n) (margin_at (Some l) n)
+      (granted_with (margin_at (Some l) n) q (held d))
       (ap not r) (ap not (le-ltb (n + l.skew.0) l.last_sync.0 (omega arith)))
       (go (ltb (stale_end l) n) refl (lt-ltb (active_end l) n h))
     where
@@ -110,8 +110,8 @@ module _ (q : Request) (d : Descriptor) where
       go false e k = rw (k, le-leb q.clock.0 (stale_end l) (ltb-false (stale_end l) q.clock.0 e))
 
   -- so it stays with an older sync
-  older_late : (l : Lease) (older : ℕ) → older ≤ l.last_sync.0 → StaleOrExpired (behind q d (some l))
-      → StaleOrExpired (behind q d (some (with_sync l older)))
+  older_late : (l : Lease) (older : ℕ) → older ≤ l.last_sync.0 → StaleOrExpired (behind q d (Some l))
+      → StaleOrExpired (behind q d (Some (with_sync l older)))
   older_late l older h f = let w = late_past l f in past_late (with_sync l older) w.0 (omega (arith, w.1))
 
   -- where the steps up to the signature have neither number, 24 and 25 are the lease's
@@ -132,7 +132,7 @@ module _ (q : Request) (d : Descriptor) where
 
 -- the answers with two leases, of which the second is the first or has an older sync
 older_answers : (q : Request) (x : Stored) (ok : Bool) (one two : Option Lease) (l : Lease) (older : ℕ) → older ≤ l.last_sync.0
-    → (one ≡ two) ⊎ ((one ≡ some l) × (two ≡ some (with_sync l older)))
+    → (one ≡ two) ⊎ ((one ≡ Some l) × (two ≡ Some (with_sync l older)))
     → StaleOrExpired (answer_with q x ok one) → StaleOrExpired (answer_with q x ok two)
 older_answers q bad_image ok one two l older h k f = f
 older_answers q not_held ok one two l older h k f = f

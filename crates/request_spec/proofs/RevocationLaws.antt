@@ -1,4 +1,6 @@
 -- What the rows of the revocation list do to a request (specs/Promises.antt). Assumes nothing.
+use Rattle.std.specs.Prelude.{Err, Some, None}
+use Rattle.image_spec.specs.Check.{contents, Held, ImageCheck}
 use mathlib.Core.Path.{◌≡◌, refl, sym, ap, ap₂, ◌∙◌, subst}
 use mathlib.Core.Logic.{◌⊎◌, inl, inr}
 use mathlib.Core.Bool.{Bool, true, false, not, ◌&&◌, ◌||◌}
@@ -18,14 +20,10 @@ use Rattle.revocation_spec.proofs.Promises.{revoked_exactly, row_more, later_rev
 use Rattle.steps.specs.Order.{or_else, in_order}
 use Rattle.steps.specs.Laws.{passes_by}
 use Rattle.steps.proofs.Laws.{not_by}
-use Rattle.image_spec.specs.declared.Held.TheVariants.{Missing, Body}
-use Rattle.image_spec.specs.declared.ImageCheck.{ImageCheck}
-use Rattle.image_spec.specs.declared.ImageCheck.TheVariants.{Sound, Unsound}
 use Rattle.image_spec.specs.Readable.{check_of}
-use Rattle.request_spec.specs.declared.Decision.{Decision}
-use Rattle.request_spec.specs.declared.Decision.TheVariants as answers
-use Rattle.request_spec.specs.declared.Matched.{Matched}
-use Rattle.request_spec.specs.declared.Matched.TheVariants.{IsAt, Nothing}
+use Rattle.request_spec.specs.Decision.{Decision}
+use Rattle.request_spec.specs.declared.Refusal.TheVariants as answers
+use Rattle.request_spec.specs.Decision.{Matched}
 use Rattle.request_spec.specs.Request.{Request, seconds_of, arguments_ok, well_formed, revoked_now, lease_for}
 use Rattle.request_spec.specs.Decision.{Facts, revocation_steps, descriptor_steps, key_steps, lease_steps, later_steps, steps_by}
 use Rattle.request_spec.specs.Decision.{granted_by, decision_of, numbers_of}
@@ -105,8 +103,8 @@ stays_revoked s q later b h l e = let k = all_stored s q.id b in stays s q later
 -- the decision by its first four steps and what the others come to
 abbrev behind : Bool → Bool → Bool → Bool → Decision → Decision
 behind formed sound there revoked r =
-    or_else formed answers.Malformed
-    (or_else sound answers.BadImage (or_else there answers.NotFound (or_else (not revoked) answers.Revoked r)))
+    or_else formed (Err answers.Malformed)
+    (or_else sound (Err answers.BadImage) (or_else there (Err answers.NotFound) (or_else (not revoked) (Err answers.Revoked) r)))
 
 -- what the steps after the revocation list come to
 abbrev rest_of : Request → Facts → Matched → Decision
@@ -122,7 +120,7 @@ decided_behind q sound there x m = refl
 
 -- one more reason for 8 leaves the decision or makes it 8
 one_more : (w sound there l t : Bool) (r : Decision)
-    → (behind w sound there (l || t) r ≡ behind w sound there l r) ⊎ (behind w sound there (l || t) r ≡ answers.Revoked)
+    → (behind w sound there (l || t) r ≡ behind w sound there l r) ⊎ (behind w sound there (l || t) r ≡ (Err answers.Revoked))
 unfolding or_else
 one_more false sound there l t r = inl refl
 one_more true false there l t r = inl refl
@@ -134,8 +132,8 @@ one_more true true true false false r = inl refl
 -- the steps after it do not look at the list
 rest_alike : (q : Request) (l : List ℕ) (x : Facts) (m : Matched) → rest_of (with_revoked q l) x m ≡ rest_of q x m
 unfolding granted_by
-rest_alike q l x (IsAt grant mask names) = refl
-rest_alike q l x Nothing = refl
+rest_alike q l x (Some p) = refl
+rest_alike q l x None = refl
 
 -- the decision on a request with the list l
 decided_with : (q : Request) (l : List ℕ) (sound there : Bool) (x : Facts) (m : Matched)
@@ -155,14 +153,18 @@ of_image P q l l' k s =
     subst (λ (a : Decision). P a (decision_of s (with_revoked q l))) (sym (decided_in_lem s (with_revoked q l') v refl))
     (subst (P (decided_in s (with_revoked q l') v)) (sym (decided_in_lem s (with_revoked q l) v refl)) (go v))
   where
+    held : (n end : ℕ) (h : Held)
+        → P (decided_in s (with_revoked q l') (contents n end h)) (decided_in s (with_revoked q l) (contents n end h))
+    held n end (Some b) = k true true _ _
+    held n end None = k true false _ _
+
     go : (v : ImageCheck) → P (decided_in s (with_revoked q l') v) (decided_in s (with_revoked q l) v)
-    go (Sound n end (Body row at len f)) = k true true _ _
-    go (Sound n end Missing) = k true false _ _
-    go Unsound = k false false _ _
+    go (Some v) = held v.rows v.end v.held
+    go None = k false false _ _
 
 -- a decision is another one, or 8
 abbrev SameOrRevoked : Decision → Decision → Type 0
-SameOrRevoked a b = (a ≡ b) ⊎ (a ≡ answers.Revoked)
+SameOrRevoked a b = (a ≡ b) ⊎ (a ≡ (Err answers.Revoked))
 
 module _ (q : Request) (l l' : List ℕ) (w : well_formed (with_revoked q l') ≡ well_formed (with_revoked q l)) where
   -- where the second list has one more reason for 8

@@ -1,4 +1,5 @@
 -- A request after a submission (specs/Promises.antt). Assumes nothing.
+use Rattle.std.specs.Prelude.{Some, None}
 use mathlib.Core.Path.{◌≡◌, refl, sym, ap, ◌∙◌, subst}
 use mathlib.Core.Logic.{◌⊎◌, inl, inr, ⊎_elim}
 use mathlib.Core.Bool.{Bool, true, false, false≢true}
@@ -15,10 +16,8 @@ use Rattle.octets.proofs.SameLaws.{same_equal, equal_same}
 use Rattle.descriptor_spec.specs.Model.{Descriptor, encode}
 use Rattle.descriptor_spec.specs.Allowed.{Allowed}
 use Rattle.steps.specs.declared.Window.{Window}
-use Rattle.image_spec.specs.declared.Held.{Held}
-use Rattle.image_spec.specs.declared.Held.TheVariants.{Missing, Body}
+use Rattle.image_spec.specs.Check.{Held, layout_of}
 use Rattle.image_spec.specs.Image.{Row, reading, is_read, id_of, body_with}
-use Rattle.image_spec.specs.Check.{layout_of}
 use Rattle.image_spec.specs.Choose.{end_in, end_of}
 use Rattle.image_spec.specs.Readable.{Holds}
 use Rattle.image_spec.specs.Edition2 as edition2
@@ -65,9 +64,9 @@ pub found_alike : (s t : List ℕ) (q : Request) (bs cs : List Row) → Holds s 
 found_alike s t q bs cs h k e = let w = check_tells (layout_of s) (named_ok s) s q.id bs h in go w.0 w.2
   where
     go : (x : Held) → HeldIs s q.id bs x → decision_of t q ≡ decision_of s q
-    go Missing i = decided_on_none t q cs k (e ∙ i) ∙ sym (decided_on_none s q bs h i)
-    go (Body row at len f) i = decided_on_body t q cs (part s at len) f k (e ∙ i.which) i.reads
-        ∙ sym (decided_on_body s q bs (part s at len) f h i.which i.reads)
+    go None i = decided_on_none t q cs k (e ∙ i) ∙ sym (decided_on_none s q bs h i)
+    go (Some b) i = decided_on_body t q cs (part s b.at b.len) b.fields k (e ∙ i.which) i.reads
+        ∙ sym (decided_on_body s q bs (part s b.at b.len) b.fields h i.which i.reads)
 
 -- a body that an id has in bytes that may be read is the encoding of a descriptor that is held, and ends when the descriptor does
 body_held : (s id : List ℕ) (bs : List Row) (b : List ℕ) → AreBytes s → Holds s bs → body_with id bs ≡ some b
@@ -76,10 +75,10 @@ unfolding end_of
 body_held s id bs b bytes h e = let w = check_tells (layout_of s) (named_ok s) s id bs h in go w.0 w.2
   where
     go : (x : Held) → HeldIs s id bs x → (c : Descriptor) × Under s id (held c) × (end_of b ≡ c.payload.not_after)
-    go Missing i = absurd (none_some b (sym i ∙ e))
-    go (Body row at len f) i =
-        let here : part s at len ≡ b = some_same (part s at len) b (sym i.which ∙ e) in
-        let mine : AreBytes b = subst AreBytes here (part_bytes s at len bytes) in
+    go None i = absurd (none_some b (sym i ∙ e))
+    go (Some x) i =
+        let here : part s x.at x.len ≡ b = some_same (part s x.at x.len) b (sym i.which ∙ e) in
+        let mine : AreBytes b = subst AreBytes here (part_bytes s x.at x.len bytes) in
         let r = body_read b mine (ap is_read (sym (ap reading here) ∙ i.reads)) in
         let own : AreBytes (encode r.0) = subst AreBytes r.2 mine in
         let n = encoding_read r.0 own r.1 in (

@@ -1,4 +1,6 @@
 -- What bytes hold under an id (specs/Promises.antt): always one of the three, and which body has the id. Assumes nothing.
+use Rattle.std.specs.Prelude.{Some, None}
+use Rattle.image_spec.specs.Check.{contents, Held, ImageCheck, layout_of}
 use mathlib.Core.Path.{◌≡◌, refl, sym, ap, ◌∙◌, subst}
 use mathlib.Core.List.{List}
 use mathlib.Core.Option.{none, some}
@@ -7,13 +9,8 @@ use Rattle.octets.specs.Bytes.{AreBytes, part}
 use Rattle.descriptor_spec.specs.declared.Fields.{Fields}
 use Rattle.descriptor_spec.specs.Model.{Descriptor, encode}
 use Rattle.descriptor_spec.specs.Allowed.{Allowed}
-use Rattle.image_spec.specs.declared.Held.{Held}
-use Rattle.image_spec.specs.declared.Held.TheVariants.{Missing, Body}
-use Rattle.image_spec.specs.declared.ImageCheck.{ImageCheck}
-use Rattle.image_spec.specs.declared.ImageCheck.TheVariants.{Sound, Unsound}
 use Rattle.image_spec.specs.Image.{Row, body_with, is_read}
 use Rattle.image_spec.specs.Image.{RowsOk}
-use Rattle.image_spec.specs.Check.{layout_of}
 use Rattle.image_spec.specs.declared.layout.Layout.{Layout}
 use Rattle.image_spec.specs.Readable.{Holds, check_of, rows_held}
 use Rattle.image_spec.specs.Laws.{HeldBody, HeldIs}
@@ -49,11 +46,11 @@ pub none_found : (s id : List ℕ) (u : Under s id not_held) → body_with id u.
 none_found s id u = let w = check_tells (layout_of s) (named_ok s) s id u.0 u.1 in go w.0 w.2
   where
     go : (k : Held) → HeldIs s id u.0 k → body_with id u.0 ≡ none
-    go Missing i = i
-    go (Body row at len f) i = let r = body_among s id u.0 row at len f u.2 u.1.rows i in absurd (u.3 r.0 r.1)
+    go None i = i
+    go (Some x) i = let r = body_among s id u.0 x.row x.at x.len x.fields u.2 u.1.rows i in absurd (u.3 r.0 r.1)
 
 -- bytes that are no image are called unsound
-pub unsound : (s id : List ℕ) → Under s id bad_image → check_of s id ≡ Unsound
+pub unsound : (s id : List ℕ) → Under s id bad_image → check_of s id ≡ None
 unsound s id u = (check_unsound (layout_of s) (named_ok s) s id u.0).1 u.1
 
 -- where no body has the id, no descriptor with it is held
@@ -64,12 +61,15 @@ none_among s id bs h e d a = none_some (encode d) (sym e ∙ held_found s id d (
 pub all_stored : AllStored
 all_stored s id b = go (check_of s id) refl
   where
-    go : (v : ImageCheck) → check_of s id ≡ v → (x : Stored) × Under s id x
-    go Unsound e = (bad_image, (b, (check_unsound (layout_of s) (named_ok s) s id b).0 e))
-    go (Sound n end Missing) e =
-        let w = check_says (layout_of s) (named_ok s) s id b n end Missing e in
+    in_sound : (n end : ℕ) (h : Held) → check_of s id ≡ contents n end h → (x : Stored) × Under s id x
+    in_sound n end None e =
+        let w = check_says (layout_of s) (named_ok s) s id b n end None e in
         (not_held, (rows_held s, w.holds, b, none_among s id (rows_held s) w.holds w.held))
-    go (Sound n end (Body row at len f)) e =
-        let w = check_says (layout_of s) (named_ok s) s id b n end (Body row at len f) e in
-        let r = body_among s id (rows_held s) row at len f b w.holds.rows w.held in
+    in_sound n end (Some x) e =
+        let w = check_says (layout_of s) (named_ok s) s id b n end (Some x) e in
+        let r = body_among s id (rows_held s) x.row x.at x.len x.fields b w.holds.rows w.held in
         (held r.0, (rows_held s, w.holds, r.1))
+
+    go : (v : ImageCheck) → check_of s id ≡ v → (x : Stored) × Under s id x
+    go None e = (bad_image, (b, (check_unsound (layout_of s) (named_ok s) s id b).0 e))
+    go (Some v) e = in_sound v.rows v.end v.held e

@@ -1,7 +1,6 @@
 -- The decision of a request, as the code takes it: the steps in the papers' order. These definitions compute. A reader of the
 -- promises does not need this page.
-use Rattle.std.specs.Prelude.{Bool, true, false, not, cond, ◌&&◌, List, [], ◌∷◌, ◌++◌, ℕ, zero, suc, ◌+◌, ◌-◌, min, take, drop, pos, leb, ltb, eqb}
-use Rattle.std.proofs.Math.Option.{Option, none, some}
+use Rattle.std.specs.Prelude.{Bool, true, false, not, cond, ◌&&◌, Option, None, Some, List, [], ◌∷◌, ◌++◌, ℕ, zero, suc, ◌+◌, ◌-◌, min, take, drop, pos, leb, ltb, eqb}
 use Rattle.resource_spec.specs.Identifier.{fay_size, levels_place, terminal_size}
 use Rattle.octets.specs.Bytes.{part, same}
 use Rattle.exact.specs.Reads.{got, refused}
@@ -16,17 +15,29 @@ use Rattle.steps.specs.Order.{Step, step, in_order}
 use Rattle.steps.specs.Key.{bad, no_key, is_that, key_open}
 use Rattle.lease_spec.specs.declared.Lease.{Lease}
 use Rattle.lease_spec.specs.Lease.{last_active, last_stale, is_future, margin_of}
-use Rattle.image_spec.specs.declared.Held.TheVariants.{Missing, Body}
-use Rattle.image_spec.specs.declared.ImageCheck.{ImageCheck}
-use Rattle.image_spec.specs.declared.ImageCheck.TheVariants.{Sound, Unsound}
-use Rattle.image_spec.specs.Check.{is_sound, is_held}
+use Rattle.image_spec.specs.Check.{Held, ImageCheck, is_sound, is_held}
 use Rattle.image_spec.specs.Readable.{check_of}
-use Rattle.request_spec.specs.declared.Decision.{Decision}
+use Rattle.request_spec.specs.declared.Granted.{Granted}
+use Rattle.request_spec.specs.declared.Refusal.{Refusal}
 use Rattle.request_spec.specs.declared.DecisionNumbers.{DecisionNumbers}
-use Rattle.request_spec.specs.declared.Decision.TheVariants as answers
-use Rattle.request_spec.specs.declared.Matched.{Matched}
-use Rattle.request_spec.specs.declared.Matched.TheVariants.{IsAt, Nothing}
+use Rattle.std.specs.Prelude.{Option as Option, Result, Ok, Err, Some, None}
+use Rattle.request_spec.specs.declared.Refusal.TheVariants as answers
+use Rattle.request_spec.specs.declared.Picked.{Picked}
 use Rattle.request_spec.specs.Request.{Request, seconds_of, well_formed, revoked_now, lease_for}
+
+-- ---- what is answered
+
+-- the decision: what is granted, or the refusal of the first step that fails
+abbrev pub Decision : Type 0
+Decision = Result Granted Refusal
+
+-- the grant that is picked, or none
+abbrev pub Matched : Type 0
+Matched = Option Picked
+
+-- a grant's place, its mask and how many levels it matches by equal names
+abbrev pub picked_at : ℕ → ℕ → ℕ → Matched
+picked_at grant mask names = Some (record { grant = grant; mask = mask; names = names })
 
 -- ---- the steps
 
@@ -39,47 +50,47 @@ pub record Facts : Type 0 where
 
 -- a grant serves the request
 abbrev pub is_matched : Matched → Bool
-is_matched (IsAt grant mask names) = true
-is_matched Nothing = false
+is_matched (Some p) = true
+is_matched None = false
 
 -- 8: the id is revoked now
 unfoldable pub revocation_steps : Request → List (Step Decision)
-revocation_steps q = step (not (revoked_now q)) answers.Revoked ∷ []
+revocation_steps q = step (not (revoked_now q)) (Err answers.Revoked) ∷ []
 
 -- 9 to 13: the descriptor's period, its subject, its terminal, and a grant that serves
 unfoldable pub descriptor_steps : Facts → List ℕ → List ℕ → ℕ → Matched → List (Step Decision)
 descriptor_steps x fay terminal clock m =
-    step (leb x.not_before clock) answers.NotYetValid
-    ∷ step (ltb clock x.not_after) answers.Expired
-    ∷ step (same x.fay fay) answers.SubjectMismatch
-    ∷ step (same x.terminal terminal) answers.TerminalMismatch
-    ∷ step (is_matched m) answers.Insufficient
+    step (leb x.not_before clock) (Err answers.NotYetValid)
+    ∷ step (ltb clock x.not_after) (Err answers.Expired)
+    ∷ step (same x.fay fay) (Err answers.SubjectMismatch)
+    ∷ step (same x.terminal terminal) (Err answers.TerminalMismatch)
+    ∷ step (is_matched m) (Err answers.Insufficient)
     ∷ []
 
 -- 14 and 4: the key and the signature
 unfoldable pub key_steps : ℕ → Window → ℕ → List (Step Decision)
 key_steps verdict window clock =
-    step (not (is_that verdict no_key) && key_open window clock) answers.KeyInvalid
-    ∷ step (not (is_that verdict bad)) answers.BadSignature
+    step (not (is_that verdict no_key) && key_open window clock) (Err answers.KeyInvalid)
+    ∷ step (not (is_that verdict bad)) (Err answers.BadSignature)
     ∷ []
 
 -- a test of the lease, where there is one; without a lease it passes
 abbrev pub where_leased : Option Lease → (Lease → Bool) → Bool
-where_leased none test = true
-where_leased (some l) test = test l
+where_leased None test = true
+where_leased (Some l) test = test l
 
 -- the margin of the lease, and 0 without one
 abbrev pub margin_for : Option Lease → ℕ → Margin
-margin_for none n = record { 0 = pos 0 }
-margin_for (some l) n = margin_of l n
+margin_for None n = record { 0 = pos 0 }
+margin_for (Some l) n = margin_of l n
 
 -- 26, 23, 24 and 25: the lease is revoked, future, stale or expired at the clock n
 unfoldable pub lease_steps : Option Lease → ℕ → List (Step Decision)
 lease_steps lease n =
-    step (where_leased lease (λ l. not l.revoked)) answers.LeaseRevoked
-    ∷ step (where_leased lease (λ l. not (is_future l n))) answers.LeaseFuture
-    ∷ step (where_leased lease (λ l. not (ltb (last_active l) n && leb n (last_stale l)))) (answers.LeaseStale (margin_for lease n))
-    ∷ step (where_leased lease (λ l. not (ltb (last_stale l) n))) answers.LeaseExpired
+    step (where_leased lease (λ l. not l.revoked)) (Err answers.LeaseRevoked)
+    ∷ step (where_leased lease (λ l. not (is_future l n))) (Err answers.LeaseFuture)
+    ∷ step (where_leased lease (λ l. not (ltb (last_active l) n && leb n (last_stale l)))) (Err (answers.LeaseStale (margin_for lease n)))
+    ∷ step (where_leased lease (λ l. not (ltb (last_stale l) n))) (Err answers.LeaseExpired)
     ∷ []
 
 -- the steps on a descriptor that was found, by its lease, its facts and the grant that is picked
@@ -92,17 +103,25 @@ later_steps q lease x m =
 -- all steps: the arguments, the image, that the id is held, and those
 unfoldable pub steps_by : Request → Bool → Bool → Facts → Matched → List (Step Decision)
 steps_by q sound held x m =
-    step (well_formed q) answers.Malformed
-    ∷ step sound answers.BadImage
-    ∷ step held answers.NotFound
+    step (well_formed q) (Err answers.Malformed)
+    ∷ step sound (Err answers.BadImage)
+    ∷ step held (Err answers.NotFound)
     ∷ later_steps q (lease_for q) x m
 
--- granted: the grant's place, its mask, the session's end, the smaller of not_after and the clock and the session length together; and
--- the margin of the lease
+-- what is granted: the grant's place, its mask, the session's end, the smaller of not_after and the clock and the session length
+-- together; and the margin of the lease
+abbrev pub granted_on : Request → Option Lease → Facts → Picked → Granted
+granted_on q lease x p = record {
+  grant = p.grant;
+  mask = p.mask;
+  end = seconds (min x.not_after (seconds_of q + q.session.0));
+  margin = margin_for lease q.clock.0;
+}
+
+-- granted, where a grant is picked
 unfoldable pub granted_by : Request → Option Lease → Facts → Matched → Decision
-granted_by q lease x (IsAt grant mask names) =
-    answers.Granted grant mask (seconds (min x.not_after (seconds_of q + q.session.0))) (margin_for lease q.clock.0)
-granted_by q lease x Nothing = answers.Insufficient
+granted_by q lease x (Some p) = Ok (granted_on q lease x p)
+granted_by q lease x None = Err answers.Insufficient
 
 -- ---- from the bytes of an image
 
@@ -127,8 +146,8 @@ names_of b r g = levels_named (part b (g.pattern.start + levels_place) (g.patter
 
 -- of the grant that was picked before and one after it that serves: the one that matches more levels by equal names, the earlier on a tie
 abbrev pub more_exact : Matched → ℕ → ℕ → ℕ → Matched
-more_exact Nothing i mask names = IsAt i mask names
-more_exact (IsAt grant m most) i mask names = cond (ltb most names) (IsAt i mask names) (IsAt grant m most)
+more_exact None i mask names = picked_at i mask names
+more_exact (Some p) i mask names = cond (ltb p.names names) (picked_at i mask names) (Some p)
 
 -- what is picked after a grant, by whether it serves
 abbrev pub picked_with : Bool → Matched → ℕ → ℕ → ℕ → Matched
@@ -147,7 +166,7 @@ pick_from b r mode (suc n) at i best = elim (grant_at b at) [
 unfoldable pub matched_on : List ℕ → Fields → List ℕ → ℕ → Matched
 matched_on b f resource mode =
     cond (same (part b f.terminal terminal_size) (take terminal_size resource))
-    (pick_from b (drop levels_place resource) mode f.grants f.first 0 Nothing) Nothing
+    (pick_from b (drop levels_place resource) mode f.grants f.first 0 None) None
 
 -- the decision on a body of which f was read, and which has that lease
 unfoldable pub decided_on : Request → Option Lease → List ℕ → Fields → Decision
@@ -156,17 +175,29 @@ decided_on q lease b f =
     let m = matched_on b f q.resource q.mode in
     in_order (later_steps q lease x m) (granted_by q lease x m)
 
+-- the facts where no body was found
+abbrev pub no_facts : Facts
+no_facts = record { not_before = 0; not_after = 0; fay = []; terminal = [] }
+
+-- the facts of the body that is held
+abbrev pub facts_held : List ℕ → Held → Facts
+facts_held s (Some b) = facts_of (part s b.at b.len) b.fields
+facts_held s None = no_facts
+
 -- the facts of the body that was found
 abbrev pub facts_in : List ℕ → ImageCheck → Facts
-facts_in s (Sound n end (Body row at len f)) = facts_of (part s at len) f
-facts_in s (Sound n end Missing) = record { not_before = 0; not_after = 0; fay = []; terminal = [] }
-facts_in s Unsound = record { not_before = 0; not_after = 0; fay = []; terminal = [] }
+facts_in s (Some v) = facts_held s v.held
+facts_in s None = no_facts
 
--- its grant that is picked
+-- the grant that is picked of the body that is held
+abbrev pub matched_held : List ℕ → Request → Held → Matched
+matched_held s q (Some b) = matched_on (part s b.at b.len) b.fields q.resource q.mode
+matched_held s q None = None
+
+-- of the body that was found
 abbrev pub matched_in : List ℕ → Request → ImageCheck → Matched
-matched_in s q (Sound n end (Body row at len f)) = matched_on (part s at len) f q.resource q.mode
-matched_in s q (Sound n end Missing) = Nothing
-matched_in s q Unsound = Nothing
+matched_in s q (Some v) = matched_held s q v.held
+matched_in s q None = None
 
 -- the steps of a request to the image s
 unfoldable pub steps_of : List ℕ → Request → List (Step Decision)
@@ -192,19 +223,19 @@ granted_numbers grant mask end m = record { answer = 0; grant = grant; mask = ma
 
 -- the answer, and its numbers
 abbrev pub numbers_of : Decision → DecisionNumbers
-numbers_of (answers.Granted grant mask end m) = granted_numbers grant mask end m
-numbers_of answers.Malformed = refusal 15
-numbers_of answers.BadImage = refusal 16
-numbers_of answers.NotFound = refusal 7
-numbers_of answers.Revoked = refusal 8
-numbers_of answers.NotYetValid = refusal 9
-numbers_of answers.Expired = refusal 10
-numbers_of answers.SubjectMismatch = refusal 11
-numbers_of answers.TerminalMismatch = refusal 12
-numbers_of answers.Insufficient = refusal 13
-numbers_of answers.KeyInvalid = refusal 14
-numbers_of answers.BadSignature = refusal 4
-numbers_of answers.LeaseRevoked = refusal 26
-numbers_of answers.LeaseFuture = refusal 23
-numbers_of (answers.LeaseStale m) = stale_with m
-numbers_of answers.LeaseExpired = refusal 25
+numbers_of (Ok g) = granted_numbers g.grant g.mask g.end g.margin
+numbers_of (Err answers.Malformed) = refusal 15
+numbers_of (Err answers.BadImage) = refusal 16
+numbers_of (Err answers.NotFound) = refusal 7
+numbers_of (Err answers.Revoked) = refusal 8
+numbers_of (Err answers.NotYetValid) = refusal 9
+numbers_of (Err answers.Expired) = refusal 10
+numbers_of (Err answers.SubjectMismatch) = refusal 11
+numbers_of (Err answers.TerminalMismatch) = refusal 12
+numbers_of (Err answers.Insufficient) = refusal 13
+numbers_of (Err answers.KeyInvalid) = refusal 14
+numbers_of (Err answers.BadSignature) = refusal 4
+numbers_of (Err answers.LeaseRevoked) = refusal 26
+numbers_of (Err answers.LeaseFuture) = refusal 23
+numbers_of (Err (answers.LeaseStale m)) = stale_with m
+numbers_of (Err answers.LeaseExpired) = refusal 25

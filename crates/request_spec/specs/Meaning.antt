@@ -1,13 +1,12 @@
 -- The decision on a descriptor, in the code's own answers. A reader of the promises does not need this page. Nothing here knows of bytes.
-use Rattle.std.specs.Prelude.{true, List, [], ◌∷◌, ℕ, ◌+◌}
+use Rattle.std.specs.Prelude.{true, List, [], ◌∷◌, ℕ, ◌+◌, None}
 use Rattle.resource_spec.specs.Pattern.{Path}
 use Rattle.resource_spec.specs.Text.{path_of}
 use Rattle.descriptor_spec.specs.Model.{Grant, Descriptor}
 use Rattle.descriptor_spec.specs.View.{mask_of}
 use Rattle.steps.specs.Order.{in_order}
-use Rattle.request_spec.specs.declared.Decision.{Decision}
-use Rattle.request_spec.specs.declared.Matched.{Matched}
-use Rattle.request_spec.specs.declared.Matched.TheVariants.{Nothing}
+use Rattle.request_spec.specs.Decision.{Decision}
+use Rattle.request_spec.specs.Decision.{Matched}
 use Rattle.request_spec.specs.Request.{Request, lease_for}
 use Rattle.request_spec.specs.Decision.{Facts, picked_with, steps_by, granted_by}
 use Rattle.request_spec.specs.Promises.{grant_serves, grant_names}
@@ -31,5 +30,5 @@ facts_of_descriptor d = record {
 unfoldable pub decided_for : Request → Descriptor → Decision
 decided_for q d =
     let x = facts_of_descriptor d in
-    let m = pick_serving d.payload.grants q.mode (path_of q.resource) 0 Nothing in
+    let m = pick_serving d.payload.grants q.mode (path_of q.resource) 0 None in
     in_order (steps_by q true true x m) (granted_by q (lease_for q) x m)

@@ -1,6 +1,6 @@
 -- What is promised of requests, and nothing else. Each statement `NameOfIt` is proved in proofs/Promises.antt as `name_of_it`.
-use Rattle.std.specs.Prelude.{◌≡◌, ◌↔◌, ◌⊎◌, Bool, true, false, not, cond, ◌&&◌, ◌||◌, List, [], ◌∷◌, ◌++◌, ℕ, ◌+◌, ◌/◌, ◌%◌, ◌*◌, ◌^◌, ◌≤◌, ◌<◌, min, max, length, take, drop, get_or, ℤ, pos, ◌-ℤ◌, ◌≤ℤ◌, ◌<ℤ◌, leb, ltb, eqb}
-use Rattle.std.proofs.Math.Option.{Option, none, some}
+use Rattle.std.specs.Prelude.{◌≡◌, ◌↔◌, ◌⊎◌, Bool, true, false, not, cond, ◌&&◌, ◌||◌, Option, None, Some, List, [], ◌∷◌, ◌++◌, ℕ, ◌+◌, ◌/◌, ◌%◌, ◌*◌, ◌^◌, ◌≤◌, ◌<◌, min, max, length, take, drop, get_or, ℤ, pos, ◌-ℤ◌, ◌≤ℤ◌, ◌<ℤ◌, leb, ltb, eqb}
+use Rattle.std.specs.Option.{option_map_or}
 use Rattle.octets.specs.Bytes.{AreBytes, same}
 use Rattle.octets.specs.Number.{number_at}
 use Rattle.resource_spec.specs.Identifier.{is_fay, is_terminal}
@@ -121,7 +121,7 @@ some_serves (g ∷ gs) m x = grant_serves g m x || some_serves gs m x
 
 -- the key is valid: not before valid_from and, where there is a valid_until, not after it
 abbrev pub key_valid : Window → ℕ → Bool
-key_valid window clock = leb window.from.0 clock && (not window.bounded || leb clock window.until.0)
+key_valid window clock = leb window.from.0 clock && option_map_or (λ until. leb clock until.0) window.until true
 
 -- the steps up to the signature where the descriptor d is held under the id, by whether the arguments are well formed, and whether a
 -- grant is found in step 13
@@ -152,13 +152,13 @@ lease_for q = lease_under (rows_of q.leases) q.id
 
 -- a test of the lease; an id without a lease passes
 abbrev pub where_leased : Option Lease → (Lease → Bool) → Bool
-where_leased none test = true
-where_leased (some l) test = test l
+where_leased None test = true
+where_leased (Some l) test = test l
 
 -- the margin L + T + E − N of the lease at the clock N; 0 without a lease
 abbrev pub margin_at : Option Lease → ℕ → ℤ
-margin_at none n = pos 0
-margin_at (some l) n = pos (active_end l) -ℤ pos n
+margin_at None n = pos 0
+margin_at (Some l) n = pos (active_end l) -ℤ pos n
 
 -- the lease's steps at the clock N: 26 where it is revoked, 23 where N < L − D, 24 where L + T + E < N ≤ L + T + G + E, 25 where
 -- N > L + T + G + E
@@ -330,13 +330,13 @@ UpgradeDecides = (old d : List ℕ) (q : Request) (rs : List Row) → image.Hold
 
 -- the place of the first grant that serves, counted from i, or none
 abbrev pub first_serving : List Grant → ℕ → Path → ℕ → Option ℕ
-first_serving [] m x i = none
-first_serving (g ∷ gs) m x i = cond (grant_serves g m x) (some i) (first_serving gs m x (i + 1))
+first_serving [] m x i = None
+first_serving (g ∷ gs) m x i = cond (grant_serves g m x) (Some i) (first_serving gs m x (i + 1))
 
 -- there is one
 abbrev pub is_there : Option ℕ → Bool
-is_there none = false
-is_there (some i) = true
+is_there None = false
+is_there (Some i) = true
 
 -- the answer under that rule
 abbrev pub answer_before : Request → Stored → ℕ
@@ -394,19 +394,19 @@ StaysRevoked = (s : List ℕ) (q : Request) (later : Milliseconds) → AreBytes 
 -- seconds, and margin 0; where the clock is not above 2^53 and the bytes of the lease table are one
 abbrev pub WithoutLease : Type 0
 WithoutLease = (s : List ℕ) (q : Request) (x : Stored) → Under s q.id x → q.clock.0 ≤ 2 ^ 53 → table_ok q.leases ≡ true
-    → lease_for q ≡ none → numbers_of (decision_of s q) ≡ in_order (steps_with (formed_before q) q x) (granted_with (pos 0) q x)
+    → lease_for q ≡ None → numbers_of (decision_of s q) ≡ in_order (steps_with (formed_before q) q x) (granted_with (pos 0) q x)
 
 -- the margin of a grant: 0 without a lease; with a lease L + T + E − N, which is not below zero
 abbrev pub GrantMargin : Type 0
 GrantMargin = (s : List ℕ) (q : Request) → AreBytes s → (numbers_of (decision_of s q)).answer ≡ 0
-    → (lease_for q ≡ none → (numbers_of (decision_of s q)).margin ≡ pos 0)
-    × ((l : Lease) → lease_for q ≡ some l
+    → (lease_for q ≡ None → (numbers_of (decision_of s q)).margin ≡ pos 0)
+    × ((l : Lease) → lease_for q ≡ Some l
     → ((numbers_of (decision_of s q)).margin ≡ pos (active_end l) -ℤ pos q.clock.0) × (pos 0 ≤ℤ (numbers_of (decision_of s q)).margin))
 
 -- the answer 24 has the margin of the lease, which is below zero, and its other numbers are 0
 abbrev pub StaleMargin : Type 0
 StaleMargin = (s : List ℕ) (q : Request) → AreBytes s → (numbers_of (decision_of s q)).answer ≡ 24
-    → (l : Lease) × (lease_for q ≡ some l) × (numbers_of (decision_of s q) ≡ stale_with (pos (active_end l) -ℤ pos q.clock.0))
+    → (l : Lease) × (lease_for q ≡ Some l) × (numbers_of (decision_of s q) ≡ stale_with (pos (active_end l) -ℤ pos q.clock.0))
     × ((numbers_of (decision_of s q)).margin <ℤ pos 0)
 
 -- the same request with another lease table

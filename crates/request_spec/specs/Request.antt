@@ -1,6 +1,5 @@
 -- A request's arguments, and which are well formed. Document 01, "A request, in this order", as document 02 §2 and §4 amend it.
-use Rattle.std.specs.Prelude.{Bool, ◌&&◌, List, ℕ, ◌%◌, length, leb, eqb}
-use Rattle.std.proofs.Math.Option.{Option}
+use Rattle.std.specs.Prelude.{Bool, ◌&&◌, Option, List, ℕ, ◌%◌, length, leb, eqb}
 use Rattle.resource_spec.specs.Identifier.{is_fay, is_terminal}
 use Rattle.resource_spec.specs.Text.{resource_ok}
 use Rattle.time.specs.declared.Seconds.{Seconds}

@@ -4,18 +4,20 @@
 
 use time::{Margin, Seconds};
 
-// What a request answers: granted, with the picked grant's place, its mask, the session's end and the lease's margin; or the refusal of
-// the first step that fails: 15 malformed arguments, 16 bad image, 7 id not held, 8 revoked, 9 not yet valid, 10 expired, 11 another
-// subject, 12 another terminal, 13 no grant serves, 14 the key is not valid, 4 bad signature; then of the lease 26 revoked, 23 future,
-// 24 stale, with its margin, and 25 expired.
+// What is granted: the picked grant's place and its mask, the session's end and the lease's margin.
 #[derive(Clone, Copy)]
-pub enum Decision {
-    Granted {
-        grant: u64,
-        mask: u64,
-        end: Seconds,
-        margin: Margin,
-    },
+pub struct Granted {
+    pub grant: u64,
+    pub mask: u64,
+    pub end: Seconds,
+    pub margin: Margin,
+}
+
+// Why a request is refused, by the first step that fails: 15 malformed arguments, 16 bad image, 7 id not held, 8 revoked, 9 not yet valid, 10
+// expired, 11 another subject, 12 another terminal, 13 no grant serves, 14 the key is not valid, 4 bad signature; then of the lease 26
+// revoked, 23 future, 24 stale, with its margin, and 25 expired.
+#[derive(Clone, Copy)]
+pub enum Refusal {
     Malformed,
     BadImage,
     NotFound,
@@ -45,9 +47,10 @@ pub struct DecisionNumbers {
     pub margin: i64,
 }
 
-// A grant's place, counted from 0, its mask, and how many levels of the resource it matches by equal names; or there is none.
+// A grant that is picked: its place, counted from 0, its mask, and how many levels of the resource it matches by equal names.
 #[derive(Clone, Copy)]
-pub enum Matched {
-    IsAt { grant: u64, mask: u64, names: u64 },
-    Nothing,
+pub struct Picked {
+    pub grant: u64,
+    pub mask: u64,
+    pub names: u64,
 }

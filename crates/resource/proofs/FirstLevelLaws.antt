@@ -1,7 +1,7 @@
 -- Laws of matching the first level of a pattern against the first level of a path (specs/Code.antt), and what it says of all levels
 -- (specs/Text.antt of `resource_spec`). Assumes nothing.
 use mathlib.Core.Path.{◌≡◌, refl, sym, ap, ap₂, subst, ◌∙◌}
-use mathlib.Core.Bool.{Bool, true, false, cond, ◌&&◌, ◌||◌, and-true, and-false}
+use mathlib.Core.Bool.{Bool, true, false, cond, ◌&&◌, ◌||◌, and-true, and-false, or-false}
 use mathlib.Core.List.{List, [], ◌∷◌, ◌++◌, append-nil}
 use Prim.Native.Nat.{ℕ, suc, ◌+◌, ◌≤◌, ◌<◌}
 use native.Mathlib.Nat.{add-zero, zero-add}
@@ -11,16 +11,21 @@ use lib.ListN.{length, get_or, drop, length-append, drop_of_length-le}
 use lib.Seq.{drop-cons, drop-append-add}
 use lib.Dec.{eqb}
 use borrow.Author.Tests.{eq-eqb, ne_eqb}
+use Rattle.std.specs.Str.{bytes_eq}
+use Rattle.std.specs.List.{starts_with}
 use Rattle.resource.specs.declared.LevelStep.{LevelStep}
-use Rattle.resource.specs.declared.LevelStep.TheVariants.{Differ, Finish, Next}
+use Rattle.resource.specs.declared.LevelStep.TheVariants.{Finish, Next}
+use Rattle.std.proofs.Common.{Option, Some, None}
+use Rattle.std.specs.Option.{option_or}
 use Rattle.octets.specs.Bytes.{same}
 use Rattle.octets.specs.Scan.{bytes_before, without}
 use Rattle.resource_spec.specs.Level.{is_star, is_deep, levels}
 use Rattle.resource_spec.specs.Pattern.{Levels, done, deep, matches, equal_names}
 use Rattle.resource_spec.specs.Text.{with_level, levels_of, levels_match, levels_named}
-use Rattle.resource.specs.Code.{level_length, name_step, star_first, star_step, or_step, step_of}
+use Rattle.resource.specs.Code.{level_length, name_step, star_first, star_step, step_of}
 use Rattle.resource.specs.Laws.{alike, Firsts, Counted, FirstLevels, Stepped, StepLevels, FirstStar, MatchesWith, NextSame}
 use Rattle.octets.proofs.Tests.{by_cond, no_flag}
+use Rattle.resource.proofs.FormCode.{eqb_comm}
 use Rattle.octets.proofs.SameLaws.{same_equal, not_same}
 use Rattle.octets.proofs.PartLaws.{part_to_end}
 use Rattle.octets.proofs.ScanLaws.{before_other, without_first, without_rest, without_drop}
@@ -36,12 +41,12 @@ module _ (i x y : ℕ) (xs ys : List ℕ) where
   name_equal e f = rw (e, f, name_step)
 
   -- "/" in both
-  name_both : eqb x y ≡ true → eqb x 47 ≡ true → name_step i (x ∷ xs) (y ∷ ys) ≡ Next i i 1
+  name_both : eqb x y ≡ true → eqb x 47 ≡ true → name_step i (x ∷ xs) (y ∷ ys) ≡ Some (Next i i 1)
   unfolding name_step
   name_both e f = rw (e, f, name_step)
 
   -- different bytes
-  name_other : eqb x y ≡ false → name_step i (x ∷ xs) (y ∷ ys) ≡ Differ
+  name_other : eqb x y ≡ false → name_step i (x ∷ xs) (y ∷ ys) ≡ None
   unfolding name_step
   name_other e = rw (e, name_step)
 
@@ -58,70 +63,60 @@ module _ (p r : List ℕ) (i : ℕ) where
 
   -- "/" at i in both
   pub name_slash : i < length p → i < length r → get_or p i 0 ≡ get_or r i 0 → get_or p i 0 ≡ 47
-      → name_step i (drop i p) (drop i r) ≡ Next i i 1
+      → name_step i (drop i p) (drop i r) ≡ Some (Next i i 1)
   name_slash h k e f =
       rw (drop-cons p i 0 h, drop-cons r i 0 k)
       (name_both i (get_or p i 0) (get_or r i 0) (drop (suc i) p) (drop (suc i) r) (eq-eqb (get_or p i 0) (get_or r i 0) e)
       (eq-eqb (get_or p i 0) 47 f))
 
   -- different bytes at i
-  pub name_differ : i < length p → i < length r → (get_or p i 0 ≡ get_or r i 0 → ⊥) → name_step i (drop i p) (drop i r) ≡ Differ
+  pub name_differ : i < length p → i < length r → (get_or p i 0 ≡ get_or r i 0 → ⊥) → name_step i (drop i p) (drop i r) ≡ None
   name_differ h k e =
       rw (drop-cons p i 0 h, drop-cons r i 0 k)
       (name_other i (get_or p i 0) (get_or r i 0) (drop (suc i) p) (drop (suc i) r) (ne_eqb (get_or p i 0) (get_or r i 0) e))
 
   -- the path ends at i, the pattern does not
-  pub name_short : i < length p → length r ≤ i → name_step i (drop i p) (drop i r) ≡ Differ
+  pub name_short : i < length p → length r ≤ i → name_step i (drop i p) (drop i r) ≡ None
   unfolding name_step
   name_short h k = rw (drop-cons p i 0 h, drop_of_length-le r k)
 
   -- the pattern ends at i, the path does not
-  pub name_long : length p ≤ i → i < length r → name_step i (drop i p) (drop i r) ≡ Differ
+  pub name_long : length p ≤ i → i < length r → name_step i (drop i p) (drop i r) ≡ None
   unfolding name_step
   name_long h k = rw (drop_of_length-le p h, drop-cons r i 0 k)
 
   -- both end at i
-  pub name_end : length p ≤ i → length r ≤ i → name_step i (drop i p) (drop i r) ≡ Finish 1
+  pub name_end : length p ≤ i → length r ≤ i → name_step i (drop i p) (drop i r) ≡ Some (Finish 1)
   unfolding name_step
   name_end h k = rw (drop_of_length-le p h, drop_of_length-le r k)
 
+-- the laws of the loop of `name_step`
+pub ruleset name_laws = (name_next, name_slash, name_differ, name_short, name_long, name_end)
+
 -- ---- the code's tests of a wildcard
 
--- an empty text
-pub star_none : (p : List ℕ) → length p ≡ 0 → star_first p ≡ false
-unfolding star_first
-star_none [] e = refl
-star_none (a ∷ p) e = absurd (omega arith)
-
--- a text of one byte
-pub star_one : (p : List ℕ) → length p ≡ 1 → star_first p ≡ eqb (get_or p 0 0) 42
-unfolding star_first
-star_one [] e = refl
-star_one (a ∷ []) e = refl
-star_one (a ∷ b ∷ p) e = absurd (omega arith)
-
--- a text of another length
-pub star_two : (p : List ℕ) → (length p ≡ 1 → ⊥) → star_first p ≡ (eqb (get_or p 0 0) 42 && eqb (get_or p 1 0) 47)
-unfolding star_first
-star_two [] e = refl
-star_two (a ∷ []) e = absurd (e refl)
-star_two (a ∷ b ∷ p) e = refl
-
--- a text that has not two bytes is not "**"
-pub deep_other : (p : List ℕ) → (length p ≡ 2 → ⊥) → is_deep p ≡ false
+-- the library's test whether two lists of bytes are the same
+pub bytes_same : (x y : List ℕ) → bytes_eq x y ≡ same x y
 unfolding same
-deep_other [] e = refl
-deep_other (a ∷ []) e = and-false (eqb a 42)
-deep_other (a ∷ b ∷ []) e = absurd (e refl)
-deep_other (a ∷ b ∷ c ∷ p) e = rw (and-false (eqb b 42)) (and-false (eqb a 42))
+bytes_same [] [] = refl
+bytes_same [] (y ∷ ys) = refl
+bytes_same (x ∷ xs) [] = refl
+bytes_same (x ∷ xs) (y ∷ ys) = ap (λ (t : Bool). eqb x y && t) (bytes_same xs ys)
 
--- a text of two bytes
-pub deep_two : (p : List ℕ) → length p ≡ 2 → is_deep p ≡ (eqb (get_or p 0 0) 42 && eqb (get_or p 1 0) 42)
-unfolding same
-deep_two [] e = refl
-deep_two (a ∷ []) e = absurd (omega arith)
-deep_two (a ∷ b ∷ []) e = rw (and-true (eqb b 42))
-deep_two (a ∷ b ∷ c ∷ p) e = absurd (omega arith)
+-- the first level is "*" where the text is "*" or begins with "*/"
+pub star_tests : (p : List ℕ) → (bytes_eq p (42 ∷ []) || starts_with eqb p (42 ∷ 47 ∷ [])) ≡ star_first p
+unfolding star_first
+star_tests [] = refl
+star_tests (a ∷ []) = simp (and-true, and-false, or-false)
+star_tests (a ∷ b ∷ s) = rw (eqb_comm a 42, eqb_comm b 47) (simp (and-true, and-false))
+
+-- the text is "*"
+pub star_whole : (p : List ℕ) → bytes_eq p (42 ∷ []) ≡ true → true ≡ star_first p
+star_whole p e = sym (ap (λ (t : Bool). t || starts_with eqb p (42 ∷ 47 ∷ [])) e) ∙ star_tests p
+
+-- it is another
+pub star_other : (p : List ℕ) → bytes_eq p (42 ∷ []) ≡ false → starts_with eqb p (42 ∷ 47 ∷ []) ≡ star_first p
+star_other p e = sym (ap (λ (t : Bool). t || starts_with eqb p (42 ∷ 47 ∷ [])) e) ∙ star_tests p
 
 -- ---- a first level and what follows it
 
@@ -145,11 +140,11 @@ tail_levels [] = []
 tail_levels (b ∷ t) = levels t
 
 -- the step where the first levels match and count names, by what follows them
-unfoldable pub tail_step : ℕ → ℕ → ℕ → List ℕ → List ℕ → LevelStep
-tail_step names i j [] [] = Finish names
-tail_step names i j [] (y ∷ b) = Differ
-tail_step names i j (x ∷ a) [] = Differ
-tail_step names i j (x ∷ a) (y ∷ b) = Next i j names
+unfoldable pub tail_step : ℕ → ℕ → ℕ → List ℕ → List ℕ → Option LevelStep
+tail_step names i j [] [] = Some (Finish names)
+tail_step names i j [] (y ∷ b) = None
+tail_step names i j (x ∷ a) [] = None
+tail_step names i j (x ∷ a) (y ∷ b) = Some (Next i j names)
 
 -- the levels of a text by its first one
 pub front_levels : (l : List ℕ) {a : List ℕ} → without 47 l ≡ true → Ends a → levels (l ++ a) ≡ l ∷ tail_levels a
@@ -189,20 +184,20 @@ slash_other : (y : ℕ) → eqb y 47 ≡ false → eqb 47 y ≡ false
 slash_other y e = ne_eqb 47 y (λ q. no_flag (sym e ∙ eq-eqb y 47 (sym q)))
 
 -- the pattern's level ends where the path's does not
-name_from_end : (i y : ℕ) (r : List ℕ) {a : List ℕ} → eqb y 47 ≡ false → Ends a → name_step i a (y ∷ r) ≡ Differ
+name_from_end : (i y : ℕ) (r : List ℕ) {a : List ℕ} → eqb y 47 ≡ false → Ends a → name_step i a (y ∷ r) ≡ None
 unfolding name_step
 name_from_end i y r e at_end = refl
 name_from_end i y r e (at_slash t) = name_other i 47 y t r (slash_other y e)
 
 -- the path's level ends where the pattern's does not
-name_to_end : (i x : ℕ) (p : List ℕ) {b : List ℕ} → eqb x 47 ≡ false → Ends b → name_step i (x ∷ p) b ≡ Differ
+name_to_end : (i x : ℕ) (p : List ℕ) {b : List ℕ} → eqb x 47 ≡ false → Ends b → name_step i (x ∷ p) b ≡ None
 unfolding name_step
 name_to_end i x p e at_end = refl
 name_to_end i x p e (at_slash u) = name_other i x 47 p u e
 
 -- the step of two names
 front_name : (i : ℕ) (l k : List ℕ) {a b : List ℕ} → without 47 l ≡ true → without 47 k ≡ true → Ends a → Ends b
-    → name_step i (l ++ a) (k ++ b) ≡ cond (same l k) (tail_step 1 (i + length l) (i + length l) a b) Differ
+    → name_step i (l ++ a) (k ++ b) ≡ cond (same l k) (tail_step 1 (i + length l) (i + length l) a b) None
 unfolding same
 front_name i [] [] h g e f = rw (add-zero i) (name_tail i e f)
 front_name i [] (y ∷ k) {a} {b} h g e f = name_from_end i y (k ++ b) (without_first 47 y k g) e
@@ -214,9 +209,9 @@ front_name i (x ∷ l) (y ∷ k) {a} {b} h g e f =
     sum = omega arith
 
     go : (t : Bool) → eqb x y ≡ t → name_step (i + 1) (l ++ a) (k ++ b)
-        ≡ cond (same l k) (tail_step 1 ((i + 1) + length l) ((i + 1) + length l) a b) Differ
+        ≡ cond (same l k) (tail_step 1 ((i + 1) + length l) ((i + 1) + length l) a b) None
         → name_step i (x ∷ (l ++ a)) (y ∷ (k ++ b))
-        ≡ cond (eqb x y && same l k) (tail_step 1 (i + suc (length l)) (i + suc (length l)) a b) Differ
+        ≡ cond (eqb x y && same l k) (tail_step 1 (i + suc (length l)) (i + suc (length l)) a b) None
     go true q r = name_equal i x y (l ++ a) (k ++ b) q (without_first 47 x l h) ∙ r ∙ sym (rw (q, sum))
     go false q r = name_other i x y (l ++ a) (k ++ b) q ∙ sym (rw q)
 
@@ -236,19 +231,19 @@ star_tail k (at_slash t) (at_slash u) =
 
 -- names that are the same have the same length
 same_lengths : (l k a b : List ℕ) (t : Bool) → same l k ≡ t
-    → cond t (tail_step 1 (0 + length l) (0 + length l) a b) Differ ≡ cond t (tail_step 1 (length l) (length k) a b) Differ
+    → cond t (tail_step 1 (0 + length l) (0 + length l) a b) None ≡ cond t (tail_step 1 (length l) (length k) a b) None
 same_lengths l k a b true e = rw (zero-add (length l)) (ap (λ (n : ℕ). tail_step 1 (length l) n a b) (ap length (same_equal l k e)))
 same_lengths l k a b false e = refl
 
 -- the step of "*", or of a level that does not match, and a level
 star_or_differ : (l k : List ℕ) {a b : List ℕ} → Ends a → Ends b → (t : Bool) → is_star l ≡ t
-    → cond t (star_step (l ++ a) (k ++ b) (length k)) Differ ≡ cond t (tail_step 0 (length l) (length k) a b) Differ
+    → cond t (star_step (l ++ a) (k ++ b) (length k)) None ≡ cond t (tail_step 0 (length l) (length k) a b) None
 star_or_differ l k e f true q = rw (same_equal l (42 ∷ []) q) (star_tail k e f)
 star_or_differ l k e f false q = refl
 
 -- where one text has levels after the first and the other has not, they differ in either case
 or_tail : (i j m n : ℕ) {a b : List ℕ} → Ends a → Ends b → (t : Bool)
-    → or_step (tail_step 1 i j a b) (cond t (tail_step 0 m n a b) Differ) ≡ tail_step 1 i j a b
+    → option_or (tail_step 1 i j a b) (cond t (tail_step 0 m n a b) None) ≡ tail_step 1 i j a b
 unfolding tail_step
 or_tail i j m n at_end at_end t = refl
 or_tail i j m n at_end (at_slash u) true = refl
@@ -259,16 +254,16 @@ or_tail i j m n (at_slash s) (at_slash u) t = refl
 
 -- the step of two first levels: a name and itself, or "*"
 pub front_step : (l k : List ℕ) {a b : List ℕ} → without 47 l ≡ true → without 47 k ≡ true → Ends a → Ends b
-    → step_of (l ++ a) (k ++ b) ≡ cond (is_star l || same l k) (tail_step (cond (same l k) 1 0) (length l) (length k) a b) Differ
+    → step_of (l ++ a) (k ++ b) ≡ cond (is_star l || same l k) (tail_step (cond (same l k) 1 0) (length l) (length k) a b) None
 unfolding step_of
 front_step l k {a} {b} h g e f =
     rw (front_star l h e, front_length k g f)
-    (ap₂ or_step (front_name 0 l k h g e f ∙ same_lengths l k a b (same l k) refl) (star_or_differ l k e f (is_star l) refl)
+    (ap₂ option_or (front_name 0 l k h g e f ∙ same_lengths l k a b (same l k) refl) (star_or_differ l k e f (is_star l) refl)
     ∙ go (is_star l) (same l k))
   where
     go : (t u : Bool)
-        → or_step (cond u (tail_step 1 (length l) (length k) a b) Differ) (cond t (tail_step 0 (length l) (length k) a b) Differ)
-        ≡ cond (t || u) (tail_step (cond u 1 0) (length l) (length k) a b) Differ
+        → option_or (cond u (tail_step 1 (length l) (length k) a b) None) (cond t (tail_step 0 (length l) (length k) a b) None)
+        ≡ cond (t || u) (tail_step (cond u 1 0) (length l) (length k) a b) None
     go true true = or_tail (length l) (length k) (length l) (length k) e f true
     go true false = refl
     go false true = or_tail (length l) (length k) (length l) (length k) e f false
@@ -390,7 +385,7 @@ first_names p r ls ks t f n d h c =
     ∙ ap (λ (m : ℕ). m + equal_names (levels_of ls) ks) c)
 
 -- one level counts one at most
-one_name : (t : Bool) (n : ℕ) → cond t 1 0 ≡ n → n ≤ 1
+pub one_name : (t : Bool) (n : ℕ) → cond t 1 0 ≡ n → n ≤ 1
 one_name true n e = omega (arith, e)
 one_name false n e = omega (arith, e)
 
@@ -404,15 +399,15 @@ other_match true (l ∷ ls) [] e = none_left l ls
 other_match true (l ∷ ls) (k ∷ ks) e = no_flag (sym e)
 
 -- what is told of a pattern that is not "**" and a path without "*" by the step of their first levels
-match_says : (p r : List ℕ) (x : LevelStep) → FirstLevels p r x → is_deep p ≡ false → without 42 r ≡ true → Stepped p r x
+match_says : (p r : List ℕ) (x : Option LevelStep) → FirstLevels p r x → is_deep p ≡ false → without 42 r ≡ true → Stepped p r x
 unfolding levels_of levels_match levels_named
-match_says p r Differ f d h = first_match p r f.0 f.1 f.2 f.3 d ∙ other_match f.2 f.0 f.1 f.4
-match_says p r (Finish n) f d h =
+match_says p r None f d h = first_match p r f.0 f.1 f.2 f.3 d ∙ other_match f.2 f.0 f.1 f.4
+match_says p r (Some (Finish n)) f d h =
     let counted : levels_named p r ≡ n + 0 = first_names p r [] [] true f.0 n d h f.1 in (
       record { match = first_match p r [] [] true f.0 d; named = counted ∙ add-zero n },
       one_name (same f.0.first_p f.0.first_r) n f.1,
     )
-match_says p r (Next i j n) f d h =
+match_says p r (Some (Next i j n)) f d h =
     record {
       in_p = f.0;
       in_r = f.1;

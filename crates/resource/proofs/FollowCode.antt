@@ -3,49 +3,37 @@
 use mathlib.Core.Path.{◌≡◌, refl, sym, ap, subst, ◌∙◌}
 use mathlib.Core.Bool.{Bool, true, false, cond, not, ◌&&◌, ◌||◌, and_assoc, and-true, and-false, or-false}
 use mathlib.Core.List.{List, [], ◌∷◌, ◌++◌}
-use Prim.Native.Nat.{ℕ, suc, ◌+◌, ◌-◌, ◌≤◌, ◌<◌}
+use Prim.Native.Nat.{ℕ, ◌+◌, ◌-◌, ◌≤◌, ◌<◌}
 use native.Mathlib.Numerals.{add-one}
 use native.Mathlib.Omega.{arith}
 use lib.ListN.{length, get_or, take, drop, length-append, drop_of_length-le}
-use lib.Seq.{drop-cons, get_or-take, length-take-le, take-length, take-append-add}
-use lib.Dec.{leb, eqb}
-use borrow.Author.Tests.{le-leb, lt-leb, eqb-true, eqb-false, leb-true, leb-false}
+use lib.Seq.{drop-cons, take-append-add}
+use lib.Dec.{eqb}
+use borrow.Author.Tests.{eqb-true}
+use Rattle.std.specs.List.{ends_with}
+use Rattle.std.proofs.lemmas.Slice.Eq.{ends_is}
+use Rattle.std.proofs.lemmas.Bool.Decides.{Decides-eqb, nat_tests}
 use Rattle.octets.specs.Bytes.{same}
 use Rattle.octets.specs.Scan.{without}
-use Rattle.octets.proofs.Tests.{or_assoc, or_true, or_elim, or_no_left, or_no_right, no_flag}
-use Rattle.octets.proofs.SameLaws.{same_equal, same_long}
+use Rattle.octets.proofs.Tests.{or_true, or_elim, or_no_left, or_no_right, no_flag}
+use Rattle.octets.proofs.SameLaws.{same_equal}
+use Rattle.resource_spec.specs.Identifier.{between}
 use Rattle.resource_spec.specs.Level.{is_name_char, all_name_chars, is_name, is_star, is_deep, prefixed, levels, levels_ok}
 use Rattle.resource_spec.proofs.Laws.{levels_one}
 use Rattle.resource.specs.Code.{is_level_char, may_follow, follows_from, ends_deep}
 
--- ---- the characters of a name and "/", by the code's tests
+-- two tests of which each holds where the other does are the same
+pub both_hold : (a b : Bool) → (a ≡ true → b ≡ true) → (b ≡ true → a ≡ true) → a ≡ b
+both_hold true b f g = sym (f refl)
+both_hold false true f g = g refl
+both_hold false false f g = refl
 
--- four tests, the first two exchanged
-or_swap : (a b c d : Bool) → (((a || b) || c) || d) ≡ (b || (a || (c || d)))
-or_swap true b c d = sym (or_true b)
-or_swap false b c d = sym (or_assoc b c d)
+-- ---- the characters of a name and "/"
 
--- from "0" on is from "-" on, without "-", "." and "/"
-from_digits : (b : ℕ) → (b ≡ 45 → ⊥) → (b ≡ 46 → ⊥) → (b ≡ 47 → ⊥) → leb 45 b ≡ leb 48 b
-from_digits b e f g = go (leb 48 b) refl
-  where
-    go : (t : Bool) → leb 48 b ≡ t → leb 45 b ≡ t
-    go true h = le-leb 45 b (omega (arith, leb-true 48 b h))
-    go false h = lt-leb 45 b (omega (arith, leb-false 48 b h))
-
--- the code's tests of a byte
-pub level_char : (b : ℕ) → ((((leb 45 b && leb b 57) || (leb 97 b && leb b 122)) || (leb 65 b && leb b 90)) || eqb b 95) ≡ is_level_char b
+-- those from "-" to "9" are "-", ".", "/" and the digits
+pub level_char : (b : ℕ) → (((between 45 57 b || between 97 122 b) || between 65 90 b) || eqb b 95) ≡ is_level_char b
 unfolding is_level_char is_name_char
-level_char b = go (eqb b 45) (eqb b 46) (eqb b 47) refl refl refl
-  where
-    go : (t u v : Bool) → eqb b 45 ≡ t → eqb b 46 ≡ u → eqb b 47 ≡ v
-        → ((((leb 45 b && leb b 57) || (leb 97 b && leb b 122)) || (leb 65 b && leb b 90)) || eqb b 95) ≡ is_level_char b
-    go true u v e f g = rw (eqb-true b 45 e)
-    go false true v e f g = rw (eqb-true b 46 f)
-    go false false true e f g = rw (eqb-true b 47 g)
-    go false false false e f g =
-        rw (from_digits b (eqb-false b 45 e) (eqb-false b 46 f) (eqb-false b 47 g))
-        (or_swap (leb 48 b && leb b 57) (leb 97 b && leb b 122) (leb 65 b && leb b 90) (eqb b 95) ∙ sym (simp (e, f, g, or-false)))
+level_char b = grind (arith, nat_tests)
 
 -- ---- what is left of a level, after a byte
 
@@ -269,10 +257,10 @@ ok_deep true s e =
 ok_deep false s e = no_flag e
 
 -- those of another text, or where no wildcard may stand, exactly where its bytes may stand after one another
-pub ok_flat : (wild : Bool) (s : List ℕ) → (wild && ends_deep s) ≡ false → levels_ok wild (levels s) ≡ follows_from wild 47 (take (length s) s)
+pub ok_flat : (wild : Bool) (s : List ℕ) → (wild && ends_deep s) ≡ false → levels_ok wild (levels s) ≡ follows_from wild 47 s
 ok_flat wild s e =
     let k = leveled s in
-    rw (take-length s, follows_each wild s, levels_are k.2) (each_ok_lem wild k.0 k.1 (go wild k.2 e))
+    rw (follows_each wild s, levels_are k.2) (each_ok_lem wild k.0 k.1 (go wild k.2 e))
   where
     go : (w : Bool) {l : List ℕ} {ls : List (List ℕ)} → Leveled s l ls → (w && ends_deep s) ≡ false → (w && last_deep l ls) ≡ false
     go true k f = not_deep k f
@@ -284,55 +272,56 @@ unfolding ends_deep follows_from
 ok_none wild [] e = ok_flat wild [] (and-false wild)
 ok_none wild (b ∷ s) e = absurd (omega arith)
 
--- ---- the code's tests
+-- what `all` stands on
+pub ruleset ok_laws = (ok_none, ok_deep, ok_flat, ends_long)
 
--- a text of less than two bytes does not end with "**"
-pub ends_short : (s : List ℕ) → length s < 2 → ends_deep s ≡ false
-ends_short s h = go (ends_deep s) refl
-  where
-    go : (t : Bool) → ends_deep s ≡ t → t ≡ false
-    go true e = absurd (omega (arith, ends_long s e))
-    go false e = refl
+-- ---- the code's test
 
--- of another the last two bytes decide
-pub ends_two : (s : List ℕ) → 2 ≤ length s
-    → (eqb (get_or s (length s - 2) 0) 42 && eqb (get_or s (length s - 1) 0) 42) ≡ ends_deep s
+-- a text ends with "**" after any other
+deep_after : (t : List ℕ) → ends_deep (t ++ two_stars) ≡ true
 unfolding ends_deep same
-ends_two [] h = absurd (omega arith)
-ends_two (a ∷ []) h = absurd (omega arith)
-ends_two (a ∷ b ∷ []) h = simp (and-true, and-false, or-false)
-ends_two (a ∷ b ∷ c ∷ s) h =
-    let m : suc (suc (suc (length s))) - 2 ≡ suc (suc (suc (length s)) - 2) = omega arith in
-    let n : suc (suc (suc (length s))) - 1 ≡ suc (suc (suc (length s)) - 1) = omega arith in
-    rw (m, n, same_long (a ∷ b ∷ c ∷ s) two_stars (λ q. omega arith)) (ends_two (b ∷ c ∷ s) (omega arith))
+deep_after [] = refl
+deep_after (b ∷ t) = rw (deep_after t) (or_true (is_deep (b ∷ t ++ two_stars)))
 
--- ---- the first n bytes, as a loop takes them
+-- the library's test of the last two bytes
+pub ends_test : (s : List ℕ) → ends_with eqb s (42 ∷ 42 ∷ []) ≡ ends_deep s
+ends_test s =
+    both_hold _ _ (λ e. rw (tells.0 e) (deep_after (take (length s - 2) s))) (λ e. let r = deep_parted s e in tells.1 r.0 r.1)
+  where
+    tells : (ends_with eqb s two_stars ≡ true → s ≡ take (length s - 2) s ++ two_stars)
+        × ((front : List ℕ) → s ≡ front ++ two_stars → ends_with eqb s two_stars ≡ true)
+    tells = ends_is Decides-eqb s two_stars (ends_with eqb s two_stars) refl
+
+-- ---- the bytes, as a loop takes them
 
 -- they are well-formed levels exactly where `ok`, and the bytes from i on may stand after the one before them
-abbrev pub Left : Bool → List ℕ → ℕ → Bool → ℕ → Type 0
-Left wild s n ok i = follows_from wild 47 (take n s) ≡ (ok && follows_from wild (get_or s (i - 1) 0) (drop i (take n s)))
+abbrev pub Left : Bool → List ℕ → Bool → ℕ → Type 0
+Left wild s ok i = follows_from wild 47 s ≡ (ok && follows_from wild (get_or s (i - 1) 0) (drop i s))
 
-module _ (wild : Bool) (s : List ℕ) (n : ℕ) (h : n ≤ length s) where
+module _ (wild : Bool) (s : List ℕ) where
   -- the byte at i, and those after it
-  follow_byte : (a i : ℕ) → i < n
-      → follows_from wild a (drop i (take n s)) ≡ (may_follow wild a (get_or s i 0) && follows_from wild (get_or s i 0) (drop (i + 1) (take n s)))
+  follow_byte : (a i : ℕ) → i < length s
+      → follows_from wild a (drop i s) ≡ (may_follow wild a (get_or s i 0) && follows_from wild (get_or s i 0) (drop (i + 1) s))
   unfolding follows_from
-  follow_byte a i k = rw (drop-cons (take n s) i 0 (omega (arith, length-take-le n s h)), get_or-take n s i 0 k, add-one i)
+  follow_byte a i k = rw (drop-cons s i 0 k, add-one i)
 
   -- the first byte
-  pub left_first : 0 < n → Left wild s n (may_follow wild 47 (get_or s 0 0)) 1
+  pub left_first : 0 < length s → Left wild s (may_follow wild 47 (get_or s 0 0)) 1
   left_first k = follow_byte 47 0 k
 
   -- the next one
-  pub left_next : (ok : Bool) (i : ℕ) → i < n → Left wild s n ok i
-      → Left wild s n (ok && may_follow wild (get_or s (i - 1) 0) (get_or s i 0)) (i + 1)
+  pub left_next : (ok : Bool) (i : ℕ) → i < length s → Left wild s ok i
+      → Left wild s (ok && may_follow wild (get_or s (i - 1) 0) (get_or s i 0)) (i + 1)
   left_next ok i k e =
       let here : i + 1 - 1 ≡ i = omega arith in
       e ∙ rw (here, follow_byte (get_or s (i - 1) 0) i k)
-      (sym (and_assoc ok (may_follow wild (get_or s (i - 1) 0) (get_or s i 0)) (follows_from wild (get_or s i 0) (drop (i + 1) (take n s)))))
+      (sym (and_assoc ok (may_follow wild (get_or s (i - 1) 0) (get_or s i 0)) (follows_from wild (get_or s i 0) (drop (i + 1) s))))
 
   -- no more
-  pub left_none : (ok : Bool) (i : ℕ) → i ≡ n → Left wild s n ok i
-      → (ok && not (eqb (get_or s (n - 1) 0) 47)) ≡ follows_from wild 47 (take n s)
+  pub left_none : (ok : Bool) (i : ℕ) → i ≡ length s → Left wild s ok i
+      → (ok && not (eqb (get_or s (length s - 1) 0) 47)) ≡ follows_from wild 47 s
   unfolding follows_from
-  left_none ok i k e = sym (e ∙ rw (k, drop_of_length-le (take n s) {i = n} (omega (arith, length-take-le n s h))))
+  left_none ok i k e = sym (e ∙ rw (k, drop_of_length-le s {i = length s} (omega arith)))
+
+-- the laws of the loop of `follow`
+pub ruleset left_laws = (left_first, left_next, left_none)

@@ -3,5 +3,5 @@ pub mod FollowCode
 pub mod TextCode
 pub mod FirstLevelLaws
 pub mod NameFirstCode
-pub mod UpToCode
+pub mod LevelsCode
 pub mod Laws

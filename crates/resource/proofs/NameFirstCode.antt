@@ -10,33 +10,14 @@ use Rattle.octets.specs.Scan.{without}
 use Rattle.octets.proofs.SameLaws.{same_equal}
 use Rattle.octets.proofs.Tests.{no_flag}
 use Rattle.resource.specs.declared.LevelStep.{LevelStep}
-use Rattle.resource.specs.declared.LevelStep.TheVariants.{Differ, Finish, Next}
+use Rattle.resource.specs.declared.LevelStep.TheVariants.{Finish, Next}
+use Rattle.std.proofs.Common.{Option, Some, None}
+use Rattle.std.specs.Option.{option_or}
 use Rattle.resource_spec.specs.Level.{is_deep, levels}
 use Rattle.resource_spec.proofs.Laws.{first_without}
-use Rattle.resource.specs.Code.{or_step, step_of, match_step}
+use Rattle.resource.specs.Code.{step_of, match_step}
 use Rattle.resource.specs.Laws.{Firsts, FirstLevels, Stepped, StepDecides}
 use Rattle.resource.proofs.FirstLevelLaws.{starless_other, first_levels, step_tells, deep_tells}
-
--- the levels match
-abbrev Fits : LevelStep → Type 0
-Fits Differ = ⊥
-Fits (Finish names) = Unit {0}
-Fits (Next i j names) = Unit {0}
-
--- ---- a step, or another one where the first levels differ
-
--- a step that fits is taken
-pub step_taken : {o x : LevelStep} (other : LevelStep) → o ≡ x → Fits o → o ≡ or_step x other
-step_taken {o} {x} other e f = go o e f
-  where
-    go : (o : LevelStep) → o ≡ x → Fits o → o ≡ or_step x other
-    go Differ e f = absurd f
-    go (Finish names) e f = ap (λ (y : LevelStep). or_step y other) e
-    go (Next i j names) e f = ap (λ (y : LevelStep). or_step y other) e
-
--- where the levels differ, the other is
-pub other_taken : {o x other : LevelStep} → Differ ≡ x → o ≡ other → o ≡ or_step x other
-other_taken {other = other} e f = f ∙ ap (λ (y : LevelStep). or_step y other) e
 
 -- ---- "**"
 
@@ -55,22 +36,21 @@ deep_unlike p r ls ks f d h =
     no_flag (sym other ∙ (rw first at f.fit))
 
 -- so the step from "**" says that they differ
-deep_differs : (p r : List ℕ) (o : LevelStep) → FirstLevels p r o → is_deep p ≡ true → without 42 r ≡ true → o ≡ Differ
-deep_differs p r Differ f d h = refl
-deep_differs p r (Finish names) f d h = absurd (deep_unlike p r [] [] f.0 d h)
-deep_differs p r (Next i j names) f d h = absurd (deep_unlike p r _ _ f.2 d h)
+deep_differs : (p r : List ℕ) (o : Option LevelStep) → FirstLevels p r o → is_deep p ≡ true → without 42 r ≡ true → o ≡ None
+deep_differs p r None f d h = refl
+deep_differs p r (Some (Finish names)) f d h = absurd (deep_unlike p r [] [] f.0 d h)
+deep_differs p r (Some (Next i j names)) f d h = absurd (deep_unlike p r _ _ f.2 d h)
 
 -- a step, or that they differ
-or_differ : (o : LevelStep) → or_step o Differ ≡ o
-or_differ Differ = refl
-or_differ (Finish names) = refl
-or_differ (Next i j names) = refl
+or_differ : (o : Option LevelStep) → option_or o None ≡ o
+or_differ None = refl
+or_differ (Some step) = refl
 
 -- `StepDecides`
 pub match_step_tells : StepDecides
 unfolding match_step
 match_step_tells p r h = go (is_deep p) refl
   where
-    go : (t : Bool) → is_deep p ≡ t → Stepped p r (or_step (step_of p r) (cond t (Finish 0) Differ))
+    go : (t : Bool) → is_deep p ≡ t → Stepped p r (option_or (step_of p r) (cond t (Some (Finish 0)) None))
     go true d = rw (deep_differs p r (step_of p r) (first_levels p r) d h) (deep_tells p r d, omega arith)
     go false d = rw (or_differ (step_of p r)) (step_tells p r d h)

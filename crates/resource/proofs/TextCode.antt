@@ -15,7 +15,7 @@ use Rattle.octets.proofs.PartLaws.{part_to_end}
 use Rattle.octets.proofs.SameLaws.{same_equal, start_answer}
 use Rattle.octets.proofs.Tests.{and_left, and_right}
 use Rattle.resource_spec.specs.Identifier.{Slot, is_terminal, uuid_form, terminal_form, levels_place, terminal_size}
-use Rattle.resource_spec.specs.declared.Matching.TheVariants.{No, Malformed}
+use Rattle.std.proofs.Common.{None, Ok, Err}
 use Rattle.resource_spec.specs.Level.{levels, levels_ok}
 use Rattle.resource_spec.specs.Text.{longest_text, well_formed, is_resource, is_pattern, resource_ok, pattern_ok, levels_match, levels_named}
 use Rattle.resource_spec.specs.Text.{yes_with, matching}
@@ -25,6 +25,7 @@ use Rattle.resource_spec.proofs.Laws.{terminal_length, resource_starless}
 use Rattle.resource.specs.Code.{form_at, below_ok, same_terminal, pattern_under, answer_of}
 use Rattle.resource.specs.Laws.{PatternUnder}
 use Rattle.resource.proofs.FormCode.{terminal_form_lem}
+use Rattle.resource.proofs.FollowCode.{both_hold}
 
 -- ---- forms
 
@@ -65,12 +66,6 @@ below_says wild s e =
 below_known : (wild : Bool) (s : List ℕ) → Below wild s → below_ok wild s ≡ true
 unfolding below_ok
 below_known wild s b = rw (b.short, le-leb levels_place (length s) b.long, eq-eqb (get_or s terminal_size 0) 47 b.slash, b.fine)
-
--- two tests of which each holds where the other does are the same
-both_hold : (a b : Bool) → (a ≡ true → b ≡ true) → (b ≡ true → a ≡ true) → a ≡ b
-both_hold true b f g = sym (f refl)
-both_hold false true f g = g refl
-both_hold false false f g = refl
 
 -- a text that may enter is such a text whose first 45 bytes are a terminal id
 pub text_below : (wild : Bool) (s : List ℕ)
@@ -113,6 +108,9 @@ module _ (wild : Bool) (s : List ℕ) where
   pub text_form : below_ok wild s ≡ true → form_at terminal_form s 0 ≡ (leb (length s) longest_text && well_formed wild (levels s))
   text_form e = sym (text_below wild s ∙ rw e (form_terminal s (below_says wild s e).long))
 
+-- what `text` stands on
+pub ruleset text_laws = (below_says, text_not, text_form)
+
 -- where such a text begins with a terminal id, whether it may enter is decided without it
 pub below_resource : (s : List ℕ) → is_terminal (take terminal_size s) ≡ true → resource_ok s ≡ below_ok false s
 unfolding resource_ok is_resource
@@ -144,60 +142,73 @@ under_pattern t s e = go (same (take terminal_size s) t) refl
 -- ---- matching two texts
 
 -- yes with the number of names, where terminal ids and levels match
-counted_below : (t u : Bool) (n : ℕ) → yes_with (t && u) (cond (t && u) n 0) ≡ cond t (yes_with u n) No
+counted_below : (t u : Bool) (n : ℕ) → yes_with (t && u) (cond (t && u) n 0) ≡ cond t (yes_with u n) None
 counted_below true true n = refl
 counted_below true false n = refl
 counted_below false u n = refl
 
 module _ (p r : List ℕ) where
   -- a text that is no pattern is malformed
-  pub match_no_pattern : pattern_ok p ≡ false → matching p r ≡ Malformed
+  pub match_no_pattern : false ≡ pattern_ok p → Err (record {}) ≡ matching p r
   unfolding matching
-  match_no_pattern e = rw e
+  match_no_pattern e = rw (← e)
 
   -- a text that is no resource id is malformed
-  pub match_no_resource : resource_ok r ≡ false → matching p r ≡ Malformed
+  match_no_resource : resource_ok r ≡ false → matching p r ≡ Err (record {})
   unfolding matching
   match_no_resource e = rw (e, and-false (pattern_ok p))
 
-  -- texts that begin with the same terminal id
-  pub match_same : same_terminal p r ≡ true → same (take terminal_size p) (take terminal_size r) ≡ true
-  match_same d = and_right (leb terminal_size (length r)) _ (and_right (leb terminal_size (length p)) _ d)
-
-module _ (p r : List ℕ) (e : pattern_ok p ≡ true) where
-  -- a text that begins with the terminal id of the pattern is a resource id where it is well formed below
-  pub match_under : same (take terminal_size p) (take terminal_size r) ≡ true → resource_ok r ≡ below_ok false r
-  match_under d =
-      below_resource r
-      (ap is_terminal (sym (same_equal (take terminal_size p) (take terminal_size r) d)) ∙ pattern_terminal p e)
-
+module _ (p r : List ℕ) (e : true ≡ pattern_ok p) where
   -- of two well-formed texts the terminal ids are compared, and then the levels below
   match_well : resource_ok r ≡ true → matching p r
-      ≡ cond (same (take terminal_size p) (take terminal_size r)) (answer_of (drop levels_place p) (drop levels_place r)) No
+      ≡ Ok (cond (same (take terminal_size p) (take terminal_size r)) (answer_of (drop levels_place p) (drop levels_place r)) None)
   unfolding matching
   match_well f =
       let same-ids : Bool = same (take terminal_size p) (take terminal_size r) in
       let below : Bool = levels_match (drop levels_place p) (drop levels_place r) in
-      rw (e, f, admits_text p r e f, names_text p r e f)
-      (counted_below same-ids below (levels_named (drop levels_place p) (drop levels_place r)))
+      rw (← e, f, admits_text p r (sym e) f, names_text p r (sym e) f)
+      (ap Ok (counted_below same-ids below (levels_named (drop levels_place p) (drop levels_place r))))
 
   -- where the terminal ids differ the answer is no, or the text is malformed
-  pub match_terminals : same_terminal p r ≡ false → matching p r ≡ cond (resource_ok r) No Malformed
-  match_terminals d = go (resource_ok r) refl
+  pub match_terminals : false ≡ same_terminal p r → cond (resource_ok r) (Ok None) (Err (record {})) ≡ matching p r
+  match_terminals d = sym (go (resource_ok r) refl)
     where
-      go : (b : Bool) → resource_ok r ≡ b → matching p r ≡ cond b No Malformed
+      go : (b : Bool) → resource_ok r ≡ b → matching p r ≡ cond b (Ok None) (Err (record {}))
       go false f = match_no_resource p r f
       go true f =
           let unlike : same (take terminal_size p) (take terminal_size r) ≡ false =
-          sym (start_answer p r terminal_size (omega (arith, (pattern_short p e).0)) (omega (arith, (resource_short r f).0)) (sym d)) in
+          sym (start_answer p r terminal_size (omega (arith, (pattern_short p (sym e)).0)) (omega (arith, (resource_short r f).0)) d) in
           match_well f ∙ rw unlike
 
-  -- where they are equal the levels below decide, as the code hands them on
-  pub match_below : resource_ok r ≡ true → same (take terminal_size p) (take terminal_size r) ≡ true
-      → answer_of (take (length p - levels_place) (drop levels_place p)) (take (length r - levels_place) (drop levels_place r))
+-- p is a pattern and r a resource id with the same terminal id: the levels below decide, as the code hands them on
+pub record Matched (p r : List ℕ) : Type 0 where
+  pub p_long : levels_place ≤ length p
+  pub r_long : levels_place ≤ length r
+  pub starless : without 42 (take (length r - levels_place) (drop levels_place r)) ≡ true
+  pub answer : Ok (answer_of (take (length p - levels_place) (drop levels_place p)) (take (length r - levels_place) (drop levels_place r)))
       ≡ matching p r
-  match_below f d = rw (part_to_end p levels_place, part_to_end r levels_place) (sym (match_well f ∙ rw d))
 
-  -- they have no "*"
-  pub below_starless : resource_ok r ≡ true → without 42 (take (length r - levels_place) (drop levels_place r)) ≡ true
-  below_starless f = ap (without 42) (part_to_end r levels_place) ∙ resource_starless r f
+module _ (p r : List ℕ) (e : true ≡ pattern_ok p) (d : true ≡ same_terminal p r) where
+  -- the terminal ids are the same
+  same-ids : same (take terminal_size p) (take terminal_size r) ≡ true
+  same-ids = and_right (leb terminal_size (length r)) _ (and_right (leb terminal_size (length p)) _ (sym d))
+
+  -- so the text is a resource id where it is well formed below
+  under : resource_ok r ≡ below_ok false r
+  under =
+      below_resource r (ap is_terminal (sym (same_equal (take terminal_size p) (take terminal_size r) same-ids)) ∙ pattern_terminal p (sym e))
+
+  -- it is not
+  pub match_malformed : false ≡ below_ok false r → Err (record {}) ≡ matching p r
+  match_malformed f = sym (match_no_resource p r (under ∙ sym f))
+
+  -- it is
+  pub matched : true ≡ below_ok false r → Matched p r
+  matched f =
+      let well : resource_ok r ≡ true = under ∙ sym f in
+      record {
+        p_long = (pattern_short p (sym e)).0;
+        r_long = (resource_short r well).0;
+        starless = ap (without 42) (part_to_end r levels_place) ∙ resource_starless r well;
+        answer = rw (part_to_end p levels_place, part_to_end r levels_place) (sym (match_well p r e well ∙ rw same-ids));
+      }

@@ -2,10 +2,11 @@
 -- page.
 -- Each statement `NameOfIt` is proved in proofs/Laws.antt as `name_of_it`.
 use Rattle.std.specs.Prelude.{◌≡◌, Bool, true, false, cond, ◌&&◌, ◌||◌, List, [], ◌∷◌, ℕ, ◌+◌, ◌-◌, ◌≤◌, ◌<◌, length, take, drop}
+use Rattle.std.specs.Prelude.{Option, Some, None}
 use Rattle.octets.specs.Bytes.{same}
 use Rattle.octets.specs.Scan.{without}
 use Rattle.resource.specs.declared.LevelStep.{LevelStep}
-use Rattle.resource.specs.declared.LevelStep.TheVariants.{Differ, Finish, Next}
+use Rattle.resource.specs.declared.LevelStep.TheVariants.{Finish, Next}
 use Rattle.resource_spec.specs.Identifier.{is_terminal, terminal_size}
 use Rattle.resource_spec.specs.Level.{is_star, levels}
 use Rattle.resource_spec.specs.Text.{pattern_ok, levels_match, levels_named}
@@ -46,10 +47,10 @@ Counted f names = cond (same f.first_p f.first_r) 1 0 ≡ names
 
 -- what a step says: the first levels do not fit, or levels follow only one of them; they fit and are the last; or they fit and "/"
 -- follows both
-abbrev pub FirstLevels : List ℕ → List ℕ → LevelStep → Type 0
-FirstLevels p r Differ = (ls : List (List ℕ)) × (ks : List (List ℕ)) × (t : Bool) × Firsts p r ls ks t × ((t && alike ls ks) ≡ false)
-FirstLevels p r (Finish names) = (f : Firsts p r [] [] true) × Counted f names
-FirstLevels p r (Next i j names) =
+abbrev pub FirstLevels : List ℕ → List ℕ → Option LevelStep → Type 0
+FirstLevels p r None = (ls : List (List ℕ)) × (ks : List (List ℕ)) × (t : Bool) × Firsts p r ls ks t × ((t && alike ls ks) ≡ false)
+FirstLevels p r (Some (Finish names)) = (f : Firsts p r [] [] true) × Counted f names
+FirstLevels p r (Some (Next i j names)) =
     (i < length p) × (j < length r) × (f : Firsts p r (levels (drop (i + 1) p)) (levels (drop (j + 1) r)) true) × Counted f names
 
 -- the step of two texts says so
@@ -71,10 +72,10 @@ pub record Goes (p r : List ℕ) (i j names : ℕ) : Type 0 where
   pub fewer : length (levels (drop (i + 1) p)) < length (levels p)
 
 -- what is told of the matching of two texts by the step of their first levels
-abbrev pub Stepped : List ℕ → List ℕ → LevelStep → Type 0
-Stepped p r Differ = levels_match p r ≡ false
-Stepped p r (Finish names) = MatchesWith p r names × (names ≤ 1)
-Stepped p r (Next i j names) = Goes p r i j names
+abbrev pub Stepped : List ℕ → List ℕ → Option LevelStep → Type 0
+Stepped p r None = levels_match p r ≡ false
+Stepped p r (Some (Finish names)) = MatchesWith p r names × (names ≤ 1)
+Stepped p r (Some (Next i j names)) = Goes p r i j names
 
 -- it holds of each two texts of which the second has no "*", as no path has
 abbrev pub StepDecides : Type 0

@@ -4,13 +4,10 @@
 
 pub mod sizes;
 
-// What matching two texts answers: yes, with the number of levels that were matched by equal names; no; Malformed is document 01's 15.
+// What matching answers where either text is malformed: document 01's 15. Of two that are well formed it answers Some with the number of
+// levels that were matched by equal names, or None where they do not match.
 #[derive(Clone, Copy)]
-pub enum Matching {
-    Yes { names: u64 },
-    No,
-    Malformed,
-}
+pub struct Malformed;
 
 // A matching in document 01's numbers, as include/cap.h has them: the answer, 0 or 15; 1 for yes; and the number of levels that
 // were matched by equal names.

@@ -1,9 +1,11 @@
 -- What the functions stand on beyond the promises: the tests of one row, and the rows of a list looked at one after the other. A reader of
 -- the promises does not need this page.
-use Rattle.std.specs.Prelude.{◌≡◌, true, false, List, ℕ, ◌+◌, ◌≤◌, ◌<◌, length, drop, get_or, leb}
+use Rattle.std.specs.Prelude.{◌≡◌, true, false, List, ℕ, ◌+◌, ◌/◌, ◌≤◌, ◌<◌, length, drop, get_or, leb}
+use Rattle.std.specs.List.{list_any}
+use Rattle.std.specs.Simd.{first_chunks}
 use Rattle.octets.specs.Bytes.{same}
 use Rattle.revocation_spec.specs.declared.Revocation.{Revocation}
-use Rattle.revocation_spec.specs.Revocation.{revokes, is_revoked}
+use Rattle.revocation_spec.specs.Revocation.{revocation_size, revokes, is_revoked, revocation_at, revocations_of}
 
 -- a row of another id does not revoke; of a row of the id the moment tells
 abbrev pub RowTested : Type 0
@@ -19,3 +21,12 @@ RowsInTurn = (rows : List Revocation) (id : List ℕ) (clock i : ℕ) (none : Re
 -- past the last row no row revokes
 abbrev pub RowsEnd : Type 0
 RowsEnd = (rows : List Revocation) (id : List ℕ) (clock i : ℕ) → length rows ≤ i → is_revoked (drop i rows) id clock ≡ false
+
+-- the rows revoke the id where one of them does, by the library's word
+abbrev pub RevokedAny : Type 0
+RevokedAny = (rows : List Revocation) (id : List ℕ) (clock : ℕ) → is_revoked rows id clock ≡ list_any (λ r. revokes r id clock) rows
+
+-- and the rows of bytes do where one of the chunks of 24 bytes is the bytes of such a row
+abbrev pub BytesRevokedAny : Type 0
+BytesRevokedAny = (s id : List ℕ) (clock : ℕ) → is_revoked (revocations_of s) id clock
+    ≡ list_any (λ row. revokes (revocation_at row 0) id clock) (first_chunks revocation_size (length s / revocation_size) s)

@@ -1,13 +1,9 @@
 -- The two promises of steps in order (specs/Promises.antt). Assumes nothing.
-use mathlib.Core.Path.{◌≡◌, refl, sym, ◌∙◌, subst}
+use mathlib.Core.Path.{◌≡◌, refl, sym, subst}
 use mathlib.Core.Logic.{◌↔◌}
-use mathlib.Core.Bool.{Bool, true, false, not}
+use mathlib.Core.Bool.{Bool, true, false}
 use mathlib.Core.List.{List, [], ◌∷◌}
-use lib.Dec.{T}
 use Rattle.steps.specs.Order.{Step, or_else, in_order, AllPass, FirstFails, here, later, NoneIs}
-
-no_way : {X : Type 0} {b : Bool} → b ≡ true → b ≡ false → X
-no_way e f = absurd (subst (λ (c : Bool). T (not c)) (sym f ∙ e) tt)
 
 -- a refusal that is not r is not r
 pub pass_exactly : (R : Type 0) (steps : List (Step R)) (r : R) → NoneIs r steps → (in_order steps r ≡ r) ↔ AllPass steps
@@ -18,7 +14,7 @@ pass_exactly R (s ∷ steps) r n = go s.passes refl (pass_exactly R steps r n.1)
     go : (b : Bool) → s.passes ≡ b → (in_order steps r ≡ r) ↔ AllPass steps → (or_else b s.refusal (in_order steps r) ≡ r)
         ↔ ((s.passes ≡ true) × AllPass steps)
     go true e k = (λ h. (e, k.0 h), λ a. k.1 a.1)
-    go false e k = (λ h. absurd (n.0 h), λ a. no_way a.0 e)
+    go false e k = (λ h. absurd (n.0 h), λ a. let h = a.0 in cc)
 
 -- among no steps none fails
 nothing_fails : {R X : Type 0} {x : R} → FirstFails [] x → X
@@ -26,13 +22,13 @@ nothing_fails f = elim f [ ]
 
 -- where the first passes, the first that fails is among the rest
 fails_later : {R : Type 0} {s : Step R} {steps : List (Step R)} {x : R} → FirstFails (s ∷ steps) x → s.passes ≡ true → FirstFails steps x
-fails_later (here f) e = no_way e f
+fails_later (here f) e = cc
 fails_later (later e f) g = f
 
 -- where the first fails, the refusal is its own
 fails_here : {R : Type 0} {s : Step R} {steps : List (Step R)} {x : R} → FirstFails (s ∷ steps) x → s.passes ≡ false → s.refusal ≡ x
 fails_here (here f) e = refl
-fails_here (later e f) g = no_way e g
+fails_here (later e f) g = cc
 
 -- another answer is the refusal of the first step that fails
 pub fail_exactly : (R : Type 0) (steps : List (Step R)) (r x : R) → (x ≡ r → ⊥) → (in_order steps r ≡ x) ↔ FirstFails steps x

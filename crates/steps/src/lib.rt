@@ -6,20 +6,17 @@ ghost use Rattle.steps.specs.Key.{key_open};
 
 use time::Seconds;
 
-// The window in which a key is valid: from a moment on and, where it is bounded, up to a moment with it.
+// The window in which a key is valid: from a moment on and, where there is an end, up to that moment with it.
 #[derive(Clone, Copy)]
 pub struct Window {
     pub from: Seconds,
-    pub bounded: bool,
-    pub until: Seconds,
+    pub until: Option<Seconds>,
 }
 
 // Whether the clock is in the key's window.
+#[tactic(auto, unfolding(crate::specs::Key::key_open))]
 pub fn key_open(window: Window, clock: Seconds) -> bool
     ensures { result ≡ key_open window clock.0 }
 {
-    let from = window.from;
-    let bounded = window.bounded;
-    let until = window.until;
-    !clock.is_before(from) & (!bounded | !until.is_before(clock))
+    window.from <= clock && window.until.is_none_or(|until| clock <= until)
 }

@@ -6,79 +6,69 @@ ghost use Rattle.image_spec.specs.Laws.{HeldFits, CheckFits};
 ghost use Rattle.octets.specs.Bytes.{AreBytes};
 ghost use Rattle.submission.specs.Code.{admitted, placed, chosen_read, chosen_unread, choice_of};
 
-use crate::Submission;
 use crate::entering::read_entering;
-use descriptor::{Fields, Reading};
+use crate::{Environment, Refusal};
+use descriptor::{Fields, ReadError};
 use descriptor_spec::sizes::ID_SIZE;
-use image::{Held, ImageCheck};
-use steps::Window;
+use image::Contents;
 use time::Seconds;
 
-// What is to be done: the answer alone, or the body is to be stored after so many rows, whose bodies end at `end`; its id stands at `id`.
+// Where a body is to be stored: after so many rows, whose bodies end at `end`; its id stands at `id` in it, and its modes are the mask.
 #[derive(Clone, Copy)]
-pub(crate) enum Choice {
-    Answer(Submission),
-    Store {
-        rows: u64,
-        end: usize,
-        id: usize,
-        mask: u64,
-    },
-}
-
-// The steps from the beginning to the signature: the refusal, or that all pass.
-#[derive(Clone, Copy)]
-pub(crate) enum Admission {
-    Refused(Submission),
-    Admitted,
+pub(crate) struct Store {
+    pub(crate) rows: u64,
+    pub(crate) end: usize,
+    pub(crate) id: usize,
+    pub(crate) mask: u64,
 }
 
 // How far ahead a descriptor may begin: one day.
 const LONGEST_LEAD: Seconds = Seconds(86400);
 
 // The beginning, the issuer, the key and the signature of a body that reads.
-fn admit(not_before: Seconds, clock: Seconds, verdict: u64, window: Window) -> Admission
-    ensures { result ≡ admitted not_before.0 clock.0 verdict window }
+fn admit(not_before: Seconds, host: Environment) -> Result<(), Refusal>
+    ensures { result ≡ admitted not_before.0 host.clock.0 host.verdict host.window }
 {
-    let latest = clock.plus_at_most(LONGEST_LEAD, not_before);
-    if latest.is_before(not_before) {
-        return Admission::Refused(Submission::Validity);
+    let latest = host.clock.plus_at_most(LONGEST_LEAD, not_before);
+    if latest < not_before {
+        return Err(Refusal::Validity);
     }
-    if verdict == 2 {
-        return Admission::Refused(Submission::UnknownIssuer);
+    if host.verdict == 2 {
+        return Err(Refusal::UnknownIssuer);
     }
-    if !steps::key_open(window, clock) {
-        return Admission::Refused(Submission::KeyInvalid);
+    if !steps::key_open(host.window, host.clock) {
+        return Err(Refusal::KeyInvalid);
     }
-    if verdict == 1 {
-        return Admission::Refused(Submission::BadSignature);
+    if host.verdict == 1 {
+        return Err(Refusal::BadSignature);
     }
-    Admission::Admitted
+    Ok(())
 }
 
-// Whether the body is held, held with other bytes, or to be stored.
-fn place(image: &[u8], body: &[u8], rows: u64, end: usize, held: Held, fields: Fields) -> Choice
-    requires { HeldFits image.now held }
-    ensures { result ≡ placed image.now body.now rows end held fields }
+// Where the body is to be stored; nowhere where it is held; or it is refused, where the id is held with other bytes.
+fn place(
+    image: &[u8],
+    body: &[u8],
+    contents: Contents,
+    fields: Fields,
+) -> Result<Option<Store>, Refusal>
+    requires { HeldFits image.now contents.held }
+    ensures { result ≡ placed image.now body.now contents fields }
 {
-    match held {
-        Held::Body {
-            row: _,
-            at,
-            len,
-            fields: _,
-        } => {
-            if octets::same_bytes(&image[at..at + len], body) {
-                return Choice::Answer(Submission::Done);
+    match contents.held {
+        Some(held) => {
+            let at = held.at;
+            if octets::same_bytes(&image[at..at + held.len], body) {
+                return Ok(None);
             }
-            Choice::Answer(Submission::Duplicate)
+            Err(Refusal::Duplicate)
         }
-        Held::Missing => Choice::Store {
-            rows,
-            end,
+        None => Ok(Some(Store {
+            rows: contents.rows,
+            end: contents.end,
             id: fields.id,
             mask: fields.mask,
-        },
+        })),
     }
 }
 
@@ -86,62 +76,47 @@ fn place(image: &[u8], body: &[u8], rows: u64, end: usize, held: Held, fields: F
 fn choose_read(
     image: &[u8],
     body: &[u8],
-    clock: Seconds,
-    verdict: u64,
-    window: Window,
+    host: Environment,
     fields: Fields,
-    found: ImageCheck,
-) -> Choice
+    found: Option<Contents>,
+) -> Result<Option<Store>, Refusal>
     requires { CheckFits image.now found }
-    ensures { result ≡ chosen_read image.now body.now clock.0 verdict window fields found }
+    ensures { result ≡ chosen_read image.now body.now host.clock.0 host.verdict host.window fields found }
 {
-    match found {
-        ImageCheck::Sound { rows, end, held } => {
-            let begins = fields.not_before;
-            match admit(begins, clock, verdict, window) {
-                Admission::Refused(answer) => Choice::Answer(answer),
-                Admission::Admitted => place(image, body, rows, end, held, fields),
-            }
-        }
-        ImageCheck::Unsound => Choice::Answer(Submission::BadImage),
-    }
+    let Some(contents) = found else {
+        return Err(Refusal::BadImage);
+    };
+    admit(fields.not_before, host)?;
+    place(image, body, contents, fields)
 }
 
-// A body that is answered 1 or 2: the image is looked at first.
-fn choose_unread(image: &[u8], answer: Submission) -> Choice
-    ensures { result ≡ chosen_unread answer (check_of image.now (replicate id_size 0)) }
+// A body that is refused with 1 or 2: the image is looked at first.
+fn choose_unread(image: &[u8], error: ReadError) -> Refusal
+    ensures { result ≡ chosen_unread error (check_of image.now (replicate id_size 0)) }
 {
     let none = [0u8; ID_SIZE];
-    match image::check_latest(image, &none) {
-        ImageCheck::Sound {
-            rows: _,
-            end: _,
-            held: _,
-        } => Choice::Answer(answer),
-        ImageCheck::Unsound => Choice::Answer(Submission::BadImage),
+    let Some(_) = image::check_latest(image, &none) else {
+        return Refusal::BadImage;
+    };
+    match error {
+        ReadError::Structure => Refusal::Structure,
+        ReadError::Validity => Refusal::Validity,
     }
 }
 
 // What is to be done with the body.
-pub(crate) fn choose(
-    image: &[u8],
-    body: &[u8],
-    clock: Seconds,
-    verdict: u64,
-    window: Window,
-) -> Choice
-    ensures { (result ≡ choice_of image.now body.now clock.0 verdict window) × AreBytes image.now }
+pub(crate) fn choose(image: &[u8], body: &[u8], host: Environment) -> Result<Option<Store>, Refusal>
+    ensures { (result ≡ choice_of image.now body.now host.clock.0 host.verdict host.window) × AreBytes image.now }
 {
-    if 2 < verdict {
-        return Choice::Answer(Submission::Malformed);
+    if 2 < host.verdict {
+        return Err(Refusal::Malformed);
     }
     match read_entering(body) {
-        Reading::Read(fields) => {
+        Ok(fields) => {
             let id = fields.id;
             let found = image::check_latest(image, &body[id..id + ID_SIZE]);
-            choose_read(image, body, clock, verdict, window, fields, found)
+            choose_read(image, body, host, fields, found)
         }
-        Reading::Structure => choose_unread(image, Submission::Structure),
-        Reading::Validity => choose_unread(image, Submission::Validity),
+        Err(error) => Err(choose_unread(image, error)),
     }
 }

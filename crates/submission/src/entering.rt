@@ -3,7 +3,7 @@ ghost use Rattle.std.specs.Prelude.{◌≡◌};
 ghost use Rattle.submission_spec.specs.Submission.{ids_in, entering};
 ghost use Rattle.submission.specs.Code.{IdsFit};
 
-use descriptor::{Fields, Form, Reading};
+use descriptor::{Fields, ReadError};
 use descriptor_spec::sizes::ID_SIZE;
 use resource_spec::sizes::{FAY_SIZE, TERMINAL_SIZE};
 use submission_spec::sizes::{FAY_TEXT, TERMINAL_TEXT};
@@ -22,16 +22,14 @@ fn are_version7(body: &[u8], fields: Fields) -> bool
 }
 
 // What is answered of the body: the ids come with structure, before the period.
-pub(crate) fn read_entering(body: &[u8]) -> Reading
+pub(crate) fn read_entering(body: &[u8]) -> Result<Fields, ReadError>
     ensures { result ≡ entering body.now }
 {
-    match descriptor::read_form(body) {
-        Form::Formed(fields) => {
-            if !are_version7(body, fields) {
-                return Reading::Structure;
-            }
-            descriptor::by_period(fields)
-        }
-        Form::Unformed => Reading::Structure,
+    let Some(fields) = descriptor::read_form(body) else {
+        return Err(ReadError::Structure);
+    };
+    if !are_version7(body, fields) {
+        return Err(ReadError::Structure);
     }
+    descriptor::by_period(fields)
 }

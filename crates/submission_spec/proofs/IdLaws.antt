@@ -19,10 +19,9 @@ use Rattle.uuid_spec.specs.Uuid.{IsVersion7, text}
 use Rattle.uuid_spec.specs.Version7.{is_version7, is_version7_text}
 use Rattle.uuid_spec.proofs.Promises.{octets_exactly, text_of_version7}
 use Rattle.descriptor_spec.specs.declared.Fields.{Fields}
-use Rattle.descriptor_spec.specs.declared.Form.{Form}
-use Rattle.descriptor_spec.specs.declared.Form.TheVariants.{Formed as HasForm, Unformed}
-use Rattle.descriptor_spec.specs.declared.Reading.{Reading}
-use Rattle.descriptor_spec.specs.declared.Reading.TheVariants.{Read, Structure, Validity}
+use Rattle.std.specs.Prelude.{Option as CodeOption, Some, None, Ok, Err}
+use Rattle.descriptor_spec.specs.declared.ReadError.TheVariants.{Structure, Validity}
+use Rattle.descriptor_spec.specs.Reading.{Reading}
 use Rattle.descriptor_spec.specs.Model.{Descriptor, encode}
 use Rattle.descriptor_spec.specs.Allowed.{longest_period, Formed}
 use Rattle.descriptor_spec.specs.Reader.{formed_in}
@@ -114,12 +113,12 @@ ids_exactly c bytes q =
 
 -- of the encoding of a descriptor that is allowed but for its period: 1 for another id, and then by the period
 pub entering_formed : (c : Descriptor) → AreBytes (encode c) → Formed c
-    → entering (encode c) ≡ cond (version7_ids c) (within_period (fields_of (descriptor_view 0 c))) Structure
+    → entering (encode c) ≡ cond (version7_ids c) (within_period (fields_of (descriptor_view 0 c))) (Err Structure)
 unfolding entering
 entering_formed c bytes q =
     let v = descriptor_view 0 c in
     ap (λ o. entering_by (encode c) (form_of o)) ((formed_exactly (encode c) bytes v).1 (c, q, refl, refl))
-    ∙ ap (λ (x : Bool). cond x (within_period (fields_of v)) Structure) (ids_seen_lem c q)
+    ∙ ap (λ (x : Bool). cond x (within_period (fields_of v)) (Err Structure)) (ids_seen_lem c q)
 
 -- what reading answers, by what is seen before the period is looked at
 pub reading_by : (b : List ℕ) → reading b ≡ reading_in (form_of (formed_in b))
@@ -127,32 +126,32 @@ unfolding reading
 reading_by b = read_by_period b
 
 -- what reading answers with 1 is answered so
-pub entering_structure : (b : List ℕ) → reading b ≡ Structure → entering b ≡ Structure
+pub entering_structure : (b : List ℕ) → reading b ≡ (Err Structure) → entering b ≡ (Err Structure)
 unfolding entering within_period
 entering_structure b e = go (form_of (formed_in b)) (sym (reading_by b) ∙ e)
   where
-    go : (o : Form) → reading_in o ≡ Structure → entering_by b o ≡ Structure
-    go (HasForm g) = λ k. absurd (by_cond (λ (r : Reading). r ≡ Structure → ⊥) (leb (g.not_after.0 - g.not_before.0) longest_period)
+    go : (o : CodeOption Fields) → reading_in o ≡ (Err Structure) → entering_by b o ≡ (Err Structure)
+    go (Some g) = λ k. absurd (by_cond (λ (r : Reading). r ≡ (Err Structure) → ⊥) (leb (g.not_after.0 - g.not_before.0) longest_period)
         (λ t f. false≢true (sym (ap is_read f))) (λ t f. omega (arith, ap number_of f)) k)
-    go Unformed = λ k. refl
+    go None = λ k. refl
 
 -- bytes that enter are read
-pub entering_reads : (b : List ℕ) (f : Fields) → entering b ≡ Read f → reading b ≡ Read f
+pub entering_reads : (b : List ℕ) (f : Fields) → entering b ≡ Ok f → reading b ≡ Ok f
 unfolding entering
 entering_reads b f =
-    subst (λ (r : Reading). entering_by b (form_of (formed_in b)) ≡ Read f → r ≡ Read f) (sym (reading_by b)) (go (form_of (formed_in b)))
+    subst (λ (r : Reading). entering_by b (form_of (formed_in b)) ≡ Ok f → r ≡ Ok f) (sym (reading_by b)) (go (form_of (formed_in b)))
   where
-    go : (o : Form) → entering_by b o ≡ Read f → reading_in o ≡ Read f
-    go (HasForm g) = by_cond (λ (r : Reading). r ≡ Read f → within_period g ≡ Read f) (ids_in b g)
+    go : (o : CodeOption Fields) → entering_by b o ≡ Ok f → reading_in o ≡ Ok f
+    go (Some g) = by_cond (λ (r : Reading). r ≡ Ok f → within_period g ≡ Ok f) (ids_in b g)
         (λ t e. e)
         (λ t e. absurd (false≢true (ap is_read e)))
-    go Unformed = λ e. absurd (false≢true (ap is_read e))
+    go None = λ e. absurd (false≢true (ap is_read e))
 
 -- the same, as a test
 pub entering_read : (b : List ℕ) → is_read (entering b) ≡ true → is_read (reading b) ≡ true
 entering_read b = go (entering b) refl
   where
     go : (r : Reading) → entering b ≡ r → is_read r ≡ true → is_read (reading b) ≡ true
-    go (Read f) e = λ t. ap is_read (entering_reads b f e)
-    go Structure e = λ t. absurd (false≢true t)
-    go Validity e = λ t. absurd (false≢true t)
+    go (Ok f) e = λ t. ap is_read (entering_reads b f e)
+    go (Err Structure) e = λ t. absurd (false≢true t)
+    go (Err Validity) e = λ t. absurd (false≢true t)

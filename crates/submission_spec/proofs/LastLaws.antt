@@ -2,7 +2,7 @@
 -- Assumes nothing.
 use mathlib.Core.Path.{◌≡◌, refl, sym, ap, ◌∙◌, subst}
 use mathlib.Core.Logic.{◌⊎◌, inl, inr, ⊎_elim}
-use mathlib.Core.Bool.{Bool, true, false, not, ◌&&◌, ◌||◌, false≢true}
+use mathlib.Core.Bool.{Bool, true, false, not, ◌&&◌, false≢true}
 use mathlib.Core.List.{List, [], ◌∷◌}
 use mathlib.Core.Option.{Option, none, some}
 use Prim.Native.Nat.{ℕ, ◌+◌, ◌-◌, ◌≤◌, ◌<◌}
@@ -10,9 +10,11 @@ use native.Mathlib.Omega.{arith}
 use lib.ListN.{length, length-append}
 use lib.Dec.{leb}
 use borrow.Author.Tests.{lt-ltb, le-ltb, le-leb, lt-leb}
+use Rattle.std.specs.Prelude.{IfSome, None, Some}
+use Rattle.std.specs.Option.{option_map_or}
 use Rattle.octets.specs.Bytes.{part, same}
 use Rattle.descriptor_spec.specs.Model.{Descriptor, encode}
-use Rattle.descriptor_spec.specs.declared.Reading.{Reading}
+use Rattle.descriptor_spec.specs.Reading.{Reading}
 use Rattle.steps.specs.declared.Window.{Window}
 use Rattle.steps.specs.Order.{Step}
 use Rattle.steps.specs.Laws.{all_pass, fails_by}
@@ -44,13 +46,14 @@ use Rattle.submission_spec.proofs.StoredLaws.{refusal_keeps, repeat_keeps, store
 -- ---- the last two steps
 
 -- the clock is in the key's window
-key_opens : (window : Window) (clock : ℕ) → window.from.0 ≤ clock → (window.bounded ≡ true → clock ≤ window.until.0)
-    → (leb window.from.0 clock && (not window.bounded || leb clock window.until.0)) ≡ true
-key_opens window clock f u = rw (le-leb window.from.0 clock f) (go window.bounded u)
-  where
-    go : (t : Bool) → (t ≡ true → clock ≤ window.until.0) → (not t || leb clock window.until.0) ≡ true
-    go true u = le-leb clock window.until.0 (u refl)
-    go false u = refl
+key_opens : (window : Window) (clock : ℕ) → window.from.0 ≤ clock → IfSome window.until (λ until. clock ≤ until.0)
+    → (leb window.from.0 clock && option_map_or (λ until. leb clock until.0) window.until true) ≡ true
+key_opens window clock f u =
+    rw (le-leb window.from.0 clock f)
+    (elim window.until as (λ o. IfSome o (λ until. clock ≤ until.0) → option_map_or (λ until. leb clock until.0) o true ≡ true) [
+      | None ↦ λ u. refl
+      | Some until ↦ λ u. le-leb clock until.0 u
+    ] u)
 
 module _ (d : List ℕ) (bs : List Row) (c : Descriptor) (clock : ℕ) (window : Window) (r : Ready d bs c clock window) where
   -- the steps
@@ -89,7 +92,7 @@ module _ (d : List ℕ) (bs : List Row) (c : Descriptor) (clock : ℕ) (window :
     early = le-leb c.payload.not_before (clock + 86400) l
 
     -- so does that of the key
-    open_key : (leb window.from.0 clock && (not window.bounded || leb clock window.until.0)) ≡ true
+    open_key : (leb window.from.0 clock && option_map_or (λ until. leb clock until.0) window.until true) ≡ true
     open_key = key_opens window clock r.opened r.lasts
 
     -- the same bytes are held

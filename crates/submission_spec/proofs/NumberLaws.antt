@@ -1,4 +1,6 @@
 -- The number of a submission is that of the first failing step of specs/Promises.antt. Assumes nothing.
+use Rattle.std.specs.Prelude.{Ok, Err, Some, None}
+use Rattle.image_spec.specs.Check.{contents, Held, ImageCheck}
 use mathlib.Core.Path.{◌≡◌, refl, sym, ap, ap₂, ◌∙◌, subst}
 use mathlib.Core.Bool.{Bool, true, false}
 use mathlib.Core.List.{List, []}
@@ -10,8 +12,8 @@ use lib.Dec.{leb}
 use borrow.Author.Tests.{leb-true}
 use Rattle.octets.specs.Bytes.{AreBytes}
 use Rattle.descriptor_spec.specs.declared.Fields.{Fields}
-use Rattle.descriptor_spec.specs.declared.Reading.{Reading}
-use Rattle.descriptor_spec.specs.declared.Reading.TheVariants.{Read, Structure, Validity}
+use Rattle.descriptor_spec.specs.Reading.{Reading}
+use Rattle.descriptor_spec.specs.declared.ReadError.TheVariants.{Structure, Validity}
 use Rattle.descriptor_spec.specs.Model.{Descriptor, encode}
 use Rattle.descriptor_spec.specs.Allowed.{longest_period, period, Formed, Allowed}
 use Rattle.descriptor_spec.specs.Numbers as descriptor
@@ -25,10 +27,6 @@ use Rattle.steps.specs.Key.{is_verdict, is_that, key_open}
 use Rattle.steps.specs.Laws.{mapped}
 use Rattle.steps.proofs.Laws.{order_mapped, none_is}
 use Rattle.steps.proofs.Promises as order
-use Rattle.image_spec.specs.declared.Held.{Held}
-use Rattle.image_spec.specs.declared.Held.TheVariants.{Missing, Body}
-use Rattle.image_spec.specs.declared.ImageCheck.{ImageCheck}
-use Rattle.image_spec.specs.declared.ImageCheck.TheVariants.{Sound, Unsound}
 use Rattle.image_spec.specs.Image.{Row, reading, id_of}
 use Rattle.image_spec.specs.Grow as grow
 use Rattle.image_spec.specs.Layout.{edition2}
@@ -36,7 +34,6 @@ use Rattle.image_spec.specs.Edition2.{image_of, Holds, check_of, rows_held}
 use Rattle.image_spec.specs.Promises.{answer_of}
 use Rattle.image_spec.specs.Laws.{HeldIs}
 use Rattle.image_spec.proofs.Laws.{edition2_ok, encoding_read, check_tells, check_says, check_unsound, rows_named}
-use Rattle.submission_spec.specs.declared.Submission.TheVariants as answers
 use Rattle.submission_spec.specs.Submission.{entering, steps_by, steps, submitted, number_of}
 use Rattle.submission_spec.specs.Promises.{Stored, bad_image, rows, structure, descriptor as encoding, IsStored, IsBody, version7_ids}
 use Rattle.submission_spec.specs.Promises.{AlwaysMeets, steps_for, SubmittedExactly, DoneExactly, RefusedExactly}
@@ -54,7 +51,7 @@ number_by_lem : (d b : List ℕ) (clock verdict : ℕ) (window : Window) (r : Re
     → number_of (submitted d b clock verdict window) ≡ number_by d b clock verdict window r v
 unfolding submitted steps
 number_by_lem d b clock verdict window r v e f =
-    order_mapped number_of (steps_by d b clock verdict window (entering b) (check_of d (id_of b))) answers.Done
+    order_mapped number_of (steps_by d b clock verdict window (entering b) (check_of d (id_of b))) (Ok tt)
     ∙ ap₂ (number_by d b clock verdict window) e f
 
 -- the period of a descriptor is not too long
@@ -63,13 +60,13 @@ not_too_long c = leb (c.payload.not_after - c.payload.not_before) 7776000
 
 -- a check that does not call the image sound, whatever is answered of the body
 by_unsound : (d b : List ℕ) (clock verdict : ℕ) (window : Window) (r : Reading) (x : promised.Body)
-    → number_by d b clock verdict window r Unsound ≡ in_order (steps_for bad_image x (length d) clock verdict window) 0
+    → number_by d b clock verdict window r None ≡ in_order (steps_for bad_image x (length d) clock verdict window) 0
 unfolding steps_by in_order or_else is_verdict
 by_unsound d b clock verdict window r x = refl
 
 -- a body that is answered 1
 by_structure : (d b : List ℕ) (clock verdict : ℕ) (window : Window) (bs : List Row) (n end : ℕ) (h : Held)
-    → number_by d b clock verdict window Structure (Sound n end h)
+    → number_by d b clock verdict window (Err Structure) (contents n end h)
     ≡ in_order (steps_for (rows bs) structure (length d) clock verdict window) 0
 unfolding steps_by in_order or_else is_verdict
 by_structure d b clock verdict window bs n end h = refl
@@ -77,7 +74,7 @@ by_structure d b clock verdict window bs n end h = refl
 -- the encoding of a descriptor with another id
 by_other_id : (d b : List ℕ) (clock verdict : ℕ) (window : Window) (bs : List Row) (c : Descriptor) (n end : ℕ) (h : Held)
     → version7_ids c ≡ false
-    → number_by d b clock verdict window Structure (Sound n end h)
+    → number_by d b clock verdict window (Err Structure) (contents n end h)
     ≡ in_order (steps_for (rows bs) (encoding c) (length d) clock verdict window) 0
 unfolding steps_by in_order or_else is_verdict
 by_other_id d b clock verdict window bs c n end h e = rw e
@@ -85,7 +82,7 @@ by_other_id d b clock verdict window bs c n end h e = rw e
 -- one whose period is too long
 by_period_lem : (d b : List ℕ) (clock verdict : ℕ) (window : Window) (bs : List Row) (c : Descriptor) (n end : ℕ) (h : Held)
     → version7_ids c ≡ true → not_too_long c ≡ false
-    → number_by d b clock verdict window Validity (Sound n end h)
+    → number_by d b clock verdict window (Err Validity) (contents n end h)
     ≡ in_order (steps_for (rows bs) (encoding c) (length d) clock verdict window) 0
 unfolding steps_by in_order or_else is_verdict
 by_period_lem d b clock verdict window bs c n end h e f = rw (e, f)
@@ -94,23 +91,23 @@ by_period_lem d b clock verdict window bs c n end h e f = rw (e, f)
 by_descriptor : (d : List ℕ) (clock verdict : ℕ) (window : Window) (bs : List Row) (c : Descriptor) (f : Fields) (h : Held)
     → version7_ids c ≡ true → not_too_long c ≡ true
     → rows_held d ≡ bs → f.not_before.0 ≡ c.payload.not_before → HeldIs d c.payload.id bs h
-    → number_by d (encode c) clock verdict window (Read f) (Sound (length bs) (length (image_of bs)) h)
+    → number_by d (encode c) clock verdict window (Ok f) (contents (length bs) (length (image_of bs)) h)
     ≡ in_order (steps_for (rows bs) (encoding c) (length d) clock verdict window) 0
 unfolding steps_by is_verdict is_that key_open grow.has_room
-by_descriptor d clock verdict window bs c f Missing i p q e k = ap (λ (l : List (Step ℕ)). in_order l 0) (rw (i, p, e, k, q))
-by_descriptor d clock verdict window bs c f (Body row at len g) i p q e k =
+by_descriptor d clock verdict window bs c f None i p q e k = ap (λ (l : List (Step ℕ)). in_order l 0) (rw (i, p, e, k, q))
+by_descriptor d clock verdict window bs c f (Some b) i p q e k =
     ap (λ (l : List (Step ℕ)). in_order l 0) (rw (i, p, e, k.which))
 
 -- ---- the number of a descriptor
 
 -- what is answered of a descriptor with ids of version 7, by its period
 entering_long : (c : Descriptor) → AreBytes (encode c) → Formed c → version7_ids c ≡ true → not_too_long c ≡ false
-    → entering (encode c) ≡ Validity
+    → entering (encode c) ≡ (Err Validity)
 unfolding within_period
 entering_long c bytes q i p = entering_formed c bytes q ∙ rw (i, p)
 
 entering_allowed : (c : Descriptor) → AreBytes (encode c) → Formed c → version7_ids c ≡ true → not_too_long c ≡ true
-    → entering (encode c) ≡ Read (fields_of (descriptor_view 0 c))
+    → entering (encode c) ≡ Ok (fields_of (descriptor_view 0 c))
 unfolding within_period
 entering_allowed c bytes q i p = entering_formed c bytes q ∙ rw (i, p)
 
@@ -125,43 +122,43 @@ number_descriptor d clock verdict window bs c h bytes q = go (version7_ids c) (n
         ≡ in_order (steps_for (rows bs) (encoding c) (length d) clock verdict window) 0
     go false p e f =
         let w = check_tells edition2 edition2_ok d (id_of (encode c)) bs h in
-        number_by_lem d (encode c) clock verdict window Structure (Sound (length bs) (length (image_of bs)) w.0)
+        number_by_lem d (encode c) clock verdict window (Err Structure) (contents (length bs) (length (image_of bs)) w.0)
         (entering_formed c bytes q ∙ rw e) w.1
         ∙ by_other_id d (encode c) clock verdict window bs c (length bs) (length (image_of bs)) w.0 e
     go true false e f =
         let w = check_tells edition2 edition2_ok d (id_of (encode c)) bs h in
-        number_by_lem d (encode c) clock verdict window Validity (Sound (length bs) (length (image_of bs)) w.0)
+        number_by_lem d (encode c) clock verdict window (Err Validity) (contents (length bs) (length (image_of bs)) w.0)
         (entering_long c bytes q e f) w.1
         ∙ by_period_lem d (encode c) clock verdict window bs c (length bs) (length (image_of bs)) w.0 e f
     go true true e f =
         let a : Allowed c = record { formed = q; period = leb-true (period c) longest_period f } in
         let r = encoding_read c bytes a in
         let w = check_tells edition2 edition2_ok d (id_of (encode c)) bs h in
-        number_by_lem d (encode c) clock verdict window (Read (fields_of (descriptor_view 0 c)))
-        (Sound (length bs) (length (image_of bs)) w.0) (entering_allowed c bytes q e f) w.1
+        number_by_lem d (encode c) clock verdict window (Ok (fields_of (descriptor_view 0 c)))
+        (contents (length bs) (length (image_of bs)) w.0) (entering_allowed c bytes q e f) w.1
         ∙ by_descriptor d clock verdict window bs c (fields_of (descriptor_view 0 c)) w.0 e f (rows_named edition2 edition2_ok d bs h) refl
         (subst (λ (id : List ℕ). HeldIs d id bs w.0) r.3 w.2)
 
 -- ---- every case
 
 -- what reading answers with 1
-structure_read : (b : List ℕ) → answer_of b ≡ 1 → reading b ≡ Structure
+structure_read : (b : List ℕ) → answer_of b ≡ 1 → reading b ≡ (Err Structure)
 unfolding reading
 structure_read b e = go (reading_of (read_of b)) e
   where
-    go : (r : Reading) → descriptor.number_of r ≡ 1 → r ≡ Structure
-    go (Read f) e = absurd (omega arith)
-    go Structure e = refl
-    go Validity e = absurd (omega arith)
+    go : (r : Reading) → descriptor.number_of r ≡ 1 → r ≡ (Err Structure)
+    go (Ok f) e = absurd (omega arith)
+    go (Err Structure) e = refl
+    go (Err Validity) e = absurd (omega arith)
 
 -- `SubmittedExactly`
 pub submitted_exactly : SubmittedExactly
 submitted_exactly d b clock verdict window bad_image x m =
-    number_by_lem d b clock verdict window (entering b) Unsound refl ((check_unsound edition2 edition2_ok d (id_of b) m.buffer_bytes).1 m.stored)
+    number_by_lem d b clock verdict window (entering b) None refl ((check_unsound edition2 edition2_ok d (id_of b) m.buffer_bytes).1 m.stored)
     ∙ by_unsound d b clock verdict window (entering b) x
 submitted_exactly d b clock verdict window (rows bs) structure m =
     let w = check_tells edition2 edition2_ok d (id_of b) bs m.stored in
-    number_by_lem d b clock verdict window Structure (Sound (length bs) (length (image_of bs)) w.0)
+    number_by_lem d b clock verdict window (Err Structure) (contents (length bs) (length (image_of bs)) w.0)
     (entering_structure b (structure_read b m.body)) w.1
     ∙ by_structure d b clock verdict window bs (length bs) (length (image_of bs)) w.0
 submitted_exactly d b clock verdict window (rows bs) (encoding c) m =
@@ -199,8 +196,8 @@ stored_of_lem : (d : List ℕ) → AreBytes d → (s : Stored) × IsStored d s
 stored_of_lem d bytes = go (check_of d []) refl
   where
     go : (v : ImageCheck) → check_of d [] ≡ v → (s : Stored) × IsStored d s
-    go (Sound n end h) e = (rows (rows_held d), (check_says edition2 edition2_ok d [] bytes n end h e).holds)
-    go Unsound e = (bad_image, (check_unsound edition2 edition2_ok d [] bytes).0 e)
+    go (Some v) e = (rows (rows_held d), (check_says edition2 edition2_ok d [] bytes v.rows v.end v.held e).holds)
+    go None e = (bad_image, (check_unsound edition2 edition2_ok d [] bytes).0 e)
 
 -- what every body is
 body_of : (b : List ℕ) → AreBytes b → (x : promised.Body) × IsBody b x

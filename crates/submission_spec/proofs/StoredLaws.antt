@@ -1,4 +1,6 @@
 -- What a submission leaves in an image, said of its bodies (specs/Laws.antt). Assumes nothing.
+use Rattle.std.specs.Prelude.{Ok, Err, Some, None}
+use Rattle.image_spec.specs.Check.{contents, held_body, Held, ImageCheck, is_sound, is_held}
 use mathlib.Core.Path.{◌≡◌, refl, sym, ap, ◌∙◌, subst}
 use mathlib.Core.Logic.{◌⊎◌, inl, inr, ⊎_elim}
 use mathlib.Core.Bool.{Bool, true, false, not, ◌||◌, false≢true}
@@ -17,13 +19,8 @@ use Rattle.steps.specs.declared.Window.{Window}
 use Rattle.steps.specs.Order.{Step, AllPass}
 use Rattle.steps.proofs.Laws.{none_is, passed_by}
 use Rattle.steps.proofs.Promises as order
-use Rattle.image_spec.specs.declared.Held.{Held}
-use Rattle.image_spec.specs.declared.Held.TheVariants.{Missing, Body}
-use Rattle.image_spec.specs.declared.ImageCheck.{ImageCheck}
-use Rattle.image_spec.specs.declared.ImageCheck.TheVariants.{Sound, Unsound}
 use Rattle.image_spec.specs.Layout.{edition2}
 use Rattle.image_spec.specs.Image.{Row, id_of, MomentOk, body_with}
-use Rattle.image_spec.specs.Check.{is_sound, is_held}
 use Rattle.image_spec.specs.Close.{keep}
 use Rattle.image_spec.specs.Choose.{is_expired, unexpired, choice_of, staying_of, goes_of}
 use Rattle.image_spec.specs.Removal.{left, Removal}
@@ -34,7 +31,7 @@ use Rattle.octets.proofs.Tests.{and_left}
 use Rattle.image_spec.specs.Laws.{HeldIs}
 use Rattle.image_spec.proofs.Laws.{edition2_ok, body_read, rows_named, check_tells, check_says, editions_checked, one_more}
 use Rattle.image_spec.proofs.Laws.{choice_exactly, choice_removal, unexpired_stay, stored_holds, left_finds}
-use Rattle.submission_spec.specs.declared.Submission.TheVariants as answers
+use Rattle.submission_spec.specs.declared.Refusal.TheVariants as answers
 use Rattle.submission_spec.specs.Submission.{row_now, agrees, submitted, number_of, after_of}
 use Rattle.submission_spec.specs.Promises.{rows, descriptor, AreVersion7, version7_ids, steps_for}
 use Rattle.submission_spec.specs.Promises.{RefusalKeeps, RepeatKeeps, EditionsRefused, UnexpiredKept}
@@ -48,12 +45,12 @@ use Rattle.submission_spec.proofs.StepLaws.{number_is, Passed, done_passed, unso
 
 -- the check for an id that no body has
 check_new : (d id : List ℕ) (bs : List Row) → Holds d bs → body_with id bs ≡ none
-    → check_of d id ≡ Sound (length bs) (length (image_of bs)) Missing
-check_new d id bs h new = let w = check_tells edition2 edition2_ok d id bs h in w.1 ∙ ap (Sound (length bs) (length (image_of bs))) (go w.0 w.2)
+    → check_of d id ≡ contents (length bs) (length (image_of bs)) None
+check_new d id bs h new = let w = check_tells edition2 edition2_ok d id bs h in w.1 ∙ ap (contents (length bs) (length (image_of bs))) (go w.0 w.2)
   where
-    go : (x : Held) → HeldIs d id bs x → x ≡ Missing
-    go Missing k = refl
-    go (Body row at len f) k = absurd (none_some (part d at len) (sym new ∙ k.which))
+    go : (x : Held) → HeldIs d id bs x → x ≡ None
+    go None k = refl
+    go (Some y) k = absurd (none_some (part d y.at y.len) (sym new ∙ k.which))
 
 -- the body that is held under an id, and where the check found it
 record Repeat (d id : List ℕ) (bs : List Row) (c : List ℕ) : Type 0 where
@@ -61,22 +58,22 @@ record Repeat (d id : List ℕ) (bs : List Row) (c : List ℕ) : Type 0 where
   at : ℕ
   len : ℕ
   fields : Fields
-  found : check_of d id ≡ Sound (length bs) (length (image_of bs)) (Body row at len fields)
+  found : check_of d id ≡ contents (length bs) (length (image_of bs)) (held_body row at len fields)
   body : part d at len ≡ c
 
 -- the check for an id that a body has
 check_repeat : (d id : List ℕ) (bs : List Row) (c : List ℕ) → Holds d bs → body_with id bs ≡ some c → Repeat d id bs c
 check_repeat d id bs c h held = let w = check_tells edition2 edition2_ok d id bs h in go w.0 w.1 w.2
   where
-    go : (x : Held) → check_of d id ≡ Sound (length bs) (length (image_of bs)) x → HeldIs d id bs x → Repeat d id bs c
-    go Missing e k = absurd (none_some c (sym k ∙ held))
-    go (Body row at len f) e k = record {
-      row = row;
-      at = at;
-      len = len;
-      fields = f;
+    go : (x : Held) → check_of d id ≡ contents (length bs) (length (image_of bs)) x → HeldIs d id bs x → Repeat d id bs c
+    go None e k = absurd (none_some c (sym k ∙ held))
+    go (Some x) e k = record {
+      row = x.row;
+      at = x.at;
+      len = x.len;
+      fields = x.fields;
       found = e;
-      body = some_same (part d at len) c
+      body = some_same (part d x.at x.len) c
           (sym k.which ∙ held);
     }
 
@@ -96,7 +93,7 @@ repeat_keeps d b clock verdict window bs c h held = after_held d b clock verdict
 -- `EditionsRefused`
 pub editions_refused : EditionsRefused
 editions_refused d b clock verdict window h other =
-    let e : submitted d b clock verdict window ≡ answers.BadImage
+    let e : submitted d b clock verdict window ≡ (Err answers.BadImage)
     = unsound_refused d b clock verdict window h (editions_checked edition2 edition2_ok d (id_of b) other) in
     (ap number_of e, refusal_keeps d b clock verdict window (λ f. omega (arith, ap number_of e, f)))
 
@@ -107,8 +104,8 @@ done_holds : (d b : List ℕ) → AreBytes d → is_sound (check_of d (id_of b))
 done_holds d b bytes = go (check_of d (id_of b)) refl
   where
     go : (v : ImageCheck) → check_of d (id_of b) ≡ v → is_sound v ≡ true → (bs : List Row) × Holds d bs
-    go (Sound n end h) e = λ t. (rows_held d, (check_says edition2 edition2_ok d (id_of b) bytes n end h e).holds)
-    go Unsound e = λ t. absurd (false≢true t)
+    go (Some v) e = λ t. (rows_held d, (check_says edition2 edition2_ok d (id_of b) bytes v.rows v.end v.held e).holds)
+    go None e = λ t. absurd (false≢true t)
 
 -- the ids of what was submitted are of version 7
 done_ids : (d : List ℕ) (bs : List Row) (c : Descriptor) (clock verdict : ℕ) (window : Window) → Holds d bs → AreBytes (encode c) → Formed c
@@ -122,7 +119,7 @@ done_ids d bs c clock verdict window h bytes q z =
 -- `DoneMeans`
 pub done_means : DoneMeans
 done_means d b clock verdict window bytes a z =
-    let p = done_passed d b clock verdict window (number_is (submitted d b clock verdict window) answers.Done z) in
+    let p = done_passed d b clock verdict window (number_is (submitted d b clock verdict window) (Ok tt) z) in
     let r = body_read b a p.reads in
     let w = done_holds d b bytes p.sound in
     let mine : number_of (submitted d (encode r.0) clock verdict window) ≡ 0
@@ -132,8 +129,8 @@ done_means d b clock verdict window bytes a z =
 module _ (d b : List ℕ) (clock verdict : ℕ) (window : Window) (bs : List Row) (h : Holds d bs)
     (z : number_of (submitted d b clock verdict window) ≡ 0) where
   -- the answer is 0
-  done : submitted d b clock verdict window ≡ answers.Done
-  done = number_is (submitted d b clock verdict window) answers.Done z
+  done : submitted d b clock verdict window ≡ (Ok tt)
+  done = number_is (submitted d b clock verdict window) (Ok tt) z
 
   -- under an id that is held, it says that the same bytes are held
   repeat_same : (c : List ℕ) → body_with (id_of b) bs ≡ some c → c ≡ b
@@ -146,7 +143,7 @@ module _ (d b : List ℕ) (clock verdict : ℕ) (window : Window) (bs : List Row
   -- under a new id, it says that there is room beside the rows that are not expired, so that the choice of rows that go ends well
   stored_choice : body_with (id_of b) bs ≡ none → (choice_of edition2 (length d) clock bs (length b)).ok ≡ true
   stored_choice new =
-      let found : check_of d (id_of b) ≡ Sound (length bs) (length (image_of bs)) Missing = check_new d (id_of b) bs h new in
+      let found : check_of d (id_of b) ≡ contents (length bs) (length (image_of bs)) None = check_new d (id_of b) bs h new in
       let p : Passed d b clock = done_passed d b clock verdict window done in
       choice_exactly edition2 edition2_ok d clock bs (row_now b clock)
       ∙ ap (λ (l : List Row). has_room d (unexpired clock l) (row_now b clock)) (sym (rows_named edition2 edition2_ok d bs h))
@@ -161,7 +158,7 @@ module _ (d b : List ℕ) (clock verdict : ℕ) (window : Window) (bs : List Row
       → Holds (after_of d b clock verdict window) (kept_rows ++ (row_now b clock ∷ []))
       × (after_of d b clock verdict window ≡ with_body d kept_rows (row_now b clock))
   stored_last fits new =
-      let found : check_of d (id_of b) ≡ Sound (length bs) (length (image_of bs)) Missing = check_new d (id_of b) bs h new in
+      let found : check_of d (id_of b) ≡ contents (length bs) (length (image_of bs)) None = check_new d (id_of b) bs h new in
       let p : Passed d b clock = done_passed d b clock verdict window done in
       let dated : MomentOk edition2 (row_now b clock) = record { fits = fits } in
       let whole : after_of d b clock verdict window ≡ with_body d kept_rows (row_now b clock)

@@ -1,23 +1,21 @@
 -- What the crates above stand on. A reader of the promises does not need this page.
-use Rattle.std.specs.Prelude.{◌≡◌, Bool, List, ◌⊎◌, ℕ, ◌^◌, ◌≤◌, ◌<◌}
+use Rattle.std.specs.Prelude.{◌≡◌, Bool, List, ◌⊎◌, ℕ, ◌^◌, ◌≤◌, ◌<◌, Ok}
 use Rattle.std.proofs.Math.Option.{none, some}
 use Rattle.octets.specs.Bytes.{AreBytes}
 use Rattle.descriptor_spec.specs.declared.Fields.{Fields}
-use Rattle.descriptor_spec.specs.declared.Reading.TheVariants.{Read}
 use Rattle.descriptor_spec.specs.Model.{Descriptor, encode}
 use Rattle.descriptor_spec.specs.Allowed.{Allowed}
 use Rattle.steps.specs.declared.Window.{Window}
 use Rattle.image_spec.specs.Image.{Row, reading, id_of, body_with}
 use Rattle.image_spec.specs.Choose.{end_of}
 use Rattle.image_spec.specs.Edition2.{Holds}
-use Rattle.submission_spec.specs.declared.Submission.{Submission}
-use Rattle.submission_spec.specs.declared.Submission.TheVariants.{Done}
+use Rattle.submission_spec.specs.Submission.{Submission}
 use Rattle.submission_spec.specs.Submission.{entering, submitted, after_answer, after_of, number_of}
 use Rattle.submission_spec.specs.Promises.{AreVersion7}
 
 -- bytes that are answered with fields where they are submitted are read with them
 abbrev pub EnteringReads : Type 0
-EnteringReads = (b : List ℕ) (f : Fields) → entering b ≡ Read f → reading b ≡ Read f
+EnteringReads = (b : List ℕ) (f : Fields) → entering b ≡ Ok f → reading b ≡ Ok f
 
 -- answers with the same number are the same
 abbrev pub NumbersTell : Type 0
@@ -25,7 +23,7 @@ NumbersTell = (x a : Submission) → number_of x ≡ number_of a → x ≡ a
 
 -- an answer that is not 0 leaves every byte as it was
 abbrev pub RefusedKeeps : Type 0
-RefusedKeeps = (d b : List ℕ) (clock : ℕ) (held : Bool) (a : Submission) → (a ≡ Done → ⊥) → after_answer d b clock held a ≡ d
+RefusedKeeps = (d b : List ℕ) (clock : ℕ) (held : Bool) (a : Submission) → (a ≡ Ok tt → ⊥) → after_answer d b clock held a ≡ d
 
 -- an answer of 0 says that the buffer holds a list of rows, and that what was submitted is the encoding of an allowed descriptor, has its
 -- id, and has ids of version 7

@@ -1,6 +1,7 @@
 -- What is promised of submission, and nothing else. Each statement `NameOfIt` is proved in proofs/Promises.antt as `name_of_it`.
 -- Document 01, "Submission, in this order", as document 02 §5 and §6 amend it.
-use Rattle.std.specs.Prelude.{◌≡◌, ◌↔◌, ◌⊎◌, Bool, true, false, not, ◌&&◌, ◌||◌, List, [], ◌∷◌, ◌++◌, ℕ, ◌+◌, ◌-◌, ◌^◌, ◌≤◌, ◌<◌, length, drop, leb, ltb, eqb}
+use Rattle.std.specs.Prelude.{◌≡◌, ◌↔◌, ◌⊎◌, Bool, true, false, not, ◌&&◌, ◌||◌, List, [], ◌∷◌, ◌++◌, ℕ, ◌+◌, ◌-◌, ◌^◌, ◌≤◌, ◌<◌, length, drop, leb, ltb, eqb, IfSome}
+use Rattle.std.specs.Option.{option_map_or}
 use Rattle.std.proofs.Math.Option.{Option, none, some}
 use Prim.Native.String.{String}
 use Rattle.octets.specs.Bytes.{AreBytes, part, same}
@@ -141,7 +142,7 @@ steps_for (rows rs) (descriptor c) room clock verdict window =
     ∷ step (leb (c.payload.not_after - c.payload.not_before) 7776000) 2
     ∷ step (leb c.payload.not_before (clock + 86400)) 2
     ∷ step (not (eqb verdict 2)) 3
-    ∷ step (leb window.from.0 clock && (not window.bounded || leb clock window.until.0)) 14
+    ∷ step (leb window.from.0 clock && option_map_or (λ until. leb clock until.0) window.until true) 14
     ∷ step (not (eqb verdict 1)) 4
     ∷ step (is_same (body_with c.payload.id rs) (encode c)) 5
     ∷ step (is_held (body_with c.payload.id rs) || room_for room (unexpired clock rs) (new_row (encode c) clock)) 6
@@ -211,7 +212,7 @@ pub record Ready (d : List ℕ) (rs : List Row) (c : Descriptor) (clock : ℕ) (
   pub bytes : AreBytes (encode c)
   pub held : clock < 2 ^ 64
   pub opened : window.from.0 ≤ clock
-  pub lasts : window.bounded ≡ true → clock ≤ window.until.0
+  pub lasts : IfSome window.until (λ until. clock ≤ until.0)
 
 -- Where the signature is good and the steps before pass: if the id is held, the same bytes give 0 and no change, other bytes 5, expired or
 -- not. 6, and no change, if there is no room beside the rows that are not expired. Else the row and body are added last to those that are

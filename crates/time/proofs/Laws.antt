@@ -1,19 +1,17 @@
 -- The laws that the crates above cite (specs/Laws.antt). Assumes nothing.
 use mathlib.Core.Path.{◌≡◌, refl}
-use mathlib.Core.Bool.{Bool, true, false, not, cond}
-use Prim.Native.Nat.{zero, suc, ◌+◌, ◌-◌}
+use mathlib.Core.Bool.{Bool, true, false, cond}
+use Prim.Native.Nat.{ℕ, zero, suc, ◌+◌, ◌-◌}
 use native.Mathlib.Omega.{arith}
-use lib.Dec.{leb, ltb}
+use lib.Dec.{ltb, leb}
 use lib.IntN.{pos, negsuc}
-use borrow.Author.Tests.{ltb-true, ltb-false, le-leb, lt-leb}
+use borrow.Author.Tests.{ltb-true, ltb-false}
+use Rattle.std.specs.Ordering.{is_lt, is_le, nat_cmp}
+use Rattle.std.proofs.lemmas.Bool.Decides.{nat_tests}
 use Rattle.time.specs.Laws.{NotBefore, DifferenceBy}
 
 pub not_before : NotBefore
-not_before a b = go (ltb b a) refl
-  where
-    go : (t : Bool) → ltb b a ≡ t → leb a b ≡ not t
-    go true e = lt-leb a b (ltb-true b a e)
-    go false e = le-leb a b (ltb-false b a e)
+not_before a b = grind (arith, nat_tests)
 
 pub difference_by : DifferenceBy
 difference_by P a zero more less = more (a + zero) (omega arith)
@@ -22,3 +20,13 @@ difference_by P a (suc b) more less = go (ltb a (suc b)) refl
     go : (t : Bool) → ltb a (suc b) ≡ t → P (cond t (negsuc (suc b - suc a)) (pos (a - suc b)))
     go true e = less (suc b - suc a) (omega (arith, ltb-true a (suc b) e))
     go false e = more (a - suc b) (omega (arith, ltb-false a (suc b) e))
+
+-- ---- what the derived order of the units says of their numbers
+
+-- the derived `<` is that of the numbers
+pub lt_is : (a b : ℕ) → is_lt (nat_cmp a b) ≡ ltb a b
+lt_is a b = grind (arith, nat_tests)
+
+-- and the derived `<=`
+pub le_is : (a b : ℕ) → is_le (nat_cmp a b) ≡ leb a b
+le_is a b = grind (arith, nat_tests)

@@ -1,4 +1,2 @@
-pub mod TimeLaws
-pub mod UntilLaws
 pub mod Promises
 pub mod Laws

@@ -8,42 +8,37 @@ ghost use Rattle.uuid_spec.specs.Version7.{is_version7, no_upper, is_variant_dig
 use uuid_spec::sizes::{UUID_SIZE, UUID_TEXT_SIZE};
 
 // Whether b is 16 octets with version 7 and RFC 9562's variant.
+#[tactic(auto, unfolding(uuid_spec::specs::Version7::is_version7))]
 pub fn is_version7(b: &[u8]) -> bool
     ensures { result ≡ is_version7 b.now }
 {
-    if b.len() != UUID_SIZE {
-        return false;
-    }
-    (b[6] / 16 == 7) & (b[8] / 64 == 2)
+    b.len() == UUID_SIZE && b[6] / 16 == 7 && b[8] / 64 == 2
 }
 
-// Whether t has no letter of A-Z.
+// Whether t has no letter of A-Z. There is no way out before the last character, so that many are looked at at once.
+#[tactic(auto, using(crate::proofs::UuidCode::left_next, crate::proofs::UuidCode::left_end))]
 fn no_upper(t: &[u8]) -> bool
     ensures { result ≡ no_upper t.now }
 {
     let mut ok = true;
-    let mut i = 0;
-    while i < t.len() {
-        let c = t[i];
-        ok = ok & !((b'A' <= c) & (c <= b'Z'));
-        i += 1;
+    for c in t {
+        ok &= !c.is_ascii_uppercase();
     }
     ok
 }
 
 // Whether c is a digit whose two high bits are 10.
+#[tactic(auto, unfolding(uuid_spec::specs::Version7::is_variant_digit))]
 fn is_variant_digit(c: u8) -> bool
     ensures { result ≡ is_variant_digit c }
 {
-    ((b'8' <= c) & (c <= b'9')) | ((b'a' <= c) & (c <= b'b'))
+    matches!(c, b'8' | b'9' | b'a' | b'b')
 }
 
 // Whether the UUID text t is in lower case, with version 7 and RFC 9562's variant. That it is a UUID text is not looked at again.
+#[tactic(auto, unfolding(uuid_spec::specs::Version7::is_version7_text))]
 pub fn is_version7_text(t: &[u8]) -> bool
     ensures { result ≡ is_version7_text t.now }
 {
-    if t.len() != UUID_TEXT_SIZE {
-        return false;
-    }
-    no_upper(t) & ((t[14] == b'7') & is_variant_digit(t[19]))
+    t.len() == UUID_TEXT_SIZE && no_upper(t) && t[14] == b'7' && is_variant_digit(t[19])
 }

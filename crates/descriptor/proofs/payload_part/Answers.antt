@@ -4,13 +4,9 @@ use native.Mathlib.Omega.{arith}
 use Rattle.octets.specs.Bytes.{part}
 use Rattle.descriptor.proofs.payload_part.Goals as goal
 
-pub returns-in-Read : goal.returns-in-Read
-returns-in-Read c = rw c.in-Read.is c.part_at.ensures
+pub returns-in-Ok : goal.returns-in-Ok
+returns-in-Ok c = rw c.in-Ok.is c.part_at.ensures
 
-pub returns-in-Structure : goal.returns-in-Structure
+pub returns-in-Err : goal.returns-in-Err
 unfolding part
-returns-in-Structure c = rw c.in-Structure.is (record { inside = omega arith; holds = refl; block = refl; offset = omega arith })
-
-pub returns-in-Validity : goal.returns-in-Validity
-unfolding part
-returns-in-Validity c = rw c.in-Validity.is (record { inside = omega arith; holds = refl; block = refl; offset = omega arith })
+returns-in-Err c = rw c.in-Err.is (record { inside = omega arith; holds = refl; block = refl; offset = omega arith })

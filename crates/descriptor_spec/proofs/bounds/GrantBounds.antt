@@ -19,7 +19,7 @@ use Rattle.resource_spec.proofs.Laws.{pattern_short}
 use Rattle.entries_spec.specs.declared.Kind.TheVariants.{Pattern}
 use Rattle.entries_spec.specs.Keys.{m_read, m_write, m_execute, m_configure, k_modes, k_grants, k_constraints, k_resource_pattern}
 use Rattle.entries_spec.specs.Kinds.{is_kind}
-use Rattle.entries_spec.specs.Value.{one_of}
+use Rattle.entries_spec.specs.Value.{placed, one_of}
 use Rattle.entries_spec.proofs.ValueBounds.{CountTo, count_bounds, keyed_count_bounds, StringTo, keyed_kind_bounds, opt_pairs_on}
 use Rattle.descriptor_spec.specs.Model.{mode_names}
 use Rattle.descriptor_spec.specs.Reader.{has_mode, mode_at, modes_at, grant_at, Sum, more_at, grants_at}
@@ -68,7 +68,7 @@ grant_bounds s at =
     (λ c n i.
     holds_bind (MaskTo (n + length k_modes)) (GrantIn s at) _ _ (modes_bounds s n)
     (λ mask m j.
-    holds_bind (λ v k. (m ≤ k) × (v.size ≤ 8)) (GrantIn s at) _ _ (opt_pairs_on s m k_constraints 8)
+    holds_bind (λ v k. (m ≤ k) × ((placed v).size ≤ 8)) (GrantIn s at) _ _ (opt_pairs_on s m k_constraints 8)
     (λ v k l.
     holds_bind (StringTo s (k + length k_resource_pattern) levels_place) (GrantIn s at) _ _
     (keyed_kind_bounds Pattern levels_place pattern_long s k k_resource_pattern)

@@ -20,7 +20,7 @@ use Rattle.entries_spec.specs.declared.Kind.TheVariants.{Text, Bytes, Terminal, 
 use Rattle.entries_spec.specs.Keys.{k_metadata, k_issued_at, k_issuer_id, k_not_after, k_grantor_id, k_not_before, k_terminal_id, k_descriptor_id}
 use Rattle.entries_spec.specs.Keys.{k_subject_fay_id}
 use Rattle.entries_spec.specs.Kinds.{is_kind}
-use Rattle.entries_spec.specs.Value.{time_at, keyed_at, flag}
+use Rattle.entries_spec.specs.Value.{placed, time_at, keyed_at, flag}
 use Rattle.entries_spec.proofs.ValueBounds.{CountTo, count_bounds, keyed_count_bounds, StringTo, keyed_kind_bounds, opt_kind_on}
 use Rattle.entries_spec.proofs.ValueBounds.{opt_pairs_on}
 use Rattle.descriptor_spec.specs.Allowed.{id_size, longest}
@@ -43,7 +43,7 @@ time_on s at k =
 issue_on : (s : List ℕ) (at : ℕ) → Holds (λ i n. at ≤ n) (issue_at s at)
 unfolding issue_at
 issue_on s at =
-    holds_bind (λ v n. (at ≤ n) × (v.size ≤ 16)) (λ i n. at ≤ n) _ _ (opt_pairs_on s at k_metadata 16)
+    holds_bind (λ v n. (at ≤ n) × ((placed v).size ≤ 16)) (λ i n. at ≤ n) _ _ (opt_pairs_on s at k_metadata 16)
     (λ v n i.
     holds_bind (λ t m. n ≤ m) (λ i n. at ≤ n) _ _ (time_on s n k_issued_at)
     (λ t m j.
@@ -97,7 +97,7 @@ ids_bounds s at =
 fits_lasts : (s : List ℕ) (p : PayloadSeen) → T (payload_fits s p) → p.not_before < p.not_after
 unfolding payload_fits
 fits_lasts s p t =
-    let a = eqb p.keys (8 + (flag p.metadata.there + flag p.grantor.there)) in
+    let a = eqb p.keys (8 + (flag p.metadata + flag p.grantor)) in
     let b = same (part s p.grants.first terminal_size) (part s p.terminal terminal_size) in
     let c = leb p.issued_at p.not_before in
     let d = ltb p.not_before p.not_after in

@@ -1,4 +1,5 @@
 -- What reading hands back of an allowed descriptor, number by number, and the part of its payload. Assumes nothing.
+use Rattle.entries_spec.specs.Value.{placed}
 use mathlib.Core.Path.{◌≡◌, refl, sym, ap, subst}
 use mathlib.Core.List.{List, [], ◌∷◌, ◌++◌}
 use mathlib.Core.Option.{Option, none, some}
@@ -41,7 +42,7 @@ count_of at [] = refl
 count_of at (g ∷ gs) = refl
 
 -- the pairs of metadata
-metadata_count : (at : ℕ) (key : List ℕ) (m : Option (List Pair)) → (opt_pairs_view at key m).size ≡ pairs_in m
+metadata_count : (at : ℕ) (key : List ℕ) (m : Option (List Pair)) → (placed (opt_pairs_view at key m)).size ≡ pairs_in m
 metadata_count at key none = refl
 metadata_count at key (some ps) = refl
 

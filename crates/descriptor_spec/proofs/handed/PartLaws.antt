@@ -1,4 +1,5 @@
 -- Where the texts, the byte strings and the maps of pairs of a descriptor stand in its encoding. Assumes nothing.
+use Rattle.entries_spec.specs.Value.{placed}
 use mathlib.Core.Path.{◌≡◌, refl, sym, subst}
 use mathlib.Core.List.{List, ◌++◌}
 use mathlib.Core.Option.{Option, none, some}
@@ -38,14 +39,14 @@ module _ (s : List ℕ) (at : ℕ) where
 
   -- an optional map of pairs stands behind its key
   pub pairs_stand : (key : List ℕ) (m : Option (List Pair)) (rest : List ℕ) → Has s at (enc_opt key enc_pairs m ++ rest)
-      → StandsIf s (opt_pairs_view at key m).at m
+      → StandsIf s (placed (opt_pairs_view at key m)).at m
   pairs_stand key none rest h = refl
   pairs_stand key (some ps) rest h = has_right s at key (enc_pairs ps) (has_left s at (key ++ enc_pairs ps) rest h)
 
 module _ (s : List ℕ) (at : ℕ) where
   -- an optional text lies behind its key and its head
   text_lies : (key : List ℕ) (g : Option (List ℕ)) (rest : List ℕ) → Has s at (enc_opt key enc_text g ++ rest)
-      → let v = opt_kind_view at key (Text 1 128) g in LiesIf s v.at v.size g
+      → let v = placed (opt_kind_view at key (Text 1 128) g) in LiesIf s v.at v.size g
   text_lies key none rest h = (refl, refl)
   text_lies key (some x) rest h = content_lies s _ 3 x (has_right s at key (enc_text x) (has_left s at (key ++ enc_text x) rest h))
 
@@ -60,7 +61,7 @@ pairs_count (some ps) = refl
 
 module _ (d : Descriptor) where
   -- metadata stands behind the grants
-  pub metadata_stands : StandsIf (encode d) (descriptor_view 0 d).payload.metadata.at d.payload.metadata
+  pub metadata_stands : StandsIf (encode d) (placed (descriptor_view 0 d).payload.metadata).at d.payload.metadata
   metadata_stands = pairs_stand (encode d) _ k_metadata d.payload.metadata _
       (has_left (encode d) _ (issue_bytes (issue_of d.payload)) _ (issue_at_lem d))
 
@@ -74,7 +75,7 @@ module _ (d : Descriptor) where
       content_lies s _ 3 p.issuer (has_right s _ k_issuer_id _ (has_left s _ (k_issuer_id ++ enc_text p.issuer) _ here))
 
   -- grantor_id
-  pub grantor_lies : let v = (descriptor_view 0 d).payload.grantor in LiesIf (encode d) v.at v.size d.payload.grantor
+  pub grantor_lies : let v = placed (descriptor_view 0 d).payload.grantor in LiesIf (encode d) v.at v.size d.payload.grantor
   grantor_lies = text_lies (encode d) _ k_grantor_id d.payload.grantor _
       (has_left (encode d) _ (grantor_bytes (grantor_of d.payload)) _ (grantor_at_lem d))
 

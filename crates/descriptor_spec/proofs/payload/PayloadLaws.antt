@@ -87,7 +87,7 @@ Fits keys gs i g ids =
 
 -- the test of these conditions
 fits_test : (s : List ℕ) (p : PayloadSeen) (k : ℕ) (u t : List ℕ)
-    → flag p.metadata.there + flag p.grantor.there ≡ k → part s p.grants.first terminal_size ≡ u
+    → flag p.metadata + flag p.grantor ≡ k → part s p.grants.first terminal_size ≡ u
     → part s p.terminal terminal_size ≡ t
     → T (payload_fits s p) ↔ ((p.keys ≡ 8 + k) × ((u ≡ t) × ((p.issued_at ≤ p.not_before) × (p.not_before < p.not_after))))
 unfolding payload_fits

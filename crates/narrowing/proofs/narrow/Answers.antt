@@ -1,41 +1,30 @@
 -- `narrow` meets its contract.
-use mathlib.Core.Path.{sym, ◌∙◌}
-use native.Mathlib.Omega.{arith}
+use Rattle.std.proofs.Common.{◌∙◌}
 use Rattle.octets.proofs.BytesLaws.{are_bytes}
-use Rattle.narrowing.proofs.NarrowCode.{terminal_room, grants_few, narrow_both, narrow_structure, narrow_validity, narrow_no_parent}
+use Rattle.narrowing.proofs.NarrowCode.{terminal_room, grants_few, narrow_both, narrow_child, narrow_no_parent}
 use Rattle.narrowing.proofs.narrow.Goals as goal
+
+pub returns-in_default : goal.returns-in_default
+returns-in_default c = narrow_no_parent _ _ _ c.in_default.ensures
 
 pub compared-requires : goal.compared-requires
 compared-requires c =
-    let a = c.args in (
-      terminal_room _ _ (are_bytes a.parent.now c.type_inv.parent)
-          (sym c.in-Read.is ∙ c.read_descriptor.ensures),
-      terminal_room _ _ (are_bytes a.child.now c.type_inv.child)
-          (sym c.in-Read-read_descriptor.is ∙ c.read_descriptor-in-Read.ensures),
-      grants_few _ _ (are_bytes a.parent.now c.type_inv.parent)
-          (sym c.in-Read.is ∙ c.read_descriptor.ensures),
+    let s = are_bytes _ c.type_inv.parent in
+    let t = are_bytes _ c.type_inv.child in (
+      terminal_room _ _ s c.in-Ok.ensures,
+      terminal_room _ _ t c.in-Ok-read_descriptor.ensures,
+      grants_few _ _ s c.in-Ok.ensures,
     )
 
-pub returns-in-Read-read_descriptor : goal.returns-in-Read-read_descriptor
-returns-in-Read-read_descriptor c =
-    let a = c.args in
+pub returns-in-Ok-read_descriptor : goal.returns-in-Ok-read_descriptor
+returns-in-Ok-read_descriptor c =
     c.compared.ensures
-    ∙ narrow_both _ _ _ _ (are_bytes a.parent.now c.type_inv.parent)
-    (are_bytes a.child.now c.type_inv.child) (sym c.in-Read.is ∙ c.read_descriptor.ensures)
-    (sym c.in-Read-read_descriptor.is ∙ c.read_descriptor-in-Read.ensures)
+    ∙ narrow_both _ _ _ _ (are_bytes _ c.type_inv.parent) (are_bytes _ c.type_inv.child) c.in-Ok.ensures c.in-Ok-read_descriptor.ensures
 
-pub returns-in-Structure-read_descriptor : goal.returns-in-Structure-read_descriptor
-returns-in-Structure-read_descriptor c =
-    narrow_structure _ _ _ (sym c.in-Read.is ∙ c.read_descriptor.ensures)
-    (sym c.in-Structure-read_descriptor.is ∙ c.read_descriptor-in-Read.ensures)
+pub returns-in-Err-Structure : goal.returns-in-Err-Structure
+returns-in-Err-Structure c =
+    rw c.in-Err-Structure.field-0-is at (narrow_child _ _ _ _ c.in-Ok.ensures c.in-Err-Structure.ensures)
 
-pub returns-in-Validity-read_descriptor : goal.returns-in-Validity-read_descriptor
-returns-in-Validity-read_descriptor c =
-    narrow_validity _ _ _ (sym c.in-Read.is ∙ c.read_descriptor.ensures)
-    (sym c.in-Validity-read_descriptor.is ∙ c.read_descriptor-in-Read.ensures)
-
-pub returns-in-Structure : goal.returns-in-Structure
-returns-in-Structure c = narrow_no_parent _ _ _ (omega arith) (sym c.in-Structure.is ∙ c.read_descriptor.ensures)
-
-pub returns-in-Validity : goal.returns-in-Validity
-returns-in-Validity c = narrow_no_parent _ _ _ (omega arith) (sym c.in-Validity.is ∙ c.read_descriptor.ensures)
+pub returns-in-Err-Validity : goal.returns-in-Err-Validity
+returns-in-Err-Validity c =
+    rw c.in-Err-Validity.field-0-is at (narrow_child _ _ _ _ c.in-Ok.ensures c.in-Err-Validity.ensures)

@@ -1,21 +1,17 @@
 -- `make_room` meets its contract.
-use mathlib.Core.Path.{sym}
 use native.Mathlib.Omega.{arith}
 use Rattle.image_spec.proofs.Laws.{edition2_ok}
 use Rattle.removal.proofs.RoomCode.{room_many, room_past, room_long, lent, made_of}
 use Rattle.removal.proofs.make_room.Goals as goal
+use Rattle.removal.proofs.make_room.Goals.{then-rows-via-then-rows, then-rows-via-else-rows+then-image-end}
+use Rattle.removal.proofs.make_room.Goals.{then-rows-via-else-rows+else-image-end+then-more-gt-LONGEST}
 
 pub returns-then-rows : goal.returns-then-rows
-returns-then-rows c = room_many _ _ _ _ _ _ c.if-rows.true
-
-pub returns-then-image-end : goal.returns-then-image-end
-returns-then-image-end c = room_past _ _ _ _ _ _ c.if-image-end.true
-
-pub returns-then-more-gt-LONGEST : goal.returns-then-more-gt-LONGEST
-returns-then-more-gt-LONGEST c = room_long _ _ _ _ _ _ c.if-more-gt-LONGEST.true
-
-pub slice_bounds-room_by-end : goal.slice_bounds-room_by-end
-slice_bounds-room_by-end c = sym (lent c.args.rows 1024 (omega arith))
+returns-then-rows c = elim c.then-rows.branch [
+  | then-rows-via-then-rows w ↦ room_many _ _ _ _ _ _ w.if-rows.true
+  | then-rows-via-else-rows+then-image-end w ↦ room_past _ _ _ _ _ _ w.if-image-end.true
+  | then-rows-via-else-rows+else-image-end+then-more-gt-LONGEST w ↦ room_long _ _ _ _ _ _ w.if-more-gt-LONGEST.true
+]
 
 pub room_by-requires : goal.room_by-requires
 room_by-requires c =

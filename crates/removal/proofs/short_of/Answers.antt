@@ -1,9 +1,8 @@
 -- `short_of` meets its contract.
-use Rattle.removal.proofs.RoomCode.{short_none, short_some}
+use native.Mathlib.Omega.{arith}
+use Rattle.image_spec.specs.Choose.{short_of}
 use Rattle.removal.proofs.short_of.Goals as goal
 
-pub returns-then-need-room : goal.returns-then-need-room
-returns-then-need-room c = short_none _ _ _ _ c.requires.1 c.if-need-room.true
-
 pub returns : goal.returns
-returns c = short_some _ _ _ _ c.requires.1 c.if-need-room.false
+unfolding short_of
+returns c = omega (arith, c.saturating_sub.ensures, c.requires.1)

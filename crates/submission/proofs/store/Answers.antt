@@ -2,14 +2,12 @@
 use Rattle.submission.proofs.SubmitCode.{store_fits, store_removes}
 use Rattle.submission.proofs.store.Goals as goal
 
-pub returns-in-Done : goal.returns-in-Done
-returns-in-Done c =
+pub returns-in-Ok : goal.returns-in-Ok
+returns-in-Ok c =
     let x = c.args in
-    store_fits x.image.now x.body.now x.rows x.end x.id x.mask x.clock.0 _ _ c.add_body.ensures
-    c.in-Done.is
+    store_fits x.image.now x.body.now x.place x.clock.0 _ _ c.add_body.ensures _ c.in-Ok.is
 
-pub returns-in-Full : goal.returns-in-Full
-returns-in-Full c =
+pub returns-in-Err : goal.returns-in-Err
+returns-in-Err c =
     let x = c.args in
-    store_removes x.image.now x.body.now x.rows x.end x.id x.mask x.clock.0 _ _ c.add_body.ensures
-    c.in-Full.is _ _ c.store_after_removal.ensures
+    store_removes x.image.now x.body.now x.place x.clock.0 _ _ c.add_body.ensures _ c.in-Err.is _ _ c.store_after_removal.ensures

@@ -1,8 +1,13 @@
--- `ascii8` meets its contract: the eight tests are those of `ascii_at`.
-use native.Mathlib.Nat.{add-zero}
+-- `ascii8` meets its contract.
+use mathlib.Core.Path.{refl}
+use native.Mathlib.Numerals.{add-one}
 use Rattle.cbor_item.specs.Code.{ascii_at}
 use Rattle.cbor_item.proofs.utf8.ascii8.Goals as goal
 
-pub returns : goal.returns
+pub loop-k-init : goal.loop-k-init
 unfolding ascii_at
-returns c = rw add-zero
+loop-k-init c = refl
+
+pub loop-k-preserved : goal.loop-k-preserved
+unfolding ascii_at
+loop-k-preserved c = rw (add-one, c.loop-k.invariant)

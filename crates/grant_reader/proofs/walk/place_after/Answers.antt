@@ -3,8 +3,8 @@ use Rattle.std.proofs.Common.{sym}
 use Rattle.grant_reader.proofs.WalkLaws.{after_got, after_none}
 use Rattle.grant_reader.proofs.walk.place_after.Goals as goal
 
-pub returns-in-IsGrant : goal.returns-in-IsGrant
-returns-in-IsGrant c = sym (after_got _ _ _ _ c.in-IsGrant.ensures)
+pub returns-in-Some : goal.returns-in-Some
+returns-in-Some c = sym (after_got _ _ _ _ c.in-Some.ensures)
 
-pub returns-in-NoGrant : goal.returns-in-NoGrant
-returns-in-NoGrant c = sym (after_none _ _ c.in-NoGrant.ensures)
+pub returns-in-None : goal.returns-in-None
+returns-in-None c = sym (after_none _ _ c.in-None.ensures)

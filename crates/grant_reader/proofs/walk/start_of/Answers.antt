@@ -2,11 +2,8 @@
 use Rattle.grant_reader.proofs.WalkLaws.{starts}
 use Rattle.grant_reader.proofs.walk.start_of.Goals as goal
 
-pub returns-in-Read : goal.returns-in-Read
-returns-in-Read c = starts _ c.read_descriptor.ensures c.in-Read.is
+pub returns-in-Ok : goal.returns-in-Ok
+returns-in-Ok c = starts _ c.read_descriptor.ensures c.in-Ok.is
 
-pub returns-in-Structure : goal.returns-in-Structure
-returns-in-Structure c = starts _ c.read_descriptor.ensures c.in-Structure.is
-
-pub returns-in-Validity : goal.returns-in-Validity
-returns-in-Validity c = starts _ c.read_descriptor.ensures c.in-Validity.is
+pub returns-in-Err : goal.returns-in-Err
+returns-in-Err c = starts _ c.read_descriptor.ensures c.in-Err.is

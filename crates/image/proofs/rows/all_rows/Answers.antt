@@ -1,29 +1,23 @@
 -- `all_rows` meets its contract.
-use mathlib.Core.Path.{refl, sym, ap, ◌∙◌, subst}
-use Prim.Native.Nat.{ℕ, ◌+◌, ◌≤◌, ◌<◌, ◌^◌}
+use mathlib.Core.Bool.{Bool}
+use mathlib.Core.Path.{◌≡◌, refl, sym, ap, ◌∙◌}
+use Prim.Native.Nat.{◌+◌, ◌-◌, ◌≤◌}
 use native.Mathlib.Omega.{arith}
 use lib.ListN.{length}
 use Rattle.descriptor_spec.specs.Allowed.{id_size}
-use Rattle.image_spec.specs.Check.{check_answer}
-use Rattle.image.specs.Code.{row_read, slots}
+use Rattle.image_spec.specs.Check.{held_with, check_answer}
 use Rattle.image_spec.proofs.Laws.{rows_in_order, row_next}
 use Rattle.image.proofs.RowsCode.{row_inside, rows_stop, rows_done, rows_begin}
-use Rattle.image.proofs.SlotCode.{slot_below, marked_begin, marked_more, marked_fresh}
+use Rattle.image.proofs.SlotCode.{marked_begin, marked_more, marked_fresh}
 use Rattle.image.proofs.CheckCode.{rows_kept}
 use Rattle.image.proofs.rows.all_rows.Goals as goal
+use Rattle.image.proofs.rows.all_rows.Goals.{then-same_bytes, else-same_bytes}
 
 pub loop-i-init : goal.loop-i-init
-loop-i-init c = (omega arith, omega arith, rows_begin _ _ _ _ _ _ _ c.row_place-at.ensures.value, marked_begin _ _ _ refl)
+loop-i-init c = (omega arith, rows_begin _ _ _ _ _ _ _ (c.place-at.ensures.in_image (c.requires.0, omega arith)), marked_begin _ _ _ refl)
 
 pub slot_of-slot-requires : goal.slot_of-slot-requires
-slot_of-slot-requires c = (let the_inside : c.row_place-r.result + id_size ≤ length c.args.s.now = let p = c.requires in
-    row_inside _ p.0 _ _ _ _ c.loop-i-test.true c.row_place-r.ensures.value p.2 in the_inside)
-
-pub bounds-seen-slot : goal.bounds-seen-slot
-bounds-seen-slot c = (let the_slot_fits : c.slot_of-slot.result < slots = subst (λ (n : ℕ). n < slots) (sym c.slot_of-slot.ensures) (slot_below _ _) in the_slot_fits)
-
-pub bounds-seen-slot-in-loop-i : goal.bounds-seen-slot-in-loop-i
-bounds-seen-slot-in-loop-i c = (let the_slot_fits : c.slot_of-slot.result < slots = subst (λ (n : ℕ). n < slots) (sym c.slot_of-slot.ensures) (slot_below _ _) in the_slot_fits)
+slot_of-slot-requires c = let p = c.requires in row_inside _ p.0 _ _ _ _ c.loop-i-test.true (c.place-r.ensures.in_image (c.requires.0, omega arith)) p.2
 
 pub row_at-requires : goal.row_at-requires
 row_at-requires c =
@@ -31,50 +25,41 @@ row_at-requires c =
       p.0,
       omega arith,
       omega (arith, rows_in_order c.args.layout c.loop-i.i c.args.n c.loop-i-test.true, p.2),
-      c.loop-i.invariant.1,
-      marked_fresh _ p.0 _ _ _ _ _ _ c.loop-i.invariant.3 c.loop-i-test.true p.2 c.row_place-r.ensures.value
+      c.loop-i.invariant.0,
+      marked_fresh _ p.0 _ _ _ _ _ _ c.loop-i.invariant.2 c.loop-i-test.true p.2 (c.place-r.ensures.in_image (c.requires.0, omega arith))
           c.slot_of-slot.ensures,
     )
 
-pub overflow_add-r : goal.overflow_add-r
-overflow_add-r c = omega (
-  arith,
-  (let the_inside : c.row_place-r.result + id_size ≤ length c.args.s.now = let p = c.requires in
-      row_inside _ p.0 _ _ _ _ c.loop-i-test.true c.row_place-r.ensures.value p.2 in the_inside),
-)
-
 pub slice_bounds-same_bytes-end : goal.slice_bounds-same_bytes-end
-slice_bounds-same_bytes-end c = omega (
-  arith,
-  (let the_inside : c.row_place-r.result + id_size ≤ length c.args.s.now = let p = c.requires in
-      row_inside _ p.0 _ _ _ _ c.loop-i-test.true c.row_place-r.ensures.value p.2 in the_inside),
-)
+slice_bounds-same_bytes-end c =
+    let p = c.requires in
+    let inside : c.place-r.result + id_size ≤ length c.args.s.now
+    = row_inside _ p.0 _ _ _ _ c.loop-i-test.true (c.place-r.ensures.in_image (c.requires.0, omega arith)) p.2 in
+    omega arith
 
-pub overflow_sub-next : goal.overflow_sub-next
-overflow_sub-next c =
-    omega (arith, (row_next _ _ _ _ _ _ (sym (ap row_read c.in-IsRow.is) ∙ c.row_at.ensures)).0)
+pub overflow_sub-held : goal.overflow_sub-held
+overflow_sub-held c = omega (arith, (row_next _ _ _ _ _ _ c.in_ok-fields.ensures).0)
 
-pub returns-in-NoRow : goal.returns-in-NoRow
-returns-in-NoRow c =
-    let l = c.loop-i in
-    sym (ap (check_answer c.args.n)
-    (l.invariant.2 ∙ rows_stop _ _ _ _ _ _ _ c.loop-i-test.true (sym (ap row_read c.in-NoRow.is) ∙ c.row_at.ensures)))
-
-pub overflow_add-i : goal.overflow_add-i
-overflow_add-i c = record { fits = (let the_next_fits : c.loop-i.i + 1 < 2 ^ 64 = omega arith in the_next_fits) }
+pub returns-in_err-fields : goal.returns-in_err-fields
+returns-in_err-fields c =
+    c.from_residual.ensures ∙ sym (ap (check_answer c.args.n)
+    (c.loop-i.invariant.1 ∙ rows_stop _ _ _ _ _ _ _ c.loop-i-test.true c.in_err-fields.ensures))
 
 pub loop-i-preserved : goal.loop-i-preserved
 loop-i-preserved c =
     let l = c.loop-i in
-    let e = sym (ap row_read c.in-IsRow.is) ∙ c.row_at.ensures in (
-      omega arith,
-      (row_next _ _ _ _ _ _ e).1,
-      l.invariant.2 ∙ rows_kept _ _ _ _ _ _ _ _ _ _ _ _ c.loop-i-test.true e
-          c.row_place-r.ensures.value c.same_bytes-hit.ensures c.keep-held.ensures,
-      marked_more _ _ _ _ _ _ l.invariant.3 c.row_place-r.ensures.value c.slot_of-slot.ensures,
+    let f = c.in_ok-fields in
+    let kept : c.if-same_bytes.held ≡ held_with c.same_bytes.result l.held l.i l.at (f.next - l.at) f.fields
+    = elim c.if-same_bytes.branch [
+      | then-same_bytes w ↦ w.held-is ∙ sym (ap (λ (b : Bool). held_with b l.held l.i l.at (f.next - l.at) f.fields) w.if-same_bytes.true)
+      | else-same_bytes w ↦ w.held-is ∙ sym (ap (λ (b : Bool). held_with b l.held l.i l.at (f.next - l.at) f.fields) w.if-same_bytes.false)
+    ] in (
+      (row_next _ _ _ _ _ _ f.ensures).1,
+      l.invariant.1 ∙ rows_kept _ _ _ _ _ _ _ _ _ _ _ _ c.loop-i-test.true f.ensures (c.place-r.ensures.in_image (c.requires.0, omega arith)) c.same_bytes.ensures kept,
+      marked_more _ _ _ _ _ _ l.invariant.2 (c.place-r.ensures.in_image (c.requires.0, omega arith)) c.slot_of-slot.ensures,
     )
 
 pub returns : goal.returns
 returns c =
     let l = c.loop-i in
-    sym (ap (check_answer c.args.n) (l.invariant.2 ∙ rows_done _ _ _ _ _ _ _ (omega arith)))
+    sym (ap (check_answer c.args.n) (l.invariant.1 ∙ rows_done _ _ _ _ _ _ _ (omega arith)))

@@ -12,5 +12,5 @@ returns-then-marked c =
     let a = c.args in
     c.id_among.ensures ∙ ap (λ (x : List ℕ). id_among a.layout a.s.now x a.i) (lent_part a.s.now a.r id_size)
 
-pub returns : goal.returns
-returns c = sym (c.requires.4 c.if-marked.false)
+pub returns-else-marked : goal.returns-else-marked
+returns-else-marked c = c.if-marked.false ∙ sym (c.requires.4 c.if-marked.false)

@@ -1,17 +1,18 @@
 -- `is_zero` meets its contract.
-use native.Mathlib.Omega.{arith}
-use Rattle.image.proofs.CheckCode.{zero_none, zero_more, zero_not, zero_all}
+use mathlib.Core.Path.{◌∙◌}
+use mathlib.Core.List.{List}
+use Prim.Native.Nat.{ℕ, ◌+◌, ◌-◌}
+use lib.ListN.{take, drop}
+use lib.Dec.{eqb}
+use Rattle.std.proofs.Common.{rules, tests}
+use Rattle.std.proofs.lemmas.Iterator.{YieldsList-from_slice}
+use Rattle.std.proofs.lemmas.Iterator.Search.{all_from_yields_List}
+use Rattle.image.proofs.CheckCode.{zeros_are}
 use Rattle.image.proofs.rows.is_zero.Goals as goal
 
-pub loop-i-init : goal.loop-i-init
-loop-i-init c = (omega arith, zero_none _ _)
-
-pub returns-then-s-at-ne0 : goal.returns-then-s-at-ne0
-returns-then-s-at-ne0 c =
-    zero_not _ _ _ _ c.loop-i-test.true c.if-s-at-ne0.true
-
-pub loop-i-preserved : goal.loop-i-preserved
-loop-i-preserved c = (omega arith, zero_more _ _ _ c.loop-i.invariant.1 c.if-s-at-ne0.false)
-
 pub returns : goal.returns
-returns c = let l = c.loop-i in zero_all _ _ _ _ l.invariant.0 (omega arith) l.invariant.1
+returns c =
+    let a = c.args in
+    let bytes : List ℕ = take (a.at + a.n - a.at) (drop a.at a.s.now) in
+    all_from_yields_List (λ b. eqb b 0) _ _ _ c.all.ensures.ran (YieldsList-from_slice bytes cc) (λ x b q k. search (rules, tests))
+    ∙ zeros_are _ _ _ c.requires

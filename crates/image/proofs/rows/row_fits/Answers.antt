@@ -2,11 +2,8 @@
 use mathlib.Core.Bool.{not}
 use mathlib.Core.Path.{ap}
 use native.Mathlib.Omega.{arith}
-use Rattle.image.proofs.CheckCode.{fits_not, fits_is}
+use Rattle.image.proofs.CheckCode.{fits_is}
 use Rattle.image.proofs.rows.row_fits.Goals as goal
-
-pub returns-then-not-same_bytes : goal.returns-then-not-same_bytes
-returns-then-not-same_bytes c = fits_not _ _ _ _ _ _ c.same_bytes.ensures (ap not c.if-not-same_bytes.true)
 
 pub returns : goal.returns
 returns c =

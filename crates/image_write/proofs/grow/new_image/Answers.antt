@@ -7,6 +7,4 @@ pub returns-then-d-lt-HEADER_SIZE : goal.returns-then-d-lt-HEADER_SIZE
 returns-then-d-lt-HEADER_SIZE c = new_short _ _ (omega arith)
 
 pub returns : goal.returns
-returns c =
-    new_done _ _ _ _ _ _ (omega arith) c.put_number.ensures c.put_number-2.ensures c.put_number-3.ensures
-    c.put_number-4.ensures
+returns c = new_done _ _ _ (omega arith) c.put_header.ensures

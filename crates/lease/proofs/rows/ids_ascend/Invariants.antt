@@ -1,10 +1,6 @@
--- `ids_ascend` meets its contract. The rows from row i on have different ids, of which none is below the least; the measure is the number
--- of rows that are left.
+-- The rows from row i on have different ids, of which none is below the least.
 use Rattle.lease.proofs.IdCode.{Ascends}
 use Rattle.lease.proofs.rows.ids_ascend.Given as goal
 
 abbrev pub invariant-loop-i : goal.invariant-loop-i
-invariant-loop-i l = Ascends l.table l.n l.i l.least_high l.least_low
-
-abbrev pub decreases-loop-i : goal.decreases-loop-i
-decreases-loop-i l = l.i
+invariant-loop-i l = Ascends l.table l.n l.i l.least

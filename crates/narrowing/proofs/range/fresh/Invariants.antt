@@ -1,13 +1,11 @@
 -- `fresh` meets its contract.
-use mathlib.Core.Path.{◌≡◌}
-use Prim.Native.Nat.{◌+◌, ◌≤◌}
-use lib.ListN.{length}
+use Rattle.std.proofs.Common.{◌≡◌, ◌+◌, ◌≤◌, length}
 use Rattle.narrowing.proofs.CoverCode.{fresh_of}
 use Rattle.narrowing.proofs.range.fresh.Given as goal
 
--- the rest, after e "*", decides as the whole
-abbrev pub invariant-loop-rest : goal.invariant-loop-rest
-invariant-loop-rest l = (l.e + length l.rest ≤ length l.q) × (fresh_of 0 l.q ≡ fresh_of l.e l.rest)
+-- the rest, after as many "*" as were taken, decides as the whole
+abbrev pub invariant-loop-next : goal.invariant-loop-next
+invariant-loop-next l = (l.taken + length l.rest ≤ length l.q) × (fresh_of 0 l.q ≡ fresh_of l.taken l.rest)
 
-abbrev pub decreases-loop-rest : goal.decreases-loop-rest
-decreases-loop-rest l = length l.rest
+abbrev pub decreases-loop-next : goal.decreases-loop-next
+decreases-loop-next l = length l.rest

@@ -1,31 +1,20 @@
--- `lowest` meets its contract. The invariant: the search from the mode on answers what the whole search does. The measure: the modes
--- left.
-use mathlib.Core.Bool.{not}
-use mathlib.Core.Path.{refl, sym, ◌∙◌, ap}
-use native.Mathlib.Omega.{arith}
-use Rattle.narrowing.proofs.SearchCode.{lowest_skip, lowest_hit, lowest_miss, lowest_end, has_of, lacks_of}
+-- `lowest` meets its contract.
+use Rattle.std.proofs.Common.{sym, ◌∙◌}
+use Rattle.narrowing.proofs.SearchCode.{lowest_skip, lowest_hit, lowest_miss, lowest_end}
 use Rattle.narrowing.proofs.search.lowest.Goals as goal
-use Rattle.narrowing.proofs.search.lowest.Goals.{then-not-lacks+else-k-to, else-not-lacks}
+use Rattle.narrowing.proofs.search.lowest.Goals.{then-has_mode+in_default, else-has_mode}
 
-pub loop-mode-init : goal.loop-mode-init
-loop-mode-init c = (omega arith, refl)
-
-pub returns-then-k-to : goal.returns-then-k-to
-returns-then-k-to c =
-    sym (c.loop-mode.invariant.1
-    ∙ lowest_hit _ _ _ _ _ _ c.loop-mode-test.true (has_of c.lacks.ensures (ap not c.if-not-lacks.true))
-    c.least_lacking-k.ensures c.if-k-to.true)
+pub returns-in-Some : goal.returns-in-Some
+returns-in-Some c =
+    sym (c.loop-mode.invariant ∙ lowest_hit _ _ _ _ _ c.loop-mode-test.true (sym c.if-has_mode.ensures) c.in-Some.ensures)
 
 pub loop-mode-preserved : goal.loop-mode-preserved
-loop-mode-preserved c = (
-  omega arith,
-  c.loop-mode.invariant.1
-      ∙ elim c.if-not-lacks.branch [
-        | then-not-lacks+else-k-to w ↦ lowest_miss _ _ _ _ _ _ c.requires.0 c.loop-mode-test.true
-            (has_of c.lacks.ensures (ap not w.if-not-lacks.true)) w.least_lacking-k.ensures w.if-k-to.false
-        | else-not-lacks w ↦ lowest_skip _ _ _ _ _ c.loop-mode-test.true (lacks_of c.lacks.ensures (ap not w.if-not-lacks.false))
-      ],
-)
+loop-mode-preserved c =
+    c.loop-mode.invariant
+    ∙ elim c.if-has_mode.branch [
+      | then-has_mode+in_default w ↦ lowest_miss _ _ _ _ _ c.loop-mode-test.true (sym w.if-has_mode.ensures) w.in_default.ensures
+      | else-has_mode w ↦ lowest_skip _ _ _ _ _ c.loop-mode-test.true (sym w.if-has_mode.ensures)
+    ]
 
 pub returns : goal.returns
-returns c = sym (c.loop-mode.invariant.1 ∙ lowest_end _ _ _ _ _ c.loop-mode-test.false)
+returns c = sym (c.loop-mode.invariant ∙ lowest_end _ _ _ _ _ c.loop-mode-test.false)

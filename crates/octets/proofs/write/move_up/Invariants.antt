@@ -1,12 +1,8 @@
--- `move_up` meets its contract. The invariant: the bytes from i up to `to` are moved. The measure is i.
+-- `move_up` meets its contract. The invariant: the bytes from i up to `to` are moved.
 use mathlib.Core.Path.{◌≡◌}
 use Prim.Native.Nat.{◌≤◌}
-use lib.ListN.{length}
 use Rattle.octets.specs.Write.{moved}
 use Rattle.octets.proofs.write.move_up.Given as goal
 
 abbrev pub invariant-loop-i : goal.invariant-loop-i
-invariant-loop-i l = (l.i ≤ l.to) × (l.from ≤ l.i) × (l.d ≡ moved l.initial.d l.i l.to l.by) × (length l.d ≡ length l.initial.d)
-
-abbrev pub decreases-loop-i : goal.decreases-loop-i
-decreases-loop-i l = l.i
+invariant-loop-i l = (l.from ≤ l.i) × (l.d ≡ moved l.initial.d l.i l.to l.by)

@@ -7,9 +7,6 @@ use Rattle.removal.proofs.choose.choose.Given as goal
 
 abbrev pub invariant-loop-removed : goal.invariant-loop-removed
 invariant-loop-removed l =
-    (l.removed ≤ length l.initial.marks) × (length l.marks ≡ length l.initial.marks) × (l.freed ≤ l.removed * 4294968320)
+    (length l.marks ≡ length l.initial.marks) × (l.freed ≤ l.removed * 4294968320)
     × (chosen l.layout (ask_at l.layout l.d (length l.initial.marks) l.short) (length l.initial.marks) l.initial.marks 0 0
     ≡ chosen l.layout (ask_at l.layout l.d (length l.initial.marks) l.short) (length l.initial.marks - l.removed) l.marks l.removed l.freed)
-
-abbrev pub decreases-loop-removed : goal.decreases-loop-removed
-decreases-loop-removed l = length l.initial.marks - l.removed

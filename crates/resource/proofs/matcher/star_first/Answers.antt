@@ -1,13 +1,11 @@
 -- `star_first` meets its contract.
-use mathlib.Core.Path.{sym}
-use Rattle.resource.proofs.FirstLevelLaws.{star_none, star_one, star_two}
+use mathlib.Core.Path.{sym, ◌∙◌}
+use Rattle.resource.proofs.FirstLevelLaws.{star_whole, star_other}
 use Rattle.resource.proofs.matcher.star_first.Goals as goal
 
-pub returns-then-p-eq0 : goal.returns-then-p-eq0
-returns-then-p-eq0 c = sym (star_none _ c.if-p-eq0.true)
+pub returns-then-eq : goal.returns-then-eq
+returns-then-eq c = c.if-eq.true ∙ star_whole _ (sym (rw c.as_slice.ensures at c.eq.ensures) ∙ c.if-eq.true)
 
-pub returns-then-p-eq1 : goal.returns-then-p-eq1
-returns-then-p-eq1 c = sym (star_one _ c.if-p-eq1.true)
-
-pub returns : goal.returns
-returns c = sym (star_two _ c.if-p-eq1.false)
+pub returns-else-eq : goal.returns-else-eq
+returns-else-eq c =
+    c.starts_with.ensures.value ∙ star_other _ (sym (rw c.as_slice.ensures at c.eq.ensures) ∙ c.if-eq.false)

@@ -1,8 +1,0 @@
--- `keep` meets its contract.
-use Rattle.image.proofs.rows.keep.Goals as goal
-
-pub returns-then-hit : goal.returns-then-hit
-returns-then-hit c = rw c.if-hit.true
-
-pub returns : goal.returns
-returns c = rw c.if-hit.false

@@ -7,27 +7,37 @@ ghost use Rattle.match_lines_spec.specs.Block.{end_of, progress_of, output_of, b
 use crate::line::verdict_if;
 use match_lines_spec::{Progress, Verdict};
 
-// A verdict's line.
-fn line_of(v: Verdict) -> &'static [u8]
-    ensures { result.now ≡ verdict_line v }
+// Writes a text at a place of `out` that has room for it.
+fn store(out: &mut [u8], at: usize, text: &[u8])
+    requires { at + length text.now ≤ length out.old }
+    ensures { out.new ≡ over out.old at text.now }
 {
-    match v {
-        Verdict::IsYes => b"yes\n",
-        Verdict::IsNo => b"no\n",
-        Verdict::IsBad => b"bad\n",
+    for i in 0..text.len() {
+        out[at + i] = text[i];
     }
 }
 
-// Writes a verdict's line at a place of `out`, and answers the place after it.
-#[tactic(auto, unfolding(octets::specs::Write::over))]
+// Writes a verdict's line at a place of `out`, and answers the place after it. Each line is a text of a length that the compiler knows, so
+// that it is stored at once, and no call copies it.
 fn put(out: &mut [u8], at: usize, v: Verdict) -> usize
     requires { at + 4 ≤ length out.old }
     ensures place { result ≡ at + length (verdict_line v) }
     ensures holds { out.new ≡ over out.old at (verdict_line v) }
 {
-    let line = line_of(v);
-    out[at..at + line.len()].copy_from_slice(line);
-    at + line.len()
+    match v {
+        Verdict::IsYes => {
+            store(out, at, b"yes\n");
+            at + 4
+        }
+        Verdict::IsNo => {
+            store(out, at, b"no\n");
+            at + 3
+        }
+        Verdict::IsBad => {
+            store(out, at, b"bad\n");
+            at + 4
+        }
+    }
 }
 
 // The end of a block whose last line begins at `from`.

@@ -1,14 +1,16 @@
 -- Laws of the loop of `match_levels`, which takes the first levels off two texts until they are the last: what a step of first levels
 -- says of the places, for any two texts, and of the matching of all, where the second has no "*". Assumes nothing.
-use Rattle.std.proofs.Common.{◌≡◌, ℕ, ◌+◌, ◌-◌, ◌<◌, ◌≤◌, Bool, true, false, cond, Option, Some, None, List, length, take, drop, refl, sym, subst, ◌∙◌, arith}
+use Rattle.std.proofs.Common.{◌≡◌, ℕ, suc, ◌+◌, ◌-◌, ◌<◌, ◌≤◌, Bool, true, false, cond, Option, Some, None, List, length, take, drop, refl, sym, ap, subst, ◌∙◌, arith}
 use native.Mathlib.Nat.{zero-add}
+use lib.ListN.{length-take, length-drop}
+use lib.Seq.{take-length}
 use Rattle.std.specs.Option.{option_or}
 use Rattle.octets.specs.Scan.{without}
 use Rattle.resource_spec.specs.Level.{is_deep}
 use Rattle.resource_spec.specs.Text.{levels_named}
 use Rattle.resource.specs.declared.LevelStep.{LevelStep}
 use Rattle.resource.specs.declared.LevelStep.TheVariants.{Finish, Next}
-use Rattle.resource.specs.Code.{step_of, match_step, answer_of}
+use Rattle.resource.specs.Code.{step_of, match_step, by_steps, levels_by_steps, answer_of}
 use Rattle.resource.specs.Laws.{FirstLevels, Stepped, Later}
 use Rattle.resource.proofs.FirstLevelLaws.{first_levels, next_decides, one_name}
 use Rattle.resource.proofs.NameFirstCode.{match_step_tells}
@@ -48,6 +50,10 @@ module _ (p r : List ℕ) where
 abbrev rest : List ℕ → ℕ → List ℕ
 rest s i = take (length s - (i + 1)) (drop (i + 1) s)
 
+-- they are all that stands after that place
+rest_is : (s : List ℕ) (i : ℕ) → rest s i ≡ drop (i + 1) s
+rest_is s i = rw (← length-drop (i + 1) s) (take-length (drop (i + 1) s))
+
 -- before the first step all levels are left
 pub left_begin : (p r : List ℕ) → without 42 r ≡ true → Later p r 0 p r
 left_begin p r h = record { decides = refl; counts = sym (zero-add (levels_named p r)); starless = h }
@@ -76,5 +82,46 @@ module _ (p r a b : List ℕ) (c : ℕ) (left : without 42 r ≡ true → Later 
         starless = later.starless;
       }
 
+-- ---- the steps, for any two texts
+
+-- what the steps from the beginning answer is what those from a and b do, with k levels counted before
+pub record Walked (p r a b : List ℕ) (k : ℕ) : Type 0 where
+  pub steps : ℕ
+  pub enough : length a < steps
+  pub same : levels_by_steps p r ≡ by_steps steps a b k
+
+-- before the first step it is so
+pub walk_begin : (p r : List ℕ) → Walked p r p r 0
+walk_begin p r = record { steps = suc (length p); enough = omega arith; same = refl }
+
+module _ (p r a b : List ℕ) (k : ℕ) (w : Walked p r a b k) where
+  -- a step is left
+  one_left : w.steps ≡ suc (w.steps - 1)
+  one_left = omega (arith, w.enough)
+
+  -- the first levels that are left do not match
+  pub walk_differ : None ≡ match_step a b → None ≡ levels_by_steps p r
+  unfolding by_steps
+  walk_differ e = sym (w.same ∙ rw (one_left, by_steps, ← e))
+
+  -- they match and are the last
+  pub walk_finish : (n : ℕ) → Some (Finish n) ≡ match_step a b → Some (k + n) ≡ levels_by_steps p r
+  unfolding by_steps
+  walk_finish n e = sym (w.same ∙ rw (one_left, by_steps, ← e))
+
+  -- they match, and the steps go on after them
+  step_next : (m i j n : ℕ) → Some (Next i j n) ≡ match_step a b → by_steps (suc m) a b k ≡ by_steps m (rest a i) (rest b j) (k + n)
+  unfolding by_steps
+  step_next m i j n e = rw (by_steps, ← e, rest_is a i, rest_is b j) refl
+
+  pub walk_next : (i j n : ℕ) → Some (Next i j n) ≡ match_step a b → Walked p r (rest a i) (rest b j) (k + n)
+  walk_next i j n e =
+      let shorter : length (rest a i) ≤ length a - (i + 1) = simp length-take (omega arith) in
+      record {
+        steps = w.steps - 1;
+        enough = omega (arith, w.enough, (next_inside a b i j n e).0, shorter);
+        same = w.same ∙ ap (λ (m : ℕ). by_steps m a b k) one_left ∙ step_next (w.steps - 1) i j n e;
+      }
+
 -- the laws of the loop
-pub ruleset levels_laws = (finish_inside, next_inside, left_begin, left_differ, left_finish, left_next)
+pub ruleset levels_laws = (finish_inside, next_inside, left_begin, left_differ, left_finish, left_next, walk_begin, walk_differ, walk_finish, walk_next)

@@ -3,7 +3,7 @@ ghost use Rattle.std.specs.Prelude.{◌≡◌, true, cond, Ok, Err, None};
 ghost use Rattle.octets.specs.Scan.{without};
 ghost use Rattle.resource_spec.specs.Level.{is_deep};
 ghost use Rattle.resource_spec.specs.Text.{resource_ok, matching};
-ghost use Rattle.resource.specs.Code.{level_length, name_step, star_first, star_step, step_of, match_step, answer_of};
+ghost use Rattle.resource.specs.Code.{level_length, name_step, star_first, star_step, step_of, match_step, levels_by_steps, answer_of};
 
 use crate::LevelStep;
 use crate::levels::{below, is_pattern, is_resource};
@@ -94,11 +94,12 @@ pub fn match_step(p: &[u8], r: &[u8]) -> Option<LevelStep>
     }
 }
 
-// How many levels are matched by equal names, where the levels p of a pattern match the levels r of a path, which has no "*". Each step says how many bytes it
-// passed in both, so that no iterator gives the levels.
+// How many levels are counted, where the levels p of a pattern match the levels r, step by step; where r has no "*", as no path has, that is
+// how many are matched by equal names. Each step says how many bytes it passed in both, so that no iterator gives the levels.
 #[tactic(auto, using(crate::proofs::LevelsCode::levels_laws))]
 pub fn match_levels(p: &[u8], r: &[u8]) -> Option<u64>
-    ensures { without 42 r.now ≡ true → result ≡ answer_of p.now r.now }
+    ensures steps { result ≡ levels_by_steps p.now r.now }
+    ensures named { without 42 r.now ≡ true → result ≡ answer_of p.now r.now }
 {
     let mut rest_p = p;
     let mut rest_r = r;

@@ -31,4 +31,4 @@ slice_bounds-match_levels-start-2 c = omega (arith, (matched _ _ c.if-not-is_pat
 pub returns : goal.returns
 returns c =
     let m = matched _ _ c.if-not-is_pattern.ensures c.if-not-same_start.ensures c.if-not-below.ensures in
-    ap Ok (c.match_levels.ensures m.starless) ∙ m.answer
+    ap Ok (c.match_levels.ensures.named m.starless) ∙ m.answer

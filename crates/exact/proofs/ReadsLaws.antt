@@ -6,8 +6,8 @@ use mathlib.Core.List.{List, ◌++◌}
 use Prim.Native.Nat.{ℕ, ◌+◌, ◌≤◌, ◌<◌}
 use native.Mathlib.Omega.{arith}
 use lib.ListN.{length, length-append}
-use lib.Dec.{T, leb, le→leb}
-use mir.Facts.{no_leb}
+use lib.Dec.{T, leb, eqb, le→leb}
+use mir.Facts.{no_leb, yes_eqb, no_eqb}
 use Rattle.octets.specs.Bytes.{Has, has_at}
 use Rattle.exact.specs.Reads.{Got, got, refused, One, Reads, found, lacks, bind, guard}
 use Rattle.octets.proofs.TruthLaws.{T_true, T_false}
@@ -59,6 +59,12 @@ passed_leb m n h e = e ∙ sym (guard_leb m n _ h)
 
 pub failed_leb : {R : Type 0} (m n : ℕ) (o : Got R) → n < m → refused ≡ guard (leb m n) o
 failed_leb m n o h = sym (guard_nleb m n o h)
+
+pub passed_eqb : {R : Type 0} {q o : Got R} {m n : ℕ} → m ≡ n → q ≡ o → q ≡ guard (eqb m n) o
+passed_eqb {m} {n} h e = passed (eqb m n) (yes_eqb h) e
+
+pub failed_eqb : {R : Type 0} {m n : ℕ} (o : Got R) → (m ≡ n → ⊥) → refused ≡ guard (eqb m n) o
+failed_eqb {m} {n} o h = failed (eqb m n) o (no_eqb h)
 
 pub bind_got : {R Q : Type 0} (o : Got R) (k : R → ℕ → Got Q) (r : R) (n : ℕ) → got r n ≡ o → bind o k ≡ k r n
 unfolding bind

@@ -34,6 +34,14 @@ module _ (mask pairs mode : ℕ) where
 abbrev pub lent_levels : List ℕ → ℕ → ℕ → List ℕ
 lent_levels s start len = take ((start + len) - (start + levels_place)) (drop (start + levels_place) s)
 
+-- the grant i with its mask, where its levels p match those of r
+abbrev pub found_of : List ℕ → List ℕ → ℕ → ℕ → Matched
+found_of p r i mask = cond (levels_match p r) (picked_at i mask (levels_named p r)) None
+
+-- levels that do not match
+pub found_none : (p r : List ℕ) (i mask : ℕ) → levels_match p r ≡ false → None ≡ found_of p r i mask
+found_none p r i mask e = sym (rw e)
+
 -- a grant that is eligible is picked where its levels match, by the names among them
 abbrev pub picked_by : ℕ → ℕ → Option ℕ → Matched
 picked_by i mask (Some names) = picked_at i mask names

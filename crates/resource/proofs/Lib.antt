@@ -4,4 +4,5 @@ pub mod TextCode
 pub mod FirstLevelLaws
 pub mod NameFirstCode
 pub mod LevelsCode
+pub mod CopyLaws
 pub mod Laws

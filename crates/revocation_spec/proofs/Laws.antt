@@ -47,7 +47,7 @@ revoked_any [] id clock = refl
 revoked_any (r ∷ rs) id clock = ap (λ t. revokes r id clock || t) (revoked_any rs id clock)
 
 -- a row depends on its 24 bytes alone
-chunk_row : (s : List ℕ) (at : ℕ) → revocation_at (part s at revocation_size) 0 ≡ revocation_at s at
+pub chunk_row : (s : List ℕ) (at : ℕ) → revocation_at (part s at revocation_size) 0 ≡ revocation_at s at
 unfolding revocation_at
 chunk_row s at = ap₂ (λ (i : List ℕ) (m : ℕ). record { id = i; moment = m })
     (part_part s at revocation_size 0 id_size (omega arith) ∙ ap (λ (k : ℕ). part s k id_size) (add-zero at))

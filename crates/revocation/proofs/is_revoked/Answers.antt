@@ -1,17 +1,20 @@
 -- `is_revoked` meets its contract.
-use Rattle.std.proofs.Common.{◌/◌, length, sym, ◌∙◌, rules}
-use borrow.Author.Tests.{tests}
-use Rattle.std.specs.Simd.{first_chunks}
-use Rattle.std.proofs.lemmas.Iterator.{YieldsList-from_slice}
-use Rattle.std.proofs.lemmas.Iterator.Search.{any_from_yields_List}
-use Rattle.revocation_spec.specs.Revocation.{revocation_size, revokes, revocation_at}
-use Rattle.revocation_spec.proofs.Laws.{bytes_revoked_any}
+use mathlib.Core.Path.{refl, sym, ◌∙◌}
+use native.Mathlib.Omega.{arith}
+use Rattle.revocation.proofs.RevocationCode.{row_hit, row_next, row_none}
 use Rattle.revocation.proofs.is_revoked.Goals as goal
 
+pub loop-i-init : goal.loop-i-init
+loop-i-init c = refl
+
+pub returns-then-row_revokes : goal.returns-then-row_revokes
+returns-then-row_revokes c =
+    let l = c.loop-i in
+    sym (l.invariant ∙ row_hit _ _ _ l.i (omega arith) c.row_revokes.ensures c.if-row_revokes.true)
+
+pub loop-i-preserved : goal.loop-i-preserved
+loop-i-preserved c =
+    let l = c.loop-i in l.invariant ∙ row_next _ _ _ l.i (omega arith) c.row_revokes.ensures c.if-row_revokes.false
+
 pub returns : goal.returns
-returns c =
-    any_from_yields_List (λ row. revokes (revocation_at row 0) c.args.id.now c.args.clock.0) _ _ _ c.any.ensures.ran
-    (YieldsList-from_slice (first_chunks revocation_size (length c.args.list.now / revocation_size) c.args.list.now)
-    (c.iter.ensures.rest ∙ c.as_chunks.ensures.front))
-    (λ x b q k. search (rules, tests))
-    ∙ sym (bytes_revoked_any c.args.list.now c.args.id.now c.args.clock.0)
+returns c = let l = c.loop-i in sym (l.invariant ∙ row_none _ _ _ l.i (omega arith))
